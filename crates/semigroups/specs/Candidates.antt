@@ -1,0 +1,12 @@
+-- Candidates: which target elements a source element may go to, for each kind of map (arXiv 1603.06204, definitions 3.3 and 4.1).
+-- Assumes nothing.
+use mathlib.Core.Bool.{Bool, true, false}
+use Prim.Native.Nat.{ℕ}
+use Rattle.semigroups.specs.Tables.{Product}
+use Rattle.semigroups.specs.Invariants.{indexPeriod, sameIndexPeriod, profile, sameProfile}
+use Rattle.semigroups.specs.Maps.{Kind, embeddings, isomorphisms}
+
+-- Equal index-period for embeddings, equal profile for isomorphisms.
+unfoldable pub candidate : Kind → ℕ → Product → ℕ → Product → ℕ → ℕ → Bool
+candidate embeddings m s n t i j = sameIndexPeriod (indexPeriod m s i) (indexPeriod n t j)
+candidate isomorphisms m s n t i j = sameProfile (profile m s i) (profile n t j)

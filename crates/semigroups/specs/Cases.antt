@@ -1,0 +1,84 @@
+-- The worked table of 01: thirteen cases, each a question and its answer. The questions are answered by the definitions that contracts cite.
+-- Assumes nothing.
+use mathlib.Core.List.{List, [], _∷_, map}
+use mathlib.Core.Option.{Option, none, some}
+use Prim.Native.Nat.{ℕ}
+use lib.ListN.{replicate}
+use Rattle.semigroups.specs.Tables.{product}
+use Rattle.semigroups.specs.Questions.{Refusal, no, tableRefusal}
+use Rattle.semigroups.specs.Invariants.{IndexPeriod, Profile, indexPeriod, profile}
+use Rattle.semigroups.specs.Maps.{Kind, embeddings, isomorphisms, maps, Ask, first, next, earliest}
+use Rattle.semigroups.specs.Transformations.{transformationOrder, transformationCells}
+
+-- ---- the tables
+
+pub record Table : Type 0 where
+  pub order : ℕ
+  pub cells : List ℕ
+
+abbrev pub one : Table
+one = record { order = 1; cells = 1 ∷ [] }
+
+abbrev pub swap : Table
+swap = record { order = 2; cells = 1 ∷ 2 ∷ 2 ∷ 1 ∷ [] }
+
+abbrev pub left : Table
+left = record { order = 2; cells = 1 ∷ 1 ∷ 2 ∷ 2 ∷ [] }
+
+abbrev pub right : Table
+right = record { order = 2; cells = 1 ∷ 2 ∷ 1 ∷ 2 ∷ [] }
+
+abbrev pub null3 : Table
+null3 = record { order = 3; cells = replicate 9 1 }
+
+-- The degree 2 table.
+unfoldable pub two : Table
+two = record { order = transformationOrder 2; cells = transformationCells 2 }
+
+-- 1603.06204, example 5.2.
+abbrev pub mat5 : Table
+mat5 = record { order = 5; cells = 1 ∷ 1 ∷ 1 ∷ 1 ∷ 1 ∷ 1 ∷ 2 ∷ 3 ∷ 2 ∷ 3 ∷ 1 ∷ 1 ∷ 1 ∷ 2 ∷ 3 ∷ 1 ∷ 4 ∷ 5 ∷ 4 ∷ 5 ∷ 1 ∷ 1 ∷ 1 ∷ 4 ∷ 5 ∷ [] }
+
+-- ---- the questions
+
+pub data Question : Type 0 where
+  isAccepted : Table → Question
+  indexPeriodOf : Table → ℕ → Question
+  profileOf : Table → ℕ → Question
+  -- the maps of a kind from one table to another, asked for in turn
+  mapsOf : Kind → Table → Table → List Ask → Question
+
+pub data Answer : Type 0 where
+  refusal : Option Refusal → Answer
+  anIndexPeriod : IndexPeriod → Answer
+  aProfile : Profile → Answer
+  found : List (Option (List ℕ)) → Answer
+
+unfoldable pub answer : Question → Answer
+answer (isAccepted t) = refusal (tableRefusal (t .order) (t .cells))
+answer (indexPeriodOf t a) = anIndexPeriod (indexPeriod (t .order) (product (t .order) (t .cells)) a)
+answer (profileOf t a) = aProfile (profile (t .order) (product (t .order) (t .cells)) a)
+answer (mapsOf kind s t asks) =
+    let l = maps kind (s .order) (product (s .order) (s .cells)) (t .order) (product (t .order) (t .cells)) in
+    found (map (λ ask. earliest ask l) asks)
+
+pub record Case : Type 0 where
+  pub asks : Question
+  pub says : Answer
+
+unfoldable pub cases : List Case
+cases =
+    record { asks = isAccepted (record { order = 2; cells = 2 ∷ 1 ∷ 1 ∷ 1 ∷ [] }); says = refusal (some (no 4 (1 ∷ 1 ∷ 2 ∷ []))) }
+    ∷ record { asks = isAccepted (record { order = 2; cells = 1 ∷ 3 ∷ 1 ∷ 1 ∷ [] }); says = refusal (some (no 3 (2 ∷ []))) }
+    ∷ record { asks = isAccepted (record { order = 0; cells = [] }); says = refusal (some (no 1 [])) }
+    ∷ record { asks = indexPeriodOf mat5 3; says = anIndexPeriod (record { index = 2; period = 1 }) }
+    ∷ record { asks = profileOf mat5 4; says = aProfile (record { index = 1; period = 1; frequency = 3; diagonal = 1; row = 2; column = 2 }) }
+    ∷ record { asks = mapsOf embeddings swap two (first ∷ next (2 ∷ 3 ∷ []) ∷ []); says = found (some (2 ∷ 3 ∷ []) ∷ none ∷ []) }
+    ∷ record { asks = mapsOf embeddings right two (first ∷ next (1 ∷ 4 ∷ []) ∷ next (4 ∷ 1 ∷ []) ∷ []); says = found (some (1 ∷ 4 ∷ []) ∷ some (4 ∷ 1 ∷ []) ∷ none ∷ []) }
+    ∷ record { asks = mapsOf embeddings left two (first ∷ []); says = found (none ∷ []) }
+    ∷ record { asks = mapsOf embeddings one two (first ∷ next (1 ∷ []) ∷ next (2 ∷ []) ∷ next (4 ∷ []) ∷ []); says = found (some (1 ∷ []) ∷ some (2 ∷ []) ∷ some (4 ∷ []) ∷ none ∷ []) }
+    ∷ record { asks = mapsOf isomorphisms two two (first ∷ next (1 ∷ 2 ∷ 3 ∷ 4 ∷ []) ∷ next (4 ∷ 2 ∷ 3 ∷ 1 ∷ []) ∷ []); says = found (some (1 ∷ 2 ∷ 3 ∷ 4 ∷ []) ∷ some (4 ∷ 2 ∷ 3 ∷ 1 ∷ []) ∷ none ∷ []) }
+    ∷ record { asks = mapsOf isomorphisms null3 null3 (first ∷ next (1 ∷ 2 ∷ 3 ∷ []) ∷ next (1 ∷ 3 ∷ 2 ∷ []) ∷ next (1 ∷ 2 ∷ 200 ∷ []) ∷ []); says = found (some (1 ∷ 2 ∷ 3 ∷ []) ∷ some (1 ∷ 3 ∷ 2 ∷ []) ∷ none ∷ some (1 ∷ 3 ∷ 2 ∷ []) ∷ []) }
+    ∷ record { asks = mapsOf isomorphisms mat5 mat5 (first ∷ next (1 ∷ 2 ∷ 3 ∷ 4 ∷ 5 ∷ []) ∷ []); says = found (some (1 ∷ 2 ∷ 3 ∷ 4 ∷ 5 ∷ []) ∷ none ∷ []) }
+    ∷ record { asks = mapsOf embeddings two swap (first ∷ []); says = found (none ∷ []) }
+    ∷ []

@@ -1,0 +1,96 @@
+-- Invariants of an element (arXiv 1603.06204, sections 3 and 4), which 01 calls its marks: powers, index and period, profile.
+-- Assumes nothing.
+use mathlib.Core.Path.{_≡_}
+use mathlib.Core.Bool.{Bool, true, false, _&&_}
+use Prim.Native.Nat.{ℕ, zero, suc, _+_, _≤_}
+use lib.Dec.{eqb, leb}
+use Rattle.semigroups.specs.Lists.{elements, sum, count, least}
+use Rattle.semigroups.specs.Tables.{Product}
+
+-- Power k of a: the first power is a, each further one is the last one times a. Power 0, which nothing asks for, is a too.
+unfoldable pub power : Product → ℕ → ℕ → ℕ
+power s a zero = a
+power s a (suc zero) = a
+power s a (suc (suc k)) = s (power s a (suc k)) a
+
+-- ---- index and period
+
+-- The first period from 1 to n at which the powers from p on repeat, or n + 1.
+unfoldable pub periodFrom : ℕ → Product → ℕ → ℕ → ℕ
+periodFrom n s a p = least n (λ r. eqb (power s a (p + r)) (power s a p))
+
+-- The index of a: the first power that comes back.
+unfoldable pub index : ℕ → Product → ℕ → ℕ
+index n s a = least n (λ p. leb (periodFrom n s a p) n)
+
+-- The period of a: after how many powers the index's power comes back.
+unfoldable pub period : ℕ → Product → ℕ → ℕ
+period n s a = periodFrom n s a (index n s a)
+
+-- Definition 3.2: p and r are the smallest values from 1 on such that power p + r equals power p.
+pub record IsIndexPeriod (s : Product) (a p r : ℕ) : Type 0 where
+  pub index-from-one : 1 ≤ p
+  pub period-from-one : 1 ≤ r
+  pub repeats : power s a (p + r) ≡ power s a p
+  pub least-index : (p′ r′ : ℕ) → 1 ≤ p′ → 1 ≤ r′ → power s a (p′ + r′) ≡ power s a p′ → p ≤ p′
+  pub least-period : (p′ r′ : ℕ) → 1 ≤ p′ → 1 ≤ r′ → power s a (p′ + r′) ≡ power s a p′ → r ≤ r′
+
+pub record IndexPeriod : Type 0 where
+  pub index : ℕ
+  pub period : ℕ
+
+unfoldable pub indexPeriod : ℕ → Product → ℕ → IndexPeriod
+indexPeriod n s a = record { index = index n s a; period = period n s a }
+
+-- Definition 3.3: two elements have the same index-period values.
+unfoldable pub sameIndexPeriod : IndexPeriod → IndexPeriod → Bool
+sameIndexPeriod a b = eqb (a .index) (b .index) && eqb (a .period) (b .period)
+
+-- ---- frequencies (section 4)
+
+-- How often a stands in the whole table.
+unfoldable pub frequency : ℕ → Product → ℕ → ℕ
+frequency n s a = sum (λ i. count (λ j. eqb (s i j) a) (elements n)) (elements n)
+
+-- How often a stands on the diagonal.
+unfoldable pub diagonalFrequency : ℕ → Product → ℕ → ℕ
+diagonalFrequency n s a = count (λ i. eqb (s i i) a) (elements n)
+
+-- How often a stands in row a.
+unfoldable pub rowFrequency : ℕ → Product → ℕ → ℕ
+rowFrequency n s a = count (λ j. eqb (s a j) a) (elements n)
+
+-- How often a stands in column a.
+unfoldable pub columnFrequency : ℕ → Product → ℕ → ℕ
+columnFrequency n s a = count (λ i. eqb (s i a) a) (elements n)
+
+-- ---- the profile
+
+pub record Profile : Type 0 where
+  pub index : ℕ
+  pub period : ℕ
+  pub frequency : ℕ
+  pub diagonal : ℕ
+  pub row : ℕ
+  pub column : ℕ
+
+unfoldable pub profile : ℕ → Product → ℕ → Profile
+profile n s a =
+    record {
+      index = index n s a;
+      period = period n s a;
+      frequency = frequency n s a;
+      diagonal = diagonalFrequency n s a;
+      row = rowFrequency n s a;
+      column = columnFrequency n s a;
+    }
+
+-- Definition 4.1: two elements have the same element profile.
+unfoldable pub sameProfile : Profile → Profile → Bool
+sameProfile a b =
+    eqb (a .index) (b .index)
+    && (eqb (a .period) (b .period)
+    && (eqb (a .frequency) (b .frequency)
+    && (eqb (a .diagonal) (b .diagonal)
+    && (eqb (a .row) (b .row)
+    && eqb (a .column) (b .column)))))

@@ -1,0 +1,12 @@
+pub mod Lists
+pub mod Tables
+pub mod Scratch
+pub mod Questions
+pub mod Invariants
+pub mod Maps
+pub mod MapCheck
+pub mod Candidates
+pub mod Search
+pub mod Walks
+pub mod Transformations
+pub mod Cases

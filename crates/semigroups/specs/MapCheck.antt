@@ -1,0 +1,43 @@
+-- The map check (01, "Maps"): "holds", or the earliest fault of m bytes as an embedding.
+-- Assumes nothing.
+use mathlib.Core.Bool.{Bool, true, false, _&&_, not}
+use mathlib.Core.List.{List, [], _∷_}
+use mathlib.Core.Option.{Option, none, some}
+use Prim.Native.Nat.{ℕ}
+use lib.Dec.{eqb, ltb}
+use Rattle.semigroups.specs.Lists.{elements, at, find, lists}
+use Rattle.semigroups.specs.Tables.{Product, isElement}
+
+-- What a map check says of m bytes.
+pub data Checked : Type 0 where
+  holds : Checked
+  -- the element whose image is not 1 to n
+  outside : ℕ → Checked
+  -- the pair i, j, as a list, with i < j and equal images
+  equalImages : List ℕ → Checked
+  -- the pair i, j, as a list, whose product fails
+  wrongProduct : List ℕ → Checked
+
+-- A fault, if there is one, else what is said next.
+abbrev pub unless : {A : Type 0} → (A → Checked) → Option A → Checked → Checked
+unless fault none rest = rest
+unless fault (some x) rest = fault x
+
+module _ (m : ℕ) (s : Product) (n : ℕ) (t : Product) (f : List ℕ) where
+  -- The first entry outside 1 to n: its element.
+  unfoldable pub firstOutside : Option ℕ
+  firstOutside = find (λ i. not (isElement n (at f i))) (elements m)
+
+  -- The earliest pair i < j with equal images. Pairs run by i, then j.
+  unfoldable pub firstEqual : Option (List ℕ)
+  firstEqual = find (λ l. ltb (at l 1) (at l 2) && eqb (at f (at l 1)) (at f (at l 2))) (lists 2 m)
+
+  -- The earliest pair i, j whose product fails.
+  unfoldable pub firstWrong : Option (List ℕ)
+  firstWrong = find (λ l. not (eqb (at f (s (at l 1) (at l 2))) (t (at f (at l 1)) (at f (at l 2))))) (lists 2 m)
+
+  unfoldable pub checkMap : Checked
+  checkMap =
+      let products = unless wrongProduct firstWrong holds in
+      let images = unless equalImages firstEqual products in
+      unless outside firstOutside images

@@ -1,0 +1,49 @@
+-- The backtrack search of arXiv 1603.06204, section 3, as a function: elements are placed from 1 upward, images tried in rising order, each
+-- placing tested before the next. It takes any candidates. What it finds is a theorem about it and no part of what first and next mean.
+-- The paper prints φ(i)φ(k) for the undefined product that it means, φ(i)φ(j).
+-- Assumes nothing.
+use mathlib.Core.Bool.{Bool, true, false, _&&_, not, cond}
+use mathlib.Core.List.{List, [], _∷_, _++_}
+use mathlib.Core.Option.{Option, none, some, orElse}
+use Prim.Native.Nat.{ℕ, zero, suc}
+use lib.Dec.{eqb, leb}
+use lib.ListN.{length}
+use Rattle.semigroups.specs.Lists.{range, elements, at, all, member, earlier}
+use Rattle.semigroups.specs.Tables.{Product}
+use Rattle.semigroups.specs.Maps.{Ask, first, next, beyond}
+
+-- Whether no list that begins with p is ruled out for being too early.
+abbrev pub notBefore : Ask → List ℕ → Bool
+notBefore first p = true
+notBefore (next b) p = not (earlier p b)
+
+-- The first answer of g among these entries.
+unfoldable pub firstOf : (ℕ → Option (List ℕ)) → List ℕ → Option (List ℕ)
+firstOf g [] = none
+firstOf g (x ∷ l) = let r = firstOf g l in orElse (g x) r
+
+module _ (s t : Product) where
+  -- The pair i, j of a list placed so far: a product inside the list agrees; one outside it has its target product among no image used.
+  unfoldable pub fits : List ℕ → ℕ → ℕ → Bool
+  fits p i j =
+      let inside = eqb (at p (s i j)) (t (at p i) (at p j)) in
+      let outside = not (member (t (at p i) (at p j)) p) in
+      cond (leb (s i j) (length p)) inside outside
+
+  -- A list placed so far passes: every pair of it is looked at again at each placing.
+  unfoldable pub passes : List ℕ → Bool
+  passes p = all (λ i. all (λ j. fits p i j) (elements (length p))) (elements (length p))
+
+  module _ (candidate : ℕ → ℕ → Bool) (ask : Ask) where
+    -- x may be the image of the next element: it is a candidate, unused so far, and the list with it passes and is not too early.
+    unfoldable pub admits : List ℕ → ℕ → Bool
+    admits p x =
+        let late = notBefore ask (p ++ x ∷ []) in
+        let passing = passes (p ++ x ∷ []) && late in
+        let unused = not (member x p) && passing in
+        candidate (suc (length p)) x && unused
+
+    -- The earliest map asked for that begins with p, where d elements are left to place and images are 1 to n.
+    unfoldable pub search : ℕ → ℕ → List ℕ → Option (List ℕ)
+    search n zero p = cond (beyond ask p) (some p) none
+    search n (suc d) p = firstOf (λ x. let r = search n d (p ++ x ∷ []) in cond (admits p x) r none) (elements n)

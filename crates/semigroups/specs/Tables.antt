@@ -1,0 +1,61 @@
+-- Cayley tables, called multiplication tables in arXiv 1603.06204, section 2. A table is its order n and its cells row after row.
+-- What is said of a semigroup is said of an order and a product of elements, so that a reversed product or a part of a table is one more instance.
+-- Assumes nothing.
+use mathlib.Core.Path.{_≡_}
+use mathlib.Core.Bool.{Bool, true, false, _&&_, not}
+use mathlib.Core.List.{List, [], _∷_, map, flatMap}
+use mathlib.Core.Option.{Option, none, some}
+use Prim.Native.Nat.{ℕ, zero, suc, _+_, _-_, _*_, _≤_, _<_}
+use lib.Dec.{eqb, leb}
+use lib.ListN.{length, getD}
+use Rattle.semigroups.specs.Lists.{range, elements, at, find, lists}
+
+-- A product of elements; i times j is `s i j`. Outside its order a product may be anything: no statement asks.
+abbrev pub Product : Type 0
+Product = ℕ → ℕ → ℕ
+
+-- The product i·j of the table of order n with these cells (1603.06204, section 2: S with entry k in row i, column j when ij = k).
+unfoldable pub product : ℕ → List ℕ → Product
+product n cells i j = getD cells ((i - 1) * n + (j - 1)) 0
+
+-- m rows of n cells, row after row: the cell of row i and column j is f i j.
+unfoldable pub grid : ℕ → ℕ → (ℕ → ℕ → ℕ) → List ℕ
+grid m n f = flatMap (λ i. map (f i) (elements n)) (elements m)
+
+-- ---- plain statements
+
+-- i is an element of a table of order n: elements count from 1.
+abbrev pub Element : ℕ → ℕ → Type 0
+Element n i = (1 ≤ i) × (i ≤ n)
+
+-- Products of elements are elements.
+abbrev pub Closed : ℕ → Product → Type 0
+Closed n s = (i j : ℕ) → Element n i → Element n j → Element n (s i j)
+
+-- (i·j)·k = i·(j·k) for every i, j, k.
+abbrev pub Associative : ℕ → Product → Type 0
+Associative n s = (i j k : ℕ) → Element n i → Element n j → Element n k → s (s i j) k ≡ s i (s j k)
+
+-- A table is accepted (01, "Tables and elements").
+pub record Accepted (n : ℕ) (cells : List ℕ) : Type 0 where
+  pub from-one : 1 ≤ n
+  pub to-limit : n ≤ 120
+  pub size : length cells ≡ n * n
+  pub in-range : (k : ℕ) → k < length cells → Element n (getD cells k 0)
+  pub associative : Associative n (product n cells)
+
+-- ---- tests that compute
+
+unfoldable pub isElement : ℕ → ℕ → Bool
+isElement n x = leb 1 x && leb x n
+
+unfoldable pub associates : Product → ℕ → ℕ → ℕ → Bool
+associates s i j k = eqb (s (s i j) k) (s i (s j k))
+
+-- The first cell that is not 1 to n, counted from 1.
+unfoldable pub badCell : ℕ → List ℕ → Option ℕ
+badCell n cells = find (λ k. not (isElement n (at cells k))) (range 1 (length cells))
+
+-- The first triple i, j, k that does not associate, by i, then j, then k.
+unfoldable pub badTriple : ℕ → Product → Option (List ℕ)
+badTriple n s = find (λ l. not (associates s (at l 1) (at l 2) (at l 3))) (lists 3 n)

@@ -1,0 +1,43 @@
+-- The table of all transformations of d points (01, "Tables of all transformations"; arXiv 1603.06204, section 2: a transformation is the list
+-- of its images). Mappings are written on the right and compose from left to right, as in source document 004, section 2.
+-- Assumes nothing.
+use mathlib.Core.List.{List, [], _∷_}
+use mathlib.Core.Option.{Option}
+use Prim.Native.Nat.{ℕ, _+_, _-_, _*_, _^_}
+use lib.Dec.{leb}
+use lib.ListN.{getD}
+use Rattle.semigroups.specs.Lists.{count, earlier, lists}
+use Rattle.semigroups.specs.Tables.{Product, grid, isElement}
+use Rattle.semigroups.specs.Questions.{Refusal, no, ask, firstNo}
+use Rattle.semigroups.specs.Maps.{after}
+
+-- All transformations of d points: all image lists, in list order.
+unfoldable pub transformations : ℕ → List (List ℕ)
+transformations d = lists d d
+
+-- How many there are.
+unfoldable pub transformationOrder : ℕ → ℕ
+transformationOrder d = d ^ d
+
+-- Transformation number i, counted from 1.
+unfoldable pub transformation : ℕ → ℕ → List ℕ
+transformation d i = getD (transformations d) (i - 1) []
+
+-- The number of a transformation: one more than how many are earlier.
+unfoldable pub numberOf : ℕ → List ℕ → ℕ
+numberOf d f = count (λ g. earlier g f) (transformations d) + 1
+
+-- The product of transformations: s first, then t, so t is done after s.
+unfoldable pub transformationProduct : ℕ → Product
+transformationProduct d s t = numberOf d (after (transformation d t) (transformation d s))
+
+-- The cells of the table of all transformations of d points.
+unfoldable pub transformationCells : ℕ → List ℕ
+transformationCells d = grid (transformationOrder d) (transformationOrder d) (transformationProduct d)
+
+-- Questions about such a table: 8, is the degree 1 to 3? 9, has the buffer at least its cells?
+unfoldable pub transformationRefusal : ℕ → ℕ → Option Refusal
+transformationRefusal d size =
+    let degree = ask (isElement 3 d) (no 8 []) in
+    let cells = ask (leb (transformationOrder d * transformationOrder d) size) (no 9 []) in
+    firstNo (degree ∷ cells ∷ [])
