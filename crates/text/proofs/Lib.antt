@@ -1,0 +1,6 @@
+pub mod Every
+pub mod Records
+pub mod Find
+pub mod Bytes
+pub mod Rows
+pub mod Decimals

@@ -1,0 +1,5 @@
+pub mod Decimals
+pub mod Records
+pub mod Tables
+pub mod Questions
+pub mod Calls

@@ -1,0 +1,1 @@
+// Tables as RFC 4180 text.
