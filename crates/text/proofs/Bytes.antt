@@ -3,16 +3,17 @@
 use mathlib.Core.Path.{_≡_, refl, ap, sym, _∙_}
 use mathlib.Core.Bool.{Bool, true, false, _&&_, _||_, not, cond, and-false, or-true, or-false}
 use mathlib.Core.List.{List, [], _∷_, _++_}
-use mathlib.Core.Option.{Option, none, some}
+use mathlib.Core.Option.{Option, none, some, Option·map}
 use Prim.Native.Nat.{ℕ, zero, suc, _+_, _-_, _≤_, _<_}
 use native.Mathlib.Omega.{arith}
 use lib.Dec.{eqb}
 use lib.ListN.{length, getD}
 use borrow.Author.Tests.{eqb-true, ne-eqb, not-false}
 use Rattle.semigroups.specs.Lists.{range, find}
+use Rattle.semigroups.specs.Questions.{no, ask}
 use Rattle.text.specs.Decimals.{isDigit}
 use Rattle.text.specs.Records.{isBreak}
-use Rattle.text.specs.Questions.{breakAt, inBreak, isAllowed, firstOther}
+use Rattle.text.specs.Questions.{breakAt, inBreak, isAllowed, firstOther, bytesRefusal, endRefusal}
 use Rattle.text.proofs.Find.{find-none, none-found}
 use Rattle.text.proofs.Records.{ends, break-bytes}
 
@@ -129,3 +130,26 @@ other-clean t h = allowed-clean t (λ p l. not-false _ (none-found (λ q. not (i
 pub clean-other : (t : List ℕ) → clean t ≡ true → firstOther t ≡ none
 unfolding firstOther
 clean-other t h = find-none (λ q. not (isAllowed t q)) 0 (length t) (λ p a b. let l : p < length t = omega arith in rw (clean-allowed t h p l))
+
+pub no-other : (t : List ℕ) → bytesRefusal t ≡ none → firstOther t ≡ none
+unfolding bytesRefusal
+no-other t h = go (firstOther t) h
+  where
+    go : (o : Option ℕ) → Option·map (λ p. no 21 (p ∷ [])) o ≡ none → o ≡ none
+    go none e = refl
+    go (some p) e = let z : _≡_ {A = ℕ} 0 1 = cc in let w : ⊥ = omega arith in absurd w
+
+-- Question 22 passes: the text ends in a line break.
+pub closed : (t : List ℕ) → endRefusal t ≡ none → ends t ≡ true
+unfolding endRefusal ends
+closed [] h = refl
+closed (b ∷ t) h = ends-break b t ∙ go (breakAt (b ∷ t) (length (b ∷ t) - 2)) h
+  where
+    go : (e : Bool) → ask e (no 22 []) ≡ none → e ≡ true
+    go true g = refl
+    go false g = let z : _≡_ {A = ℕ} 0 1 = cc in let w : ⊥ = omega arith in absurd w
+
+pub closed-some : (t : List ℕ) → endRefusal t ≡ none → 0 < length t
+unfolding endRefusal breakAt isBreak
+closed-some [] h = let z : _≡_ {A = ℕ} 0 1 = cc in omega arith
+closed-some (b ∷ t) h = omega arith

@@ -4,3 +4,7 @@ pub mod Find
 pub mod Bytes
 pub mod Rows
 pub mod Decimals
+pub mod Scan
+pub mod Fields
+pub mod Reading
+pub mod Judging

@@ -3,3 +3,4 @@ pub mod Records
 pub mod Tables
 pub mod Questions
 pub mod Calls
+pub mod Answers

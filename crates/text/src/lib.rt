@@ -1,1 +1,253 @@
-// Tables as RFC 4180 text.
+// Cayley tables as RFC 4180 text: a record for each row, a decimal field for each cell, each record closed by CR LF.
+// `load` asks questions 20 to 27 and 1 of a text, `save` asks 1, 2, 3 and 28; a refusal changes no byte.
+ghost use mathlib.Core.Path.{_≡_};
+ghost use mathlib.Core.List.{[], _∷_, _++_};
+ghost use mathlib.Core.Option.{none};
+ghost use Prim.Native.Nat.{_+_, _≤_};
+ghost use lib.ListN.{length, drop};
+ghost use Rattle.semigroups.specs.Questions.{no, ask, firstNo};
+ghost use Rattle.text.specs.Decimals.{digits, value};
+ghost use Rattle.text.specs.Records.{rows};
+ghost use Rattle.text.specs.Tables.{fieldsOf, orderOf, cellsOf};
+ghost use Rattle.text.specs.Questions.{bytesRefusal, endRefusal, fieldRefusal, fieldsRefusal, isSquare};
+ghost use Rattle.text.specs.Calls.{loadAnswer, cellsAfter};
+ghost use Rattle.text.specs.Answers.{judgedRefusal, loadedAnswer};
+
+// Why a text is refused.
+pub enum TextFault {
+    Length,
+    // The place of the byte, from 0.
+    Byte(usize),
+    End,
+    FieldLength,
+    LeadingZero,
+    FieldValue,
+    Shape,
+    Order,
+    Room,
+}
+
+// What loading answers: the order, or the earliest failed question.
+pub enum Loaded {
+    Order(usize),
+    Refused(TextFault),
+}
+
+// Whether some of the questions about a text pass.
+pub enum Judged {
+    Passed,
+    Failed(TextFault),
+}
+
+// Question 21: is every byte a digit, a comma, or part of a CR LF pair?
+fn judge_bytes(text: &[u8]) -> Judged
+    ensures answer { λ r. ⌜ judgedRefusal r ≡ bytesRefusal (now (text .entry)) ⌝ }
+{
+    let mut i: usize = 0;
+    while i < text.len() {
+        let b = text[i];
+        match b {
+            48..=57 => {
+                i += 1;
+            }
+            44 => {
+                i += 1;
+            }
+            13 => {
+                if text.len() - i < 2 {
+                    return Judged::Failed(TextFault::Byte(i));
+                }
+                if text[i + 1] != 10 {
+                    return Judged::Failed(TextFault::Byte(i));
+                }
+                i += 2;
+            }
+            _ => {
+                return Judged::Failed(TextFault::Byte(i));
+            }
+        }
+    }
+    Judged::Passed
+}
+
+// Question 22: does the text end in CR LF?
+fn judge_end(text: &[u8]) -> Judged
+    ensures answer { λ r. ⌜ judgedRefusal r ≡ endRefusal (now (text .entry)) ⌝ }
+{
+    let n = text.len();
+    if n < 2 {
+        return Judged::Failed(TextFault::End);
+    }
+    if text[n - 2] != 13 {
+        return Judged::Failed(TextFault::End);
+    }
+    if text[n - 1] != 10 {
+        return Judged::Failed(TextFault::End);
+    }
+    Judged::Passed
+}
+
+// The place behind the digits that stand from `at` on.
+fn digits_end(text: &[u8], at: usize) -> usize
+    requires { ⌜ at ≤ length (now text) ⌝ }
+    ensures answer { λ r. ⌜ r ≡ at + length (digits (drop at (now (text .entry)))) ⌝ }
+{
+    let mut i = at;
+    while i < text.len() {
+        let b = text[i];
+        if b < 48 {
+            return i;
+        }
+        if 57 < b {
+            return i;
+        }
+        i += 1;
+    }
+    i
+}
+
+// The number that the digits from `at` to `end` stand for: at most three of them.
+fn read_number(text: &[u8], at: usize, end: usize) -> usize
+    requires inside { ⌜ at ≤ length (now text) ⌝ }
+    requires whole { ⌜ end ≡ at + length (digits (drop at (now text))) ⌝ }
+    requires short { ⌜ length (digits (drop at (now text))) ≤ 3 ⌝ }
+    ensures answer { λ r. ⌜ r ≡ value (digits (drop at (now (text .entry)))) ⌝ }
+{
+    let mut v: usize = 0;
+    let mut i = at;
+    while i < end {
+        v = v * 10 + (text[i] - 48) as usize;
+        i += 1;
+    }
+    v
+}
+
+// Questions 23, 24 and 25 about the field of digits from `at` to `end`.
+fn judge_field(text: &[u8], at: usize, end: usize) -> Judged
+    requires inside { ⌜ at ≤ length (now text) ⌝ }
+    requires whole { ⌜ end ≡ at + length (digits (drop at (now text))) ⌝ }
+    ensures answer { λ r. ⌜ judgedRefusal r ≡ fieldRefusal (digits (drop at (now (text .entry)))) ⌝ }
+{
+    if end - at < 1 {
+        return Judged::Failed(TextFault::FieldLength);
+    }
+    if 3 < end - at {
+        return Judged::Failed(TextFault::FieldLength);
+    }
+    if text[at] == 48 {
+        return Judged::Failed(TextFault::LeadingZero);
+    }
+    if 120 < read_number(text, at, end) {
+        return Judged::Failed(TextFault::FieldValue);
+    }
+    Judged::Passed
+}
+
+// The number of fields of the first record.
+fn columns(text: &[u8]) -> usize
+    requires bytes { ⌜ bytesRefusal (now text) ≡ none ⌝ }
+    requires end { ⌜ endRefusal (now text) ≡ none ⌝ }
+    ensures answer { λ r. ⌜ r ≡ orderOf (now (text .entry)) ⌝ }
+{
+    let mut n: usize = 1;
+    let mut end = digits_end(text, 0);
+    while text[end] == 44 {
+        n += 1;
+        end = digits_end(text, end + 1);
+    }
+    n
+}
+
+// Questions 23 to 25 about each field; then, where they pass, 26: are there n records, each with n fields?
+fn judge_fields(text: &[u8], n: usize) -> Judged
+    requires bytes { ⌜ bytesRefusal (now text) ≡ none ⌝ }
+    requires end { ⌜ endRefusal (now text) ≡ none ⌝ }
+    ensures answer { λ r. ⌜ judgedRefusal r ≡ firstNo (fieldsRefusal (fieldsOf (now (text .entry))) ∷ ask (isSquare n (rows (now (text .entry)))) (no 26 []) ∷ []) ⌝ }
+{
+    let mut at: usize = 0;
+    let mut row: usize = 0;
+    let mut column: usize = 0;
+    let mut square = true;
+    while at < text.len() {
+        let end = digits_end(text, at);
+        let field = judge_field(text, at, end);
+        if let Judged::Failed(f) = field {
+            return Judged::Failed(f);
+        }
+        column += 1;
+        if text[end] == 44 {
+            at = end + 1;
+        } else {
+            if column != n {
+                square = false;
+            }
+            column = 0;
+            row += 1;
+            at = end + 2;
+        }
+    }
+    if !square {
+        return Judged::Failed(TextFault::Shape);
+    }
+    if row != n {
+        return Judged::Failed(TextFault::Shape);
+    }
+    Judged::Passed
+}
+
+// Writes the number of each field to `cells`, in reading order.
+fn fill(text: &[u8], cells: &mut [u8])
+    requires bytes { ⌜ bytesRefusal (now text) ≡ none ⌝ }
+    requires end { ⌜ endRefusal (now text) ≡ none ⌝ }
+    requires numbers { ⌜ fieldsRefusal (fieldsOf (now text)) ≡ none ⌝ }
+    requires room { ⌜ length (cellsOf (now text)) ≤ length (now cells) ⌝ }
+    ensures cells { λ _. ⌜ now (cells .exit) ≡ cellsOf (now (text .entry)) ++ drop (length (cellsOf (now (text .entry)))) (now (cells .entry)) ⌝ }
+{
+    let mut at: usize = 0;
+    let mut k: usize = 0;
+    while at < text.len() {
+        let end = digits_end(text, at);
+        cells[k] = read_number(text, at, end) as u8;
+        k += 1;
+        if text[end] == 44 {
+            at = end + 1;
+        } else {
+            at = end + 2;
+        }
+    }
+}
+
+// Loads the table that `text` holds: answers its order and writes its cells, row by row, to the start of `cells`; or answers the earliest
+// question that fails, and writes nothing.
+pub fn load(text: &[u8], cells: &mut [u8]) -> Loaded
+    ensures answer { λ r. ⌜ loadedAnswer r ≡ loadAnswer (now (text .entry)) (now (cells .entry)) ⌝ }
+    ensures cells { λ _. ⌜ now (cells .exit) ≡ cellsAfter (now (text .entry)) (now (cells .entry)) ⌝ }
+{
+    if text.len() < 1 {
+        return Loaded::Refused(TextFault::Length);
+    }
+    if 57720 < text.len() {
+        return Loaded::Refused(TextFault::Length);
+    }
+    let bytes = judge_bytes(text);
+    if let Judged::Failed(f) = bytes {
+        return Loaded::Refused(f);
+    }
+    let end = judge_end(text);
+    if let Judged::Failed(f) = end {
+        return Loaded::Refused(f);
+    }
+    let n = columns(text);
+    let fields = judge_fields(text, n);
+    if let Judged::Failed(f) = fields {
+        return Loaded::Refused(f);
+    }
+    if 120 < n {
+        return Loaded::Refused(TextFault::Order);
+    }
+    if cells.len() < n * n {
+        return Loaded::Refused(TextFault::Room);
+    }
+    fill(text, cells);
+    Loaded::Order(n)
+}
