@@ -2,7 +2,7 @@
 -- Assumes nothing.
 use mathlib.Core.Path.{_≡_, refl, ap, sym, _∙_}
 use mathlib.Core.Bool.{Bool, true, false, _&&_, not, cond, and-false}
-use mathlib.Core.List.{List, [], _∷_, _++_}
+use mathlib.Core.List.{List, [], _∷_, map}
 use mathlib.Core.Option.{Option, none, some, orElse}
 use Prim.Native.Nat.{ℕ, zero, suc, _+_, _-_, _*_, _^_, _≤_, _<_}
 use native.Mathlib.Nat.{pow-suc, pow-le-pow-right}
@@ -11,12 +11,12 @@ use native.Mathlib.Omega.{arith}
 use lib.Dec.{eqb, leb}
 use lib.ListN.{length, getD, drop, drop-of-length-le, List·getD-eq-default}
 use lib.Seq.{drop-cons}
-use borrow.Author.Tests.{leb-true, leb-false, le-leb, lt-leb, eq-eqb, ne-eqb}
+use borrow.Author.Tests.{leb-true, leb-false, le-leb, lt-leb, eqb-false, ne-eqb}
 use Rattle.semigroups.specs.Tables.{isElement}
 use Rattle.semigroups.specs.Questions.{Refusal, no, ask, firstNo}
 use Rattle.text.specs.Decimals.{isDigit, digits, valueFrom, value}
 use Rattle.text.specs.Records.{isBreak}
-use Rattle.text.specs.Questions.{breakAt, endRefusal, fieldRefusal}
+use Rattle.text.specs.Questions.{breakAt, endRefusal, fieldRefusal, fieldsRefusal}
 
 -- ---- the digits at a place
 
@@ -117,3 +117,26 @@ module _ (f : List ℕ) where
     pub field-passes : (getD f 0 0 ≡ 48 → ⊥) → value f ≤ 120 → none ≡ fieldRefusal f
     unfolding fieldRefusal firstNo isElement orElse
     field-passes h g = simp (le-leb _ _ one, le-leb _ _ three, ne-eqb _ _ h, le-leb _ _ g)
+
+-- ---- a field that passes
+
+pub field-passed : (f : List ℕ) → fieldRefusal f ≡ none → (1 ≤ length f) × (length f ≤ 3) × (getD f 0 0 ≡ 48 → ⊥) × (value f ≤ 120)
+unfolding fieldRefusal firstNo isElement orElse
+field-passed f h = go (leb 1 (length f)) (leb (length f) 3) (eqb (getD f 0 0) 48) (leb (value f) 120) refl refl refl refl h
+  where
+    go : (a b c d : Bool) → leb 1 (length f) ≡ a → leb (length f) 3 ≡ b → eqb (getD f 0 0) 48 ≡ c → leb (value f) 120 ≡ d
+        → orElse (ask (a && b) (no 23 [])) (orElse (ask (not c) (no 24 [])) (orElse (ask d (no 25 [])) none)) ≡ none
+        → (1 ≤ length f) × (length f ≤ 3) × (getD f 0 0 ≡ 48 → ⊥) × (value f ≤ 120)
+    go true true false true ea eb ec ed g = (leb-true _ _ ea, leb-true _ _ eb, eqb-false _ _ ec, leb-true _ _ ed)
+    go true true false false ea eb ec ed g = let z : _≡_ {A = ℕ} 0 1 = cc in let w : ⊥ = omega arith in absurd w
+    go true true true d ea eb ec ed g = let z : _≡_ {A = ℕ} 0 1 = cc in let w : ⊥ = omega arith in absurd w
+    go true false c d ea eb ec ed g = let z : _≡_ {A = ℕ} 0 1 = cc in let w : ⊥ = omega arith in absurd w
+    go false b c d ea eb ec ed g = let z : _≡_ {A = ℕ} 0 1 = cc in let w : ⊥ = omega arith in absurd w
+
+pub fields-passed : (f : List ℕ) (fs : List (List ℕ)) → fieldsRefusal (f ∷ fs) ≡ none → (fieldRefusal f ≡ none) × (fieldsRefusal fs ≡ none)
+unfolding fieldsRefusal firstNo orElse
+fields-passed f fs h = go (fieldRefusal f) h
+  where
+    go : (o : Option Refusal) → orElse o (fieldsRefusal fs) ≡ none → (o ≡ none) × (fieldsRefusal fs ≡ none)
+    go none g = (refl, g)
+    go (some r) g = let z : _≡_ {A = ℕ} 0 1 = cc in let w : ⊥ = omega arith in absurd w

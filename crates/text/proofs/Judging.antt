@@ -1,20 +1,20 @@
 -- Reading a text for its order and for questions 23 to 26: what is left of each at the start of a field.
 -- Assumes nothing.
 use mathlib.Core.Path.{_≡_, refl, ap, ap₂, sym, _∙_}
-use mathlib.Core.Bool.{Bool, true, false, _&&_, and-true, and-false}
+use mathlib.Core.Bool.{Bool, true, false, _&&_, not, and-true, and-false}
 use mathlib.Core.List.{List, [], _∷_, _++_, map, flatten}
 use mathlib.Core.Option.{Option, none, some, orElse}
 use Prim.Native.Nat.{ℕ, zero, suc, _+_, _-_, _≤_, _<_}
 use native.Mathlib.Omega.{arith}
 use lib.Dec.{eqb}
 use lib.ListN.{length, getD, drop}
-use borrow.Author.Tests.{eq-eqb, ne-eqb}
+use borrow.Author.Tests.{eq-eqb, ne-eqb, not-true, not-false}
 use Rattle.semigroups.specs.Lists.{all}
 use Rattle.semigroups.specs.Questions.{Refusal, no, ask, firstNo}
 use Rattle.text.specs.Decimals.{digits}
 use Rattle.text.specs.Records.{rows}
 use Rattle.text.specs.Tables.{fieldsOf, orderOf}
-use Rattle.text.specs.Questions.{bytesRefusal, endRefusal, fieldRefusal, fieldsRefusal, isSquare}
+use Rattle.text.specs.Questions.{bytesRefusal, endRefusal, fieldRefusal, fieldsRefusal, isSquare, squareRefusal, gridRefusal}
 use Rattle.text.proofs.Bytes.{closed-some}
 use Rattle.text.proofs.Reading.{Left, Turn, comma, line-break, turn, left-none, left-some, all-left}
 
@@ -30,9 +30,9 @@ pub record Counting (t : List ℕ) (n end : ℕ) : Type 0 where
   pub order : orderOf t ≡ n + length fields
   pub few : n ≤ end + 1
 
-pub count-first : (t : List ℕ) (end : ℕ) → bytesRefusal t ≡ none → endRefusal t ≡ none → end ≡ 0 + length (digits (drop 0 t)) → Counting t 1 end
+pub count-first : {t : List ℕ} {end : ℕ} → bytesRefusal t ≡ none → endRefusal t ≡ none → end ≡ 0 + length (digits (drop 0 t)) → Counting t 1 end
 unfolding orderOf
-count-first t end b e d = go refl (turn t 0 (closed-some t e) end (rows t) d (all-left t b e))
+count-first {t} {end} b e d = go refl (turn t 0 (closed-some t e) end (rows t) d (all-left t b e))
   where
     go : {rs : List (List (List ℕ))} → rows t ≡ rs → Turn t 0 end rs → Counting t 1 end
     go q (comma {f = f} {g = g} {gs = gs} {rs = rs} d i b l) =
@@ -40,15 +40,8 @@ count-first t end b e d = go refl (turn t 0 (closed-some t e) end (rows t) d (al
     go q (line-break {f = f} {rs = rs} d i b l) =
         record { at = 0; field = f; fields = []; later = rs; here = line-break d i b l; order = rw q (omega arith); few = omega arith }
 
-pub count-inside : (t : List ℕ) (n end : ℕ) → Counting t n end → end + 1 ≤ length t
-count-inside t n end k = go (k .here)
-  where
-    go : {rs : List (List (List ℕ))} → Turn t (k .at) end rs → end + 1 ≤ length t
-    go (comma d i b l) = i
-    go (line-break d i b l) = omega arith
-
-pub count-more : (t : List ℕ) (n end next : ℕ) → Counting t n end → getD t end 0 ≡ 44 → next ≡ end + 1 + length (digits (drop (end + 1) t)) → Counting t (n + 1) next
-count-more t n end next k c d = go (k .order) (k .here)
+pub count-more : {t : List ℕ} {n end next : ℕ} → Counting t n end → getD t end 0 ≡ 44 → next ≡ end + 1 + length (digits (drop (end + 1) t)) → Counting t (n + 1) next
+count-more {t} {n} {end} {next} k c d = go (k .order) (k .here)
   where
     again : (g : List ℕ) (gs : List (List ℕ)) (rs : List (List (List ℕ))) → orderOf t ≡ n + suc (length gs) → Turn t (end + 1) next ((g ∷ gs) ∷ rs) → Counting t (n + 1) next
     again g gs rs o x = let w = k .few in record { at = end + 1; field = g; fields = gs; later = rs; here = x; order = omega arith; few = omega arith }
@@ -56,8 +49,8 @@ count-more t n end next k c d = go (k .order) (k .here)
     go o (comma {g = g} {gs = gs} {rs = rs} e i b l) = again g gs rs o (turn t (end + 1) (left-some t (end + 1) (g ∷ gs) rs l) next ((g ∷ gs) ∷ rs) d l)
     go o (line-break e i b l) = let w : ⊥ = omega arith in absurd w
 
-pub count-last : (t : List ℕ) (n end : ℕ) → Counting t n end → (getD t end 0 ≡ 44 → ⊥) → n ≡ orderOf t
-count-last t n end k c = go (k .order) (k .here)
+pub count-last : {t : List ℕ} {n end : ℕ} → Counting t n end → (getD t end 0 ≡ 44 → ⊥) → n ≡ orderOf t
+count-last {t} {n} {end} k c = go (k .order) (k .here)
   where
     go : {f : List ℕ} {fs : List (List ℕ)} {rs : List (List (List ℕ))} → orderOf t ≡ n + length fs → Turn t (k .at) end ((f ∷ fs) ∷ rs) → n ≡ orderOf t
     go o (comma e i b l) = absurd (c b)
@@ -87,14 +80,31 @@ unfolding all
 even-zero n [] = refl
 even-zero n (r ∷ rs) = let z : 0 + length r ≡ length r = omega arith in rw z
 
-pub judge-first : (t : List ℕ) (n : ℕ) → bytesRefusal t ≡ none → endRefusal t ≡ none → Judging t n 0 0 0 true
+pub judge-first : {t : List ℕ} {n : ℕ} → bytesRefusal t ≡ none → endRefusal t ≡ none → Judging t n 0 0 0 true
 unfolding fieldsOf isSquare
-judge-first t n b e =
+judge-first {t} {n} b e =
     let z : 0 + length (rows t) ≡ length (rows t) = omega arith in
     record { rest = rows t; left = all-left t b e; fields = refl; shape = rw (z, even-zero); few-rows = omega arith; few-columns = omega arith }
 
-module _ (t : List ℕ) (n at row column : ℕ) (square : Bool) (end : ℕ) (k : Judging t n at row column square) where
-  pub judge-done : length t ≤ at → (fieldsRefusal (fieldsOf t) ≡ none) × (isSquare n (rows t) ≡ (square && eqb row n))
+-- ---- the answer to 23 to 26
+
+module _ (n : ℕ) (t : List ℕ) where
+  pub says-field : {r : Refusal} → fieldsRefusal (fieldsOf t) ≡ some r → some r ≡ gridRefusal n t
+  unfolding gridRefusal firstNo orElse
+  says-field h = simp h
+
+  says-uneven : fieldsRefusal (fieldsOf t) ≡ none → isSquare n (rows t) ≡ false → some (no 26 []) ≡ gridRefusal n t
+  unfolding gridRefusal squareRefusal firstNo orElse
+  says-uneven h e = simp (h, e)
+
+  says-passed : fieldsRefusal (fieldsOf t) ≡ none → isSquare n (rows t) ≡ true → none ≡ gridRefusal n t
+  unfolding gridRefusal squareRefusal firstNo orElse
+  says-passed h e = simp (h, e)
+
+-- ---- a turn, and the end
+
+module _ {t : List ℕ} {n at row column : ℕ} {square : Bool} (k : Judging t n at row column square) where
+  judge-done : length t ≤ at → (fieldsRefusal (fieldsOf t) ≡ none) × (isSquare n (rows t) ≡ (square && eqb row n))
   unfolding flatten fieldsRefusal firstNo
   judge-done h =
       let e = left-none t at (k .rest) h (k .left) in
@@ -102,21 +112,23 @@ module _ (t : List ℕ) (n at row column : ℕ) (square : Bool) (end : ℕ) (k :
       (k .fields ∙ ap (λ (rs : List (List (List ℕ))). fieldsRefusal (flatten rs)) e,
         k .shape ∙ ap (λ (rs : List (List (List ℕ))). square && squareLeft n row column rs) e ∙ simp (z, and-true))
 
-  module _ (inside : at < length t) (d : end ≡ at + length (digits (drop at t))) where
-    here : Turn t at end (k .rest)
+  -- Some record is uneven; or there are too few or too many; or the text is a square.
+  pub end-uneven : length t ≤ at → not square ≡ true → some (no 26 []) ≡ gridRefusal n t
+  end-uneven h e = let d = judge-done h in says-uneven n t (d .0) (d .1 ∙ rw (not-true square e))
+
+  pub end-many : length t ≤ at → (row ≡ n → ⊥) → some (no 26 []) ≡ gridRefusal n t
+  end-many h e = let d = judge-done h in says-uneven n t (d .0) (d .1 ∙ simp (ne-eqb row n e, and-false))
+
+  pub end-square : length t ≤ at → not square ≡ false → row ≡ n → none ≡ gridRefusal n t
+  end-square h e f = let d = judge-done h in says-passed n t (d .0) (d .1 ∙ rw (not-false square e) (eq-eqb row n f))
+
+  module _ {end : ℕ} (inside : at < length t) (d : end ≡ at + length (digits (drop at t))) where
+    pub here : Turn t at end (k .rest)
     here = turn t at inside end (k .rest) d (k .left)
 
-    pub judge-inside : end + 1 ≤ length t
-    unfolding here
-    judge-inside = go here
-      where
-        go : {rs : List (List (List ℕ))} → Turn t at end rs → end + 1 ≤ length t
-        go (comma e i b l) = i
-        go (line-break e i b l) = omega arith
-
-    pub judge-refused : (r : Refusal) → fieldRefusal (digits (drop at t)) ≡ some r → fieldsRefusal (fieldsOf t) ≡ some r
+    pub judge-refused : {r : Refusal} → fieldRefusal (digits (drop at t)) ≡ some r → fieldsRefusal (fieldsOf t) ≡ some r
     unfolding flatten fieldsRefusal firstNo orElse
-    judge-refused r h = go (k .fields) here
+    judge-refused {r} h = go (k .fields) here
       where
         go : {rs : List (List (List ℕ))} → fieldsRefusal (fieldsOf t) ≡ fieldsRefusal (flatten rs) → Turn t at end rs → fieldsRefusal (fieldsOf t) ≡ some r
         go q (comma e i b l) = q ∙ rw (sym e) (simp h)

@@ -8,3 +8,5 @@ pub mod Scan
 pub mod Fields
 pub mod Reading
 pub mod Judging
+pub mod Buffers
+pub mod Filling

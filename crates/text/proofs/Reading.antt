@@ -102,6 +102,14 @@ module _ (t : List ℕ) (at : ℕ) (inside : at < length t) where
       let d = field-end f 44 (rowsText ((g ∷ gs) ∷ rs)) (l .laid .0 .0) refl (l .rest ∙ rowsText-comma f g gs rs) in
       rw (e ∙ ap (λ (k : List ℕ). at + length k) d) (comma-turn f g gs rs l)
 
+pub turn-inside : {t : List ℕ} {at end : ℕ} {rs : List (List (List ℕ))} → Turn t at end rs → end + 1 ≤ length t
+turn-inside (comma e i b l) = i
+turn-inside (line-break e i b l) = omega arith
+
+pub break-inside : {t : List ℕ} {at end : ℕ} {rs : List (List (List ℕ))} → Turn t at end rs → (getD t end 0 ≡ 44 → ⊥) → end + 2 ≤ length t
+break-inside (comma e i b l) c = absurd (c b)
+break-inside (line-break e i b l) c = i
+
 -- ---- the start and the end
 
 pub left-none : (t : List ℕ) (at : ℕ) (rs : List (List (List ℕ))) → length t ≤ at → Left t at rs → rs ≡ []

@@ -14,29 +14,33 @@ pub data Answer : Type 0 where
   gives : ℕ → Answer
 
 -- A refusal where there is one, else this number.
-abbrev pub unlessRefused : Option Refusal → ℕ → Answer
-unlessRefused none x = gives x
-unlessRefused (some r) x = refused r
+abbrev pub givenUnless : Option Refusal → ℕ → Answer
+givenUnless none x = gives x
+givenUnless (some r) x = refused r
 
--- A buffer after a call that is to write these bytes at its start: later bytes are untouched, and a refusal changes none.
-abbrev pub after : Option Refusal → List ℕ → List ℕ → List ℕ
-after none written before = written ++ drop (length written) before
-after (some r) written before = before
+-- A buffer with these bytes written over its start; later bytes are untouched.
+abbrev pub overwritten : List ℕ → List ℕ → List ℕ
+overwritten written before = written ++ drop (length written) before
+
+-- A buffer after a call that is to write these bytes; a refusal changes none.
+abbrev pub writtenUnless : Option Refusal → List ℕ → List ℕ → List ℕ
+writtenUnless none written before = overwritten written before
+writtenUnless (some r) written before = before
 
 -- ---- loading a text into a cell buffer
 
 -- The order is given.
 unfoldable pub loadAnswer : List ℕ → List ℕ → Answer
-loadAnswer t cells = unlessRefused (loadRefusal t (length cells)) (orderOf t)
+loadAnswer t cells = givenUnless (loadRefusal t (length cells)) (orderOf t)
 
 unfoldable pub cellsAfter : List ℕ → List ℕ → List ℕ
-cellsAfter t cells = after (loadRefusal t (length cells)) (cellsOf t) cells
+cellsAfter t cells = writtenUnless (loadRefusal t (length cells)) (cellsOf t) cells
 
 -- ---- saving the table of order n with these cells into a text buffer
 
 -- The length is given.
 unfoldable pub saveAnswer : ℕ → List ℕ → List ℕ → Answer
-saveAnswer n cells text = unlessRefused (saveRefusal n cells (length text)) (length (tableText n cells))
+saveAnswer n cells text = givenUnless (saveRefusal n cells (length text)) (length (tableText n cells))
 
 unfoldable pub textAfter : ℕ → List ℕ → List ℕ → List ℕ
-textAfter n cells text = after (saveRefusal n cells (length text)) (tableText n cells) text
+textAfter n cells text = writtenUnless (saveRefusal n cells (length text)) (tableText n cells) text

@@ -64,21 +64,28 @@ fieldsRefusal fs = firstNo (map fieldRefusal fs)
 unfoldable pub isSquare : ℕ → List (List (List ℕ)) → Bool
 isSquare n rs = eqb (length rs) n && all (λ r. eqb (length r) n) rs
 
--- 26, are there as many records as the first has fields, each with that many?
-unfoldable pub shapeRefusal : List ℕ → Option Refusal
-shapeRefusal t = ask (isSquare (orderOf t) (rows t)) (no 26 [])
+-- 26 for an order n that is given: are there n records, each with n fields?
+unfoldable pub squareRefusal : ℕ → List ℕ → Option Refusal
+squareRefusal n t = ask (isSquare n (rows t)) (no 26 [])
+
+-- 23 to 25 of each field; then 26 for an order n that is given.
+unfoldable pub gridRefusal : ℕ → List ℕ → Option Refusal
+gridRefusal n t =
+    let each-field = fieldsRefusal (fieldsOf t) in
+    let shape = squareRefusal n t in
+    firstNo (each-field ∷ shape ∷ [])
 
 -- ---- the calls
 
--- About loading a text into a buffer of so many cells: 20, is it 1 to 57,720 bytes long? Then 21 to 26; 1, is the order at most 120? 27, has
--- the buffer at least n × n bytes? That the order is at least 1 needs no question. Neither 3 nor 4 is asked.
+-- About loading a text into a buffer of so many cells: 20, is it 1 to 57,720 bytes long? Then 21 to 25; 26, are there as many records as the
+-- first has fields, each with that many? 1, is the order at most 120? 27, has the buffer at least n × n bytes? Neither 3 nor 4 is asked.
 unfoldable pub loadRefusal : List ℕ → ℕ → Option Refusal
 loadRefusal t room =
     let size = ask (isElement longest (length t)) (no 20 []) in
     let bytes = bytesRefusal t in
     let end = endRefusal t in
     let each-field = fieldsRefusal (fieldsOf t) in
-    let shape = shapeRefusal t in
+    let shape = squareRefusal (orderOf t) t in
     let order = ask (leb (orderOf t) 120) (no 1 []) in
     let cells = ask (leb (orderOf t * orderOf t) room) (no 27 []) in
     firstNo (size ∷ bytes ∷ end ∷ each-field ∷ shape ∷ order ∷ cells ∷ [])

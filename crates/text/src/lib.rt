@@ -1,16 +1,13 @@
 // Cayley tables as RFC 4180 text: a record for each row, a decimal field for each cell, each record closed by CR LF.
 // `load` asks questions 20 to 27 and 1 of a text, `save` asks 1, 2, 3 and 28; a refusal changes no byte.
 ghost use mathlib.Core.Path.{_≡_};
-ghost use mathlib.Core.List.{[], _∷_, _++_};
 ghost use mathlib.Core.Option.{none};
 ghost use Prim.Native.Nat.{_+_, _≤_};
 ghost use lib.ListN.{length, drop};
-ghost use Rattle.semigroups.specs.Questions.{no, ask, firstNo};
 ghost use Rattle.text.specs.Decimals.{digits, value};
-ghost use Rattle.text.specs.Records.{rows};
 ghost use Rattle.text.specs.Tables.{fieldsOf, orderOf, cellsOf};
-ghost use Rattle.text.specs.Questions.{bytesRefusal, endRefusal, fieldRefusal, fieldsRefusal, isSquare};
-ghost use Rattle.text.specs.Calls.{loadAnswer, cellsAfter};
+ghost use Rattle.text.specs.Questions.{bytesRefusal, endRefusal, fieldRefusal, fieldsRefusal, gridRefusal};
+ghost use Rattle.text.specs.Calls.{overwritten, loadAnswer, cellsAfter};
 ghost use Rattle.text.specs.Answers.{judgedRefusal, loadedAnswer};
 
 // Why a text is refused.
@@ -162,7 +159,7 @@ fn columns(text: &[u8]) -> usize
 fn judge_fields(text: &[u8], n: usize) -> Judged
     requires bytes { ⌜ bytesRefusal (now text) ≡ none ⌝ }
     requires end { ⌜ endRefusal (now text) ≡ none ⌝ }
-    ensures answer { λ r. ⌜ judgedRefusal r ≡ firstNo (fieldsRefusal (fieldsOf (now (text .entry))) ∷ ask (isSquare n (rows (now (text .entry)))) (no 26 []) ∷ []) ⌝ }
+    ensures answer { λ r. ⌜ judgedRefusal r ≡ gridRefusal n (now (text .entry)) ⌝ }
 {
     let mut at: usize = 0;
     let mut row: usize = 0;
@@ -201,7 +198,7 @@ fn fill(text: &[u8], cells: &mut [u8])
     requires end { ⌜ endRefusal (now text) ≡ none ⌝ }
     requires numbers { ⌜ fieldsRefusal (fieldsOf (now text)) ≡ none ⌝ }
     requires room { ⌜ length (cellsOf (now text)) ≤ length (now cells) ⌝ }
-    ensures cells { λ _. ⌜ now (cells .exit) ≡ cellsOf (now (text .entry)) ++ drop (length (cellsOf (now (text .entry)))) (now (cells .entry)) ⌝ }
+    ensures cells { λ _. ⌜ now (cells .exit) ≡ overwritten (cellsOf (now (text .entry))) (now (cells .entry)) ⌝ }
 {
     let mut at: usize = 0;
     let mut k: usize = 0;
