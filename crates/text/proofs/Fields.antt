@@ -52,6 +52,7 @@ module _ (t : List ℕ) (i : ℕ) where
       inside : i < length t → (d : Bool) → isDigit (getD t i 0) ≡ d → (i < length t) × (isDigit (getD t i 0) ≡ true)
       inside l true e = (l, e)
       inside l false e = let w : ⊥ = omega (arith, ap length (digits-none l e)) in absurd w
+
       go : (p : Bool) → leb (length t) i ≡ p → (i < length t) × (isDigit (getD t i 0) ≡ true)
       go true e = let w : ⊥ = omega (arith, ap length (digits-past (leb-true (length t) i e))) in absurd w
       go false e = inside (leb-false (length t) i e) (isDigit (getD t i 0)) refl

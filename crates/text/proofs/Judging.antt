@@ -45,6 +45,7 @@ count-more {t} {n} {end} {next} k c d = go (k .order) (k .here)
   where
     again : (g : List ℕ) (gs : List (List ℕ)) (rs : List (List (List ℕ))) → orderOf t ≡ n + suc (length gs) → Turn t (end + 1) next ((g ∷ gs) ∷ rs) → Counting t (n + 1) next
     again g gs rs o x = let w = k .few in record { at = end + 1; field = g; fields = gs; later = rs; here = x; order = omega arith; few = omega arith }
+
     go : {f : List ℕ} {fs : List (List ℕ)} {rs : List (List (List ℕ))} → orderOf t ≡ n + length fs → Turn t (k .at) end ((f ∷ fs) ∷ rs) → Counting t (n + 1) next
     go o (comma {g = g} {gs = gs} {rs = rs} e i b l) = again g gs rs o (turn t (end + 1) (left-some t (end + 1) (g ∷ gs) rs l) next ((g ∷ gs) ∷ rs) d l)
     go o (line-break e i b l) = let w : ⊥ = omega arith in absurd w
@@ -108,9 +109,10 @@ module _ {t : List ℕ} {n at row column : ℕ} {square : Bool} (k : Judging t n
   unfolding flatten fieldsRefusal firstNo
   judge-done h =
       let e = left-none t at (k .rest) h (k .left) in
-      let z : row + 0 ≡ row = omega arith in
-      (k .fields ∙ ap (λ (rs : List (List (List ℕ))). fieldsRefusal (flatten rs)) e,
-        k .shape ∙ ap (λ (rs : List (List (List ℕ))). square && squareLeft n row column rs) e ∙ simp (z, and-true))
+      let z : row + 0 ≡ row = omega arith in (
+        k .fields ∙ ap (λ (rs : List (List (List ℕ))). fieldsRefusal (flatten rs)) e,
+        k .shape ∙ ap (λ (rs : List (List (List ℕ))). square && squareLeft n row column rs) e ∙ simp (z, and-true),
+      )
 
   -- Some record is uneven; or there are too few or too many; or the text is a square.
   pub end-uneven : length t ≤ at → not square ≡ true → some (no 26 []) ≡ gridRefusal n t

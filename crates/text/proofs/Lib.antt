@@ -10,3 +10,4 @@ pub mod Reading
 pub mod Judging
 pub mod Buffers
 pub mod Filling
+pub mod Loading

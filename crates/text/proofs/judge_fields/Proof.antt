@@ -43,7 +43,6 @@ module _ (c : tie.After-enum-told Inv-loop μ-loop) where
   passes : fieldRefusal (digits (drop (at-loop .loop .at) (now (at-loop .before .before .args .text)))) ≡ none
   passes = sym (c .before .before .judge-field .ensures) ∙ ap judgedRefusal (c .enum-told .given .1)
 
-
 -- src/lib.rt:171:5
 loop-holds : tie.Need-loop-holds Inv-loop μ-loop
 loop-holds c =

@@ -24,7 +24,7 @@ abbrev μ-loop : tie.MeasureT-loop
 -- In a turn a digit stands at i, and v has at most two digits.
 turn : (c : tie.In-loop Inv-loop μ-loop)
     → let t = now (c .before .before .args .text) in
-      (c .before .loop .i < length t) × (isDigit (getD t (c .before .loop .i) 0) ≡ true) × (c .before .loop .v < 100)
+    (c .before .loop .i < length t) × (isDigit (getD t (c .before .loop .i) 0) ≡ true) × (c .before .loop .v < 100)
 turn c =
     let s = c .before .before in
     let v = c .before .loop .inv in
@@ -76,9 +76,12 @@ loop-again c =
     let t = now (l .before .args .text) in
     let h = turn (c .before) in
     let more = digits-more t (l .loop .i) (h .0) (h .1) in
-    let k : l .loop .i + 1 - l .before .args .at ≡ (l .loop .i - l .before .args .at) + 1 = omega arith in
-    (omega arith, omega (arith, ap length more), l .loop .inv .2 ∙ ap (valueFrom (l .loop .v)) more,
-      rw k (bound-more _ _ _ (l .loop .inv .3) (omega (arith, digit-range _ (h .1) .1))))
+    let k : l .loop .i + 1 - l .before .args .at ≡ (l .loop .i - l .before .args .at) + 1 = omega arith in (
+      omega arith,
+      omega (arith, ap length more),
+      l .loop .inv .2 ∙ ap (valueFrom (l .loop .v)) more,
+      rw k (bound-more _ _ _ (l .loop .inv .3) (omega (arith, digit-range _ (h .1) .1))),
+    )
 
 -- src/lib.rt:110:1
 returns : tie.Need-returns Inv-loop μ-loop

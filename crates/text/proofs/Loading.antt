@@ -1,0 +1,129 @@
+-- Loading: which question refuses, from the first that fails; and the number of cells of a text that passes.
+-- Assumes nothing.
+use mathlib.Core.Path.{_≡_, refl, ap, sym, _∙_}
+use mathlib.Core.Bool.{Bool, true, false, _&&_, and-false}
+use mathlib.Core.List.{List, [], _∷_, _++_, map, flatten}
+use mathlib.Core.Option.{Option, none, some, orElse}
+use Prim.Native.Nat.{ℕ, zero, suc, _+_, _*_, _≤_, _<_}
+use native.Mathlib.Nat.{mul-le-mul, suc-mul}
+use native.Mathlib.Omega.{arith}
+use lib.Dec.{eqb, leb}
+use lib.ListN.{length, length-append, length-map}
+use borrow.Author.Tests.{eqb-true, leb-true, le-leb, lt-leb}
+use Rattle.semigroups.specs.Lists.{all}
+use Rattle.semigroups.specs.Tables.{isElement}
+use Rattle.semigroups.specs.Questions.{Refusal, no, ask, firstNo}
+use Rattle.text.specs.Records.{rows}
+use Rattle.text.specs.Tables.{fieldsOf, orderOf, cellsOf}
+use Rattle.text.specs.Questions.{bytesRefusal, endRefusal, fieldsRefusal, isSquare, squareRefusal, gridRefusal, loadRefusal}
+use Rattle.text.specs.Calls.{refused, gives, overwritten, loadAnswer, cellsAfter}
+use Rattle.text.proofs.Bytes.{and-left, and-right}
+
+-- ---- a square
+
+even-length : (n : ℕ) (rs : List (List (List ℕ))) → all (λ r. eqb (length r) n) rs ≡ true → length (flatten rs) ≡ length rs * n
+unfolding all flatten
+even-length n [] h = omega arith
+even-length n (r ∷ rs) h =
+    let here : length r ≡ n = eqb-true (length r) n (and-left (eqb (length r) n) (all (λ k. eqb (length k) n) rs) h) in
+    let later = even-length n rs (and-right (eqb (length r) n) (all (λ k. eqb (length k) n) rs) h) in
+    simp length-append (omega (arith, suc-mul (length rs) n))
+
+pub square-length : (n : ℕ) (rs : List (List (List ℕ))) → isSquare n rs ≡ true → length (flatten rs) ≡ n * n
+unfolding isSquare
+square-length n rs h =
+    let many = eqb-true (length rs) n (and-left (eqb (length rs) n) (all (λ r. eqb (length r) n) rs) h) in
+    even-length n rs (and-right (eqb (length rs) n) (all (λ r. eqb (length r) n) rs) h) ∙ ap (λ (k : ℕ). k * n) many
+
+pub square-small : (n : ℕ) → n ≤ 120 → n * n ≤ 14400
+square-small n h = mul-le-mul h h
+
+-- ---- 23 to 26 passed
+
+pub record Square (n : ℕ) (t : List ℕ) : Type 0 where
+  pub numbers : fieldsRefusal (fieldsOf t) ≡ none
+  pub square : isSquare n (rows t) ≡ true
+
+pub grid-passed : (n : ℕ) (t : List ℕ) → gridRefusal n t ≡ none → Square n t
+unfolding gridRefusal squareRefusal firstNo orElse
+grid-passed n t h = go (fieldsRefusal (fieldsOf t)) (isSquare n (rows t)) refl refl h
+  where
+    go : (o : Option Refusal) (s : Bool) → fieldsRefusal (fieldsOf t) ≡ o → isSquare n (rows t) ≡ s → orElse o (orElse (ask s (no 26 [])) none) ≡ none → Square n t
+    go none true e f g = record { numbers = e; square = f }
+    go none false e f g = let z : _≡_ {A = ℕ} 0 1 = cc in let w : ⊥ = omega arith in absurd w
+    go (some r) s e f g = let z : _≡_ {A = ℕ} 0 1 = cc in let w : ⊥ = omega arith in absurd w
+
+pub cells-length : (n : ℕ) (t : List ℕ) → Square n t → length (cellsOf t) ≡ n * n
+unfolding cellsOf fieldsOf
+cells-length n t s = simp length-map (square-length n (rows t) (s .square))
+
+-- ---- the earliest failed question
+
+module _ (t : List ℕ) (room : ℕ) where
+  pub too-short : length t < 1 → loadRefusal t room ≡ some (no 20 [])
+  unfolding loadRefusal firstNo orElse isElement
+  too-short h = simp (lt-leb _ _ h)
+
+  pub too-long : 57720 < length t → loadRefusal t room ≡ some (no 20 [])
+  unfolding loadRefusal firstNo orElse isElement
+  too-long h = simp (lt-leb _ _ h, and-false)
+
+  module _ (one : 1 ≤ length t) (most : length t ≤ 57720) where
+    pub bad-byte : {r : Refusal} → bytesRefusal t ≡ some r → loadRefusal t room ≡ some r
+    unfolding loadRefusal firstNo orElse isElement
+    bad-byte h = simp (le-leb _ _ one, le-leb _ _ most, h)
+
+    module _ (bytes : bytesRefusal t ≡ none) where
+      pub bad-end : {r : Refusal} → endRefusal t ≡ some r → loadRefusal t room ≡ some r
+      unfolding loadRefusal firstNo orElse isElement
+      bad-end h = simp (le-leb _ _ one, le-leb _ _ most, bytes, h)
+
+      module _ (end : endRefusal t ≡ none) where
+        -- Where 20 to 22 pass, 23 to 26 and what follows them are left.
+        grid-left : (x : Option Refusal) → orElse (gridRefusal (orderOf t) t) x ≡ orElse (fieldsRefusal (fieldsOf t)) (orElse (squareRefusal (orderOf t) t) x)
+        unfolding gridRefusal firstNo orElse
+        grid-left x = go (fieldsRefusal (fieldsOf t)) (squareRefusal (orderOf t) t)
+          where
+            go : (a b : Option Refusal) → orElse (orElse a (orElse b none)) x ≡ orElse a (orElse b x)
+            go none none = refl
+            go none (some r) = refl
+            go (some r) b = refl
+
+        rest : Option Refusal
+        rest = orElse (ask (leb (orderOf t) 120) (no 1 [])) (orElse (ask (leb (orderOf t * orderOf t) room) (no 27 [])) none)
+
+        past : loadRefusal t room ≡ orElse (gridRefusal (orderOf t) t) rest
+        unfolding loadRefusal firstNo orElse isElement rest
+        past = simp (le-leb _ _ one, le-leb _ _ most, bytes, end) (sym (grid-left rest))
+
+        pub bad-grid : {n : ℕ} {r : Refusal} → n ≡ orderOf t → gridRefusal n t ≡ some r → loadRefusal t room ≡ some r
+        unfolding orElse
+        bad-grid e h = past ∙ rw (rw e at h)
+
+        module _ {n : ℕ} (e : n ≡ orderOf t) (grid : gridRefusal n t ≡ none) where
+          left : loadRefusal t room ≡ orElse (ask (leb n 120) (no 1 [])) (orElse (ask (leb (n * n) room) (no 27 [])) none)
+          unfolding orElse rest
+          left = past ∙ rw (rw e at grid) (rw e refl)
+
+          pub bad-order : 120 < n → loadRefusal t room ≡ some (no 1 [])
+          unfolding orElse
+          bad-order h = left ∙ simp (lt-leb _ _ h)
+
+          pub bad-room : n ≤ 120 → room < n * n → loadRefusal t room ≡ some (no 27 [])
+          unfolding orElse
+          bad-room h g = left ∙ simp (le-leb _ _ h, lt-leb _ _ g)
+
+          pub loads : n ≤ 120 → n * n ≤ room → loadRefusal t room ≡ none
+          unfolding orElse
+          loads h g = left ∙ simp (le-leb _ _ h, le-leb _ _ g)
+
+-- ---- the call
+
+module _ (t cells : List ℕ) where
+  pub load-refused : {r : Refusal} → loadRefusal t (length cells) ≡ some r → (refused r ≡ loadAnswer t cells) × (cells ≡ cellsAfter t cells)
+  unfolding loadAnswer cellsAfter
+  load-refused h = (rw h, rw h)
+
+  pub load-given : loadRefusal t (length cells) ≡ none → (gives (orderOf t) ≡ loadAnswer t cells) × (overwritten (cellsOf t) cells ≡ cellsAfter t cells)
+  unfolding loadAnswer cellsAfter
+  load-given h = (rw h, rw h)
