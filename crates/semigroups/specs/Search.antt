@@ -4,11 +4,11 @@
 -- Assumes nothing.
 use mathlib.Core.Bool.{Bool, true, false, _&&_, not, cond}
 use mathlib.Core.List.{List, [], _∷_, _++_}
-use mathlib.Core.Option.{Option, none, some, orElse}
+use mathlib.Core.Option.{Option, none, some}
 use Prim.Native.Nat.{ℕ, zero, suc}
 use lib.Dec.{eqb, leb}
 use lib.ListN.{length}
-use Rattle.semigroups.specs.Lists.{range, elements, at, all, member, earlier}
+use Rattle.semigroups.specs.Lists.{elements, at, all, firstOf, member, earlier}
 use Rattle.semigroups.specs.Tables.{Product}
 use Rattle.semigroups.specs.Maps.{Ask, first, next, beyond}
 
@@ -16,11 +16,6 @@ use Rattle.semigroups.specs.Maps.{Ask, first, next, beyond}
 abbrev pub notBefore : Ask → List ℕ → Bool
 notBefore first p = true
 notBefore (next b) p = not (earlier p b)
-
--- The first answer of g among these entries.
-unfoldable pub firstOf : (ℕ → Option (List ℕ)) → List ℕ → Option (List ℕ)
-firstOf g [] = none
-firstOf g (x ∷ l) = let r = firstOf g l in orElse (g x) r
 
 module _ (s t : Product) where
   -- The pair i, j of a list placed so far: a product inside the list agrees; one outside it has its target product among no image used.
