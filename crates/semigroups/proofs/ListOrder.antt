@@ -12,7 +12,7 @@ use borrow.Author.Tests.{eqb-true, eq-eqb, ne-eqb, ltb-true, lt-ltb, le-ltb}
 use lib.Dec.{eqb, ltb}
 use lib.ListN.{length, length-map}
 use Rattle.semigroups.specs.Lists.{range, elements, find, earlier, lists, Increasing, Earliest}
-use Rattle.semigroups.specs.Tables.{Element}
+use Rattle.semigroups.specs.Tables.{Element, IsList}
 use Rattle.semigroups.proofs.Booleans.{clash, untrue, trichotomy}
 use Rattle.semigroups.proofs.Lists.{mem-elements, elements-mem, length-range, find-some, find-none, find-first, sorted-map, sorted-weaken, sorted-range}
 use Rattle.semigroups.proofs.NoRepeats.{NoRepeats}
@@ -96,11 +96,6 @@ increasing-no-repeats l s =
     (λ a b h e. clash {b = earlier a a} (subst (λ (c : List ℕ). earlier a c ≡ true) (sym e) h) (earlier-irreflexive a)) l s
 
 -- ---- all lists
-
--- m entries from 1 to n.
-pub record IsList (m n : ℕ) (f : List ℕ) : Type 0 where
-  pub size : length f ≡ m
-  pub entries : (x : ℕ) → List·Memᴰ x f → Element n x
 
 -- The lists that begin with x.
 abbrev beginning : List (List ℕ) → ℕ → List (List ℕ)
