@@ -114,44 +114,38 @@ module _ (n : ℕ) (cells : List ℕ) where
             let z : ⊥ = ⊎-elim (λ (q : j ≡ k). let y : ⊥ = omega arith in y) (λ (q : k < j). let y : ⊥ = omega arith in y) (find-first _<_ p (range 1 (length cells)) (sorted-range 1 (length cells)) k e j (range-mem 1 (length cells) j lo (omega arith)) t) in z))),
       )
 
+-- ---- pairs and triples as lists
+
+list-more : (m n x : ℕ) (l : List ℕ) → Element n x → IsList m n l → IsList (suc m) n (x ∷ l)
+list-more m n x l hx h = record { size = ap suc (h .size); entries = λ y k. ⊎-elim (λ e. subst (Element n) (sym e) hx) (h .entries y) (List·Memᴰ·cases-cons k) }
+
+pub pair-list : (n i j : ℕ) → Element n i → Element n j → IsList 2 n (i ∷ j ∷ [])
+pair-list n i j hi hj = list-more 1 n i (j ∷ []) hi (list-more 0 n j [] hj (record { size = refl; entries = λ y k. absurd (List·Memᴰ·not-nil k) }))
+
+pub triple-list : (n i j k : ℕ) → Element n i → Element n j → Element n k → IsList 3 n (i ∷ j ∷ k ∷ [])
+triple-list n i j k hi hj hk = list-more 2 n i (j ∷ k ∷ []) hi (pair-list n j k hj hk)
+
+-- Entry i of a list of m elements is one.
+pub list-at : (m n : ℕ) (l : List ℕ) → IsList m n l → (i : ℕ) → Element m i → Element n (at l i)
+unfolding at
+list-at m n l h i hi = let e = h .size in h .entries (getD l (i - 1) 0) (place-mem 0 l (i - 1) (omega arith))
+
 -- ---- question 4
 
 module _ (n : ℕ) (s : Product) where
-  three : (i j k : ℕ) → Element n i → Element n j → Element n k → IsList 3 n (i ∷ j ∷ k ∷ [])
-  three i j k hi hj hk = record { size = refl; entries = λ x m. one x (List·Memᴰ·cases-cons m) }
-    where
-      none-left : (x : ℕ) → List·Memᴰ x [] → Element n x
-      none-left x m = absurd (List·Memᴰ·not-nil m)
-
-      third : (x : ℕ) → (x ≡ k) ⊎ List·Memᴰ x [] → Element n x
-      third x (inl e) = subst (Element n) (sym e) hk
-      third x (inr m) = none-left x m
-
-      second : (x : ℕ) → (x ≡ j) ⊎ List·Memᴰ x (k ∷ []) → Element n x
-      second x (inl e) = subst (Element n) (sym e) hj
-      second x (inr m) = third x (List·Memᴰ·cases-cons m)
-
-      one : (x : ℕ) → (x ≡ i) ⊎ List·Memᴰ x (j ∷ k ∷ []) → Element n x
-      one x (inl e) = subst (Element n) (sym e) hi
-      one x (inr m) = second x (List·Memᴰ·cases-cons m)
-
   pub associative-of : badTriple n s ≡ none → Associative n s
   unfolding badTriple associates at
   associative-of e i j k hi hj hk =
       eqb-true (s (s i j) k) (s i (s j k))
-      (not-false (associates s i j k) (find-nowhere (λ l. not (associates s (at l 1) (at l 2) (at l 3))) 3 n e (i ∷ j ∷ k ∷ []) (three i j k hi hj hk)))
-
-  list-at : (l : List ℕ) → IsList 3 n l → Element n (at l 1) × Element n (at l 2) × Element n (at l 3)
-  unfolding at
-  list-at l h = let e = h .size in (h .entries (getD l 0 0) (place-mem 0 l 0 (omega arith)), h .entries (getD l 1 0) (place-mem 0 l 1 (omega arith)), h .entries (getD l 2 0) (place-mem 0 l 2 (omega arith)))
+      (not-false (associates s i j k) (find-nowhere (λ l. not (associates s (at l 1) (at l 2) (at l 3))) 3 n e (i ∷ j ∷ k ∷ []) (triple-list n i j k hi hj hk)))
 
   pub no-bad-triple : Associative n s → badTriple n s ≡ none
   unfolding badTriple associates
   no-bad-triple h =
       none-find (λ l. not (associates s (at l 1) (at l 2) (at l 3))) (lists 3 n)
       (λ l m.
-      let w = list-at l (mem-lists 3 n l m) in
-      not-of-true (associates s (at l 1) (at l 2) (at l 3)) (eq-eqb (s (s (at l 1) (at l 2)) (at l 3)) (s (at l 1) (s (at l 2) (at l 3))) (h (at l 1) (at l 2) (at l 3) (w .0) (w .1) (w .2))))
+      let w = list-at 3 n l (mem-lists 3 n l m) in
+      not-of-true (associates s (at l 1) (at l 2) (at l 3)) (eq-eqb (s (s (at l 1) (at l 2)) (at l 3)) (s (at l 1) (s (at l 2) (at l 3))) (h (at l 1) (at l 2) (at l 3) (w 1 (omega arith)) (w 2 (omega arith)) (w 3 (omega arith)))))
 
   bad-triple-first : (l : List ℕ) → badTriple n s ≡ some l → Earliest (FailingTriple n s) l
   unfolding badTriple associates
