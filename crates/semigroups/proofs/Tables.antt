@@ -12,7 +12,7 @@ use borrow.Author.Tests.{eqb-true, eqb-false, eq-eqb, not-true, not-false}
 use lib.Dec.{eqb, leb}
 use lib.ListN.{length, getD, length-map}
 use Rattle.semigroups.specs.Lists.{range, elements, at, find, lists, Earliest}
-use Rattle.semigroups.specs.Tables.{Product, product, grid, Element, IsList, Closed, Associative, FailingTriple, Accepted, isElement, associates, badCell, badTriple}
+use Rattle.semigroups.specs.Tables.{Product, product, grid, Element, IsList, Closed, Associative, FailingTriple, Filled, Accepted, isElement, associates, badCell, badTriple}
 use Rattle.semigroups.specs.Questions.{Refusal, no, ask, firstNo, cellsRefusal, tableRefusal, Refused, wrong-order, wrong-size, wrong-cell, wrong-triple}
 use Rattle.semigroups.proofs.Booleans.{clash, untrue, not-of-true, not-of-false, trichotomy}
 use Rattle.semigroups.proofs.Lists.{length-elements, getD-map, mem-elements, elements-mem, mem-range, range-mem, sorted-range, at-suc, at-elements, is-element, element-is, find-some, find-none, none-find, find-first}
@@ -159,13 +159,8 @@ module _ (n : ℕ) (s : Product) where
 -- ---- the four questions
 
 module _ (n : ℕ) (cells : List ℕ) where
-  -- The three questions before associativity pass exactly so.
-  pub record Filled : Type 0 where
-    pub order : Element 120 n
-    pub size : length cells ≡ n * n
-    pub in-range : (k : ℕ) → k < length cells → Element n (getD cells k 0)
-
-  pub filled : cellsRefusal n cells ≡ none → Filled
+  -- The three questions before associativity pass exactly where the cells fill a table.
+  pub filled : cellsRefusal n cells ≡ none → Filled n cells
   unfolding cellsRefusal firstNo
   filled e =
       let order = ask (isElement 120 n) (no 1 []) in
@@ -180,7 +175,7 @@ module _ (n : ℕ) (cells : List ℕ) where
         in-range = cells-in-range n cells (map-none (λ k. no 3 (k ∷ [])) (badCell n cells) (p3 .0));
       }
 
-  pub no-cells-refusal : Filled → cellsRefusal n cells ≡ none
+  pub no-cells-refusal : Filled n cells → cellsRefusal n cells ≡ none
   unfolding cellsRefusal firstNo orElse
   no-cells-refusal f = rw (element-is 120 n (f .order), eq-eqb (length cells) (n * n) (f .size), no-bad-cell n cells (f .in-range))
 
@@ -245,7 +240,7 @@ module _ (n : ℕ) (cells : List ℕ) where
       triple : Option Refusal
       triple = Option·map (λ l. no 4 l) (badTriple n (product n cells))
 
-      by-triple : Filled → (triple ≡ some r) ⊎ ((triple ≡ none) × (none ≡ some r)) → Refused n cells r
+      by-triple : Filled n cells → (triple ≡ some r) ⊎ ((triple ≡ none) × (none ≡ some r)) → Refused n cells r
       by-triple f (inl q) =
           let w = map-some (λ l. no 4 l) (badTriple n (product n cells)) r q in
           subst (Refused n cells) (w .2) (wrong-triple (w .0) (f .order) (f .size) (f .in-range) (bad-triple-first n (product n cells) (w .0) (w .1)))

@@ -8,9 +8,9 @@ use native.Mathlib.Nat.{mul-le-mul}
 use borrow.Author.Tests.{le-leb, lt-leb, eq-eqb, ne-eqb}
 use lib.ListN.{length, getD}
 use Rattle.semigroups.specs.Lists.{elements, at}
-use Rattle.semigroups.specs.Tables.{product, Element, isElement, associates, badCell, badTriple}
+use Rattle.semigroups.specs.Tables.{product, Element, isElement, associates, badCell, badTriple, Filled}
 use Rattle.semigroups.specs.Questions.{Refusal, no, firstNo, cellsRefusal, tableRefusal}
-use Rattle.semigroups.proofs.Tables.{Filled, place-below, product-element}
+use Rattle.semigroups.proofs.Tables.{place-below, product-element}
 use Rattle.semigroups.proofs.Completions.{find-firstOf, firstFrom, first-start, first-skip, first-hit, first-end}
 use Rattle.semigroups.proofs.Booleans.{not-of-true, not-of-false}
 use Rattle.tables.proofs.Remaining.{orElse-nothing, remaining, begin, enter, pass, hit, leave}

@@ -2,9 +2,8 @@
 ghost use mathlib.Core.Path.{_≡_};
 ghost use mathlib.Core.List.{[], _∷_};
 ghost use mathlib.Core.Option.{Option·map};
-ghost use Rattle.semigroups.specs.Tables.{Element, product, badCell, badTriple};
+ghost use Rattle.semigroups.specs.Tables.{Element, Filled, product, badCell, badTriple};
 ghost use Rattle.semigroups.specs.Questions.{no, cellsRefusal, tableRefusal};
-ghost use Rattle.semigroups.proofs.Tables.{Filled};
 ghost use Rattle.tables.specs.Answers.{verdictRefusal};
 
 // Why a table is refused: questions 1 to 4, with the first cell, counted from 1, or the first triple.
