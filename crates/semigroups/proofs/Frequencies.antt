@@ -11,13 +11,13 @@ use borrow.Author.Tests.{eq-eqb, ne-eqb, eqb-true}
 use lib.Dec.{eqb}
 use lib.ListN.{length, getD, take, drop, length-map, length-drop, take-append-drop, drop-of-length-le}
 use lib.Seq.{ext-getD, getD-take, getD-drop, length-take-le, drop-drop}
-use Rattle.semigroups.specs.Lists.{range, elements, at, sum, count}
+use Rattle.semigroups.specs.Lists.{range, elements, at, sum, count, NoRepeats}
 use Rattle.semigroups.specs.Tables.{Product, product, grid, Element, Closed}
 use Rattle.semigroups.specs.Invariants.{index, period, frequency, diagonalFrequency, rowFrequency, columnFrequency, Profile, profile, sameProfile}
 use Rattle.semigroups.specs.Maps.{Embedding}
 use Rattle.semigroups.proofs.Booleans.{both, and-left, and-right, equal-or-not}
 use Rattle.semigroups.proofs.Lists.{length-elements, mem-elements, elements-mem, getD-map, at-elements, at-suc}
-use Rattle.semigroups.proofs.NoRepeats.{NoRepeats, sum-inside, map-no-repeats, elements-no-repeats, onto}
+use Rattle.semigroups.proofs.NoRepeats.{sum-inside, map-no-repeats, elements-no-repeats, onto}
 use Rattle.semigroups.proofs.Sums.{sum-same, count-same, sum-constant, sum-map, count-map, sum-flatMap, sum-swap, count-element}
 use Rattle.semigroups.proofs.IndexPeriod.{index-kept, period-kept}
 
