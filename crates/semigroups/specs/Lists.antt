@@ -1,9 +1,11 @@
 -- Lists of numbers: the lists of a given length in list order, the earlier of two lists, and the first entry that passes a test.
 -- Where a definition binds its recursive call by `let`, that call is computed only if it is needed.
 -- Assumes nothing.
+use mathlib.Core.Path.{_≡_}
 use mathlib.Core.Bool.{Bool, true, false, _&&_, _||_, not, cond}
-use mathlib.Core.List.{List, [], _∷_, map, flatMap}
-use mathlib.Core.Option.{Option, none, some, Option·getD}
+use mathlib.Core.Logic.{_⊎_}
+use mathlib.Core.List.{List, [], _∷_, map, flatMap, List·Memᴰ}
+use mathlib.Core.Option.{Option, none, some, Option·getD, orElse}
 use Prim.Native.Nat.{ℕ, zero, suc, _+_, _-_}
 use lib.Dec.{eqb, ltb}
 use lib.ListN.{getD}
@@ -50,6 +52,11 @@ module _ {A : Type 0} where
   unfoldable pub count : (A → Bool) → List A → ℕ
   count p l = sum (λ x. cond (p x) 1 0) l
 
+-- The first answer of g among the entries.
+unfoldable pub firstOf : {A B : Type 0} → (A → Option B) → List A → Option B
+firstOf g [] = none
+firstOf g (x ∷ l) = let r = firstOf g l in orElse (g x) r
+
 -- The first of 1 to n that passes, or n + 1 where none does.
 unfoldable pub least : ℕ → (ℕ → Bool) → ℕ
 least n p = Option·getD (find p (elements n)) (n + 1)
@@ -76,3 +83,23 @@ earlier (x ∷ a) (y ∷ b) = let r = earlier a b in cond (eqb x y) r (ltb x y)
 unfoldable pub lists : ℕ → ℕ → List (List ℕ)
 lists zero n = [] ∷ []
 lists (suc m) n = let r = lists m n in flatMap (λ x. map (λ l. x ∷ l) r) (elements n)
+
+-- ---- plain statements
+
+-- Each entry stands in the relation R to every entry behind it.
+abbrev pub Sorted : {A : Type 0} → (A → A → Type 0) → List A → Type 0
+Sorted R [] = Unit {0}
+Sorted {A} R (x ∷ l) = ((y : A) → List·Memᴰ y l → R x y) × Sorted R l
+
+-- No entry equals one behind it.
+abbrev pub NoRepeats : {A : Type 0} → List A → Type 0
+NoRepeats {A} l = Sorted (λ (x y : A). x ≡ y → ⊥) l
+
+-- Each list is earlier than every list behind it.
+abbrev pub Increasing : List (List ℕ) → Type 0
+Increasing l = Sorted (λ a b. earlier a b ≡ true) l
+
+-- e is the earliest list with the property P.
+pub record Earliest (P : List ℕ → Type 0) (e : List ℕ) : Type 0 where
+  pub has : P e
+  pub before-others : (g : List ℕ) → P g → (g ≡ e) ⊎ (earlier e g ≡ true)

@@ -4,10 +4,12 @@
 use mathlib.Core.Bool.{Bool, true, false, _&&_, cond}
 use mathlib.Core.List.{List, [], _∷_}
 use mathlib.Core.Option.{Option, none, some, Option·map, orElse}
-use Prim.Native.Nat.{ℕ, zero, suc, _*_}
+use mathlib.Core.Path.{_≡_}
+use Prim.Native.Nat.{ℕ, _*_, _≤_, _<_}
 use lib.Dec.{eqb, leb}
-use lib.ListN.{length}
-use Rattle.semigroups.specs.Tables.{product, isElement, badCell, badTriple}
+use lib.ListN.{length, getD}
+use Rattle.semigroups.specs.Lists.{at, Earliest}
+use Rattle.semigroups.specs.Tables.{product, Element, FailingTriple, isElement, badCell, badTriple}
 use Rattle.semigroups.specs.Scratch.{scratchSize}
 
 -- A refusal: the number of the question, the side that it names (1 for source, 2 for target) if it names one, and the values said with it.
@@ -50,6 +52,15 @@ tableRefusal n cells =
     let cell = cellsRefusal n cells in
     let triple = Option·map (λ l. no 4 l) (badTriple n (product n cells)) in
     firstNo (cell ∷ triple ∷ [])
+
+-- What the refusal of a table says: the earliest question whose answer is "no", with the earliest cell or triple.
+pub data Refused (n : ℕ) (cells : List ℕ) : Refusal → Type 0 where
+  wrong-order : (Element 120 n → ⊥) → Refused n cells (no 1 [])
+  wrong-size : Element 120 n → (length cells ≡ n * n → ⊥) → Refused n cells (no 2 [])
+  wrong-cell : (k : ℕ) → Element 120 n → length cells ≡ n * n → Element (length cells) k → (Element n (at cells k) → ⊥) → ((j : ℕ) → 1 ≤ j → j < k → Element n (at cells j))
+      → Refused n cells (no 3 (k ∷ []))
+  wrong-triple : (l : List ℕ) → Element 120 n → length cells ≡ n * n → ((k : ℕ) → k < length cells → Element n (getD cells k 0)) → Earliest (FailingTriple n (product n cells)) l
+      → Refused n cells (no 4 l)
 
 -- About an element: the table's four; then 7, is it 1 to n?
 unfoldable pub elementRefusal : ℕ → List ℕ → ℕ → Option Refusal

@@ -3,18 +3,20 @@
 use mathlib.Core.Path.{_≡_, refl, ap, sym, _∙_}
 use mathlib.Core.Bool.{Bool, true, false, _&&_, _||_, not, cond, and-false, or-true, or-false}
 use mathlib.Core.List.{List, [], _∷_, _++_}
-use mathlib.Core.Option.{Option, none, some, Option·map}
+use mathlib.Core.Option.{none}
 use Prim.Native.Nat.{ℕ, zero, suc, _+_, _-_, _≤_, _<_}
 use native.Mathlib.Omega.{arith}
 use lib.Dec.{eqb}
 use lib.ListN.{length, getD}
-use borrow.Author.Tests.{eqb-true, ne-eqb, not-false}
-use Rattle.semigroups.specs.Lists.{range, find}
-use Rattle.semigroups.specs.Questions.{no, ask}
+use borrow.Author.Tests.{not-false}
+use Rattle.semigroups.specs.Lists.{range}
+use Rattle.semigroups.specs.Questions.{no}
+use Rattle.semigroups.proofs.Booleans.{both, and-left, and-right, not-of-true}
+use Rattle.semigroups.proofs.Lists.{mem-range, range-mem, find-none, none-find}
+use Rattle.semigroups.proofs.Tables.{ask-passed, map-none}
 use Rattle.text.specs.Decimals.{isDigit}
 use Rattle.text.specs.Records.{isBreak}
 use Rattle.text.specs.Questions.{breakAt, inBreak, isAllowed, firstOther, bytesRefusal, endRefusal}
-use Rattle.text.proofs.Find.{find-none, none-found}
 use Rattle.text.proofs.Records.{ends, break-bytes}
 
 -- ---- the last line break
@@ -75,9 +77,6 @@ allowed-past : (b c : ℕ) (t : List ℕ) → c ≡ 10 → (p : ℕ) → isAllow
 unfolding isAllowed inBreak breakAt
 allowed-past b c t e p = allowed-later c t (no-break c (getD t 0 0) e) p
 
-and-both : (x y : Bool) → x ≡ true → y ≡ true → (x && y) ≡ true
-and-both x y e f = simp (e, f)
-
 pub allowed-clean : (t : List ℕ) → Allowed t → clean t ≡ true
 unfolding clean
 allowed-clean [] h = refl
@@ -88,16 +87,8 @@ allowed-clean (b ∷ c ∷ t) h = go (allowed-clean t) (allowed-clean (c ∷ t))
         → cond e (clean t) (inField b && clean (c ∷ t)) ≡ true
     go past later true e = past (λ p l. sym (allowed-past b c t (break-bytes b c e .1) p) ∙ h (suc (suc p)) (omega arith))
     go past later false e =
-        and-both (inField b) (clean (c ∷ t)) (sym (allowed-first b (c ∷ t) e) ∙ h 0 (omega arith))
+        both (inField b) (clean (c ∷ t)) (sym (allowed-first b (c ∷ t) e) ∙ h 0 (omega arith))
         (later (λ p l. sym (allowed-later b (c ∷ t) e p) ∙ h (suc p) (omega arith)))
-
-pub and-left : (x y : Bool) → (x && y) ≡ true → x ≡ true
-and-left true y h = refl
-and-left false y h = h
-
-pub and-right : (x y : Bool) → (x && y) ≡ true → y ≡ true
-and-right true y h = h
-and-right false y h = let z : _≡_ {A = ℕ} 0 1 = cc in let w : ⊥ = omega arith in absurd w
 
 break-first : (b c : ℕ) (t : List ℕ) → isBreak b c ≡ true → isAllowed (b ∷ c ∷ t) 0 ≡ true
 unfolding isAllowed inBreak breakAt
@@ -125,29 +116,25 @@ clean-allowed (b ∷ c ∷ t) h p l = go (clean-allowed t) (clean-allowed (c ∷
 -- Question 21, both ways.
 pub other-clean : (t : List ℕ) → firstOther t ≡ none → clean t ≡ true
 unfolding firstOther
-other-clean t h = allowed-clean t (λ p l. not-false _ (none-found (λ q. not (isAllowed t q)) 0 (length t) h p (omega arith) (omega arith)))
+other-clean t h =
+    let q : ℕ → Bool = λ p. not (isAllowed t p) in
+    allowed-clean t (λ p l. not-false (isAllowed t p) (find-none q (range 0 (length t)) h p (range-mem 0 (length t) p (omega arith) (omega arith))))
 
 pub clean-other : (t : List ℕ) → clean t ≡ true → firstOther t ≡ none
 unfolding firstOther
-clean-other t h = find-none (λ q. not (isAllowed t q)) 0 (length t) (λ p a b. let l : p < length t = omega arith in rw (clean-allowed t h p l))
+clean-other t h =
+    let q : ℕ → Bool = λ p. not (isAllowed t p) in
+    none-find q (range 0 (length t)) (λ p m. let l = mem-range 0 (length t) p m in not-of-true (isAllowed t p) (clean-allowed t h p (omega arith)))
 
 pub no-other : (t : List ℕ) → bytesRefusal t ≡ none → firstOther t ≡ none
 unfolding bytesRefusal
-no-other t h = go (firstOther t) h
-  where
-    go : (o : Option ℕ) → Option·map (λ p. no 21 (p ∷ [])) o ≡ none → o ≡ none
-    go none e = refl
-    go (some p) e = let z : _≡_ {A = ℕ} 0 1 = cc in let w : ⊥ = omega arith in absurd w
+no-other t h = map-none (λ p. no 21 (p ∷ [])) (firstOther t) h
 
 -- Question 22 passes: the text ends in a line break.
 pub closed : (t : List ℕ) → endRefusal t ≡ none → ends t ≡ true
 unfolding endRefusal ends
 closed [] h = refl
-closed (b ∷ t) h = ends-break b t ∙ go (breakAt (b ∷ t) (length (b ∷ t) - 2)) h
-  where
-    go : (e : Bool) → ask e (no 22 []) ≡ none → e ≡ true
-    go true g = refl
-    go false g = let z : _≡_ {A = ℕ} 0 1 = cc in let w : ⊥ = omega arith in absurd w
+closed (b ∷ t) h = ends-break b t ∙ ask-passed (breakAt (b ∷ t) (length (b ∷ t) - 2)) (no 22 []) h
 
 pub closed-some : (t : List ℕ) → endRefusal t ≡ none → 0 < length t
 unfolding endRefusal breakAt isBreak

@@ -11,9 +11,11 @@ use native.Mathlib.Omega.{arith}
 use lib.Dec.{eqb, leb}
 use lib.ListN.{length, getD, drop, drop-of-length-le, List·getD-eq-default}
 use lib.Seq.{drop-cons}
-use borrow.Author.Tests.{leb-true, leb-false, le-leb, lt-leb, eqb-false, ne-eqb}
+use borrow.Author.Tests.{leb-true, leb-false, le-leb, lt-leb, eqb-false, ne-eqb, not-true}
 use Rattle.semigroups.specs.Tables.{isElement}
 use Rattle.semigroups.specs.Questions.{Refusal, no, ask, firstNo}
+use Rattle.semigroups.proofs.Booleans.{and-left, and-right}
+use Rattle.semigroups.proofs.Tables.{orElse-none, ask-passed}
 use Rattle.text.specs.Decimals.{isDigit, digits, valueFrom, value}
 use Rattle.text.specs.Records.{isBreak}
 use Rattle.text.specs.Questions.{breakAt, endRefusal, fieldRefusal, fieldsRefusal}
@@ -121,23 +123,30 @@ module _ (f : List ℕ) where
 
 -- ---- a field that passes
 
-pub field-passed : (f : List ℕ) → fieldRefusal f ≡ none → (1 ≤ length f) × (length f ≤ 3) × (getD f 0 0 ≡ 48 → ⊥) × (value f ≤ 120)
-unfolding fieldRefusal firstNo isElement orElse
-field-passed f h = go (leb 1 (length f)) (leb (length f) 3) (eqb (getD f 0 0) 48) (leb (value f) 120) refl refl refl refl h
-  where
-    go : (a b c d : Bool) → leb 1 (length f) ≡ a → leb (length f) 3 ≡ b → eqb (getD f 0 0) 48 ≡ c → leb (value f) 120 ≡ d
-        → orElse (ask (a && b) (no 23 [])) (orElse (ask (not c) (no 24 [])) (orElse (ask d (no 25 [])) none)) ≡ none
-        → (1 ≤ length f) × (length f ≤ 3) × (getD f 0 0 ≡ 48 → ⊥) × (value f ≤ 120)
-    go true true false true ea eb ec ed g = (leb-true _ _ ea, leb-true _ _ eb, eqb-false _ _ ec, leb-true _ _ ed)
-    go true true false false ea eb ec ed g = let z : _≡_ {A = ℕ} 0 1 = cc in let w : ⊥ = omega arith in absurd w
-    go true true true d ea eb ec ed g = let z : _≡_ {A = ℕ} 0 1 = cc in let w : ⊥ = omega arith in absurd w
-    go true false c d ea eb ec ed g = let z : _≡_ {A = ℕ} 0 1 = cc in let w : ⊥ = omega arith in absurd w
-    go false b c d ea eb ec ed g = let z : _≡_ {A = ℕ} 0 1 = cc in let w : ⊥ = omega arith in absurd w
+-- What 23, 24 and 25 show of a field.
+pub record Number (f : List ℕ) : Type 0 where
+  pub some-byte : 1 ≤ length f
+  pub short : length f ≤ 3
+  pub leading : getD f 0 0 ≡ 48 → ⊥
+  pub small : value f ≤ 120
+
+pub field-passed : (f : List ℕ) → fieldRefusal f ≡ none → Number f
+unfolding fieldRefusal firstNo isElement
+field-passed f h =
+    let size = ask (leb 1 (length f) && leb (length f) 3) (no 23 []) in
+    let zero-first = ask (not (eqb (getD f 0 0) 48)) (no 24 []) in
+    let large = ask (leb (value f) 120) (no 25 []) in
+    let a = orElse-none size (orElse zero-first (orElse large none)) h in
+    let b = orElse-none zero-first (orElse large none) (a .1) in
+    let c = orElse-none large none (b .1) in
+    let s = ask-passed (leb 1 (length f) && leb (length f) 3) (no 23 []) (a .0) in
+    record {
+      some-byte = leb-true 1 (length f) (and-left (leb 1 (length f)) (leb (length f) 3) s);
+      short = leb-true (length f) 3 (and-right (leb 1 (length f)) (leb (length f) 3) s);
+      leading = eqb-false (getD f 0 0) 48 (not-true (eqb (getD f 0 0) 48) (ask-passed (not (eqb (getD f 0 0) 48)) (no 24 []) (b .0)));
+      small = leb-true (value f) 120 (ask-passed (leb (value f) 120) (no 25 []) (c .0));
+    }
 
 pub fields-passed : (f : List ℕ) (fs : List (List ℕ)) → fieldsRefusal (f ∷ fs) ≡ none → (fieldRefusal f ≡ none) × (fieldsRefusal fs ≡ none)
-unfolding fieldsRefusal firstNo orElse
-fields-passed f fs h = go (fieldRefusal f) h
-  where
-    go : (o : Option Refusal) → orElse o (fieldsRefusal fs) ≡ none → (o ≡ none) × (fieldsRefusal fs ≡ none)
-    go none g = (refl, g)
-    go (some r) g = let z : _≡_ {A = ℕ} 0 1 = cc in let w : ⊥ = omega arith in absurd w
+unfolding fieldsRefusal firstNo
+fields-passed f fs h = orElse-none (fieldRefusal f) (fieldsRefusal fs) h

@@ -13,11 +13,12 @@ use borrow.Author.Tests.{eqb-true, leb-true, le-leb, lt-leb}
 use Rattle.semigroups.specs.Lists.{all}
 use Rattle.semigroups.specs.Tables.{isElement}
 use Rattle.semigroups.specs.Questions.{Refusal, no, ask, firstNo}
+use Rattle.semigroups.proofs.Booleans.{and-left, and-right}
+use Rattle.semigroups.proofs.Tables.{orElse-none, ask-passed}
 use Rattle.text.specs.Records.{rows}
 use Rattle.text.specs.Tables.{fieldsOf, orderOf, cellsOf}
 use Rattle.text.specs.Questions.{bytesRefusal, endRefusal, fieldsRefusal, isSquare, squareRefusal, gridRefusal, loadRefusal}
 use Rattle.text.specs.Calls.{refused, gives, overwritten, loadAnswer, cellsAfter}
-use Rattle.text.proofs.Bytes.{and-left, and-right}
 
 -- ---- a square
 
@@ -45,13 +46,11 @@ pub record Square (n : ℕ) (t : List ℕ) : Type 0 where
   pub square : isSquare n (rows t) ≡ true
 
 pub grid-passed : (n : ℕ) (t : List ℕ) → gridRefusal n t ≡ none → Square n t
-unfolding gridRefusal squareRefusal firstNo orElse
-grid-passed n t h = go (fieldsRefusal (fieldsOf t)) (isSquare n (rows t)) refl refl h
-  where
-    go : (o : Option Refusal) (s : Bool) → fieldsRefusal (fieldsOf t) ≡ o → isSquare n (rows t) ≡ s → orElse o (orElse (ask s (no 26 [])) none) ≡ none → Square n t
-    go none true e f g = record { numbers = e; square = f }
-    go none false e f g = let z : _≡_ {A = ℕ} 0 1 = cc in let w : ⊥ = omega arith in absurd w
-    go (some r) s e f g = let z : _≡_ {A = ℕ} 0 1 = cc in let w : ⊥ = omega arith in absurd w
+unfolding gridRefusal squareRefusal firstNo
+grid-passed n t h =
+    let fields = orElse-none (fieldsRefusal (fieldsOf t)) (orElse (ask (isSquare n (rows t)) (no 26 [])) none) h in
+    let shape = orElse-none (ask (isSquare n (rows t)) (no 26 [])) none (fields .1) in
+    record { numbers = fields .0; square = ask-passed (isSquare n (rows t)) (no 26 []) (shape .0) }
 
 pub cells-length : (n : ℕ) (t : List ℕ) → Square n t → length (cellsOf t) ≡ n * n
 unfolding cellsOf fieldsOf

@@ -7,11 +7,12 @@ use Prim.Native.Nat.{ℕ, _≤_}
 use native.Mathlib.Omega.{arith}
 use lib.Dec.{eqb, leb}
 use borrow.Author.Tests.{eqb-true, ne-eqb, leb-true, lt-leb, le-leb}
+use Rattle.semigroups.proofs.Booleans.{and-left, and-right}
 use Rattle.text.specs.Decimals.{isDigit}
 use Rattle.text.specs.Records.{isBreak, onto, records, fields, rows, recordText, rowsText}
 use Rattle.text.proofs.Every.{Every, every-append, every-map}
 use Rattle.text.proofs.Records.{Cons, Plain, Whole, fields-cons, recordText-fields, fields-recordText, records-closed, linesText, linesText-records, ends}
-use Rattle.text.proofs.Bytes.{inField, clean, and-left, and-right}
+use Rattle.text.proofs.Bytes.{inField, clean}
 
 -- ---- digits
 

@@ -5,9 +5,9 @@ use Prim.Native.Nat.{_+_, _-_, _≤_, _<_}
 use mathlib.Core.Path.{_≡_, _∙_}
 use lib.ListN.{length, drop}
 use denote.Ref.{now}
-use Rattle.text.specs.Decimals.{digits, value}
+use Rattle.text.specs.Decimals.{digits}
 use Rattle.text.specs.Tables.{cellsOf}
-use Rattle.text.proofs.Fields.{field-passed}
+use Rattle.text.proofs.Fields.{Number, field-passed}
 use Rattle.text.proofs.Reading.{Turn, turn-inside, break-inside}
 use Rattle.text.proofs.Filling.{Filling, here, fill-first, fill-done, fill-length, fill-field, fill-room, fill-comma, fill-break}
 use Rattle.text.proofs.fill.Statement.{statement}
@@ -40,10 +40,8 @@ module _ (c : tie.After-digits-end Inv-loop μ-loop) where
   turn-here : Turn (now (start .args .text)) (at-loop .loop .at) (c .digits-end .result) (at-loop .loop .inv .rest)
   turn-here = here (at-loop .loop .inv) room inside (c .digits-end .ensures)
 
-  passes : (length (digits (drop (at-loop .loop .at) (now (start .args .text)))) ≤ 3) × (value (digits (drop (at-loop .loop .at) (now (start .args .text)))) ≤ 120)
-  passes =
-      let p = field-passed _ (fill-field (at-loop .loop .inv) room inside (c .digits-end .ensures)) in
-      (p .1, p .3)
+  passes : Number (digits (drop (at-loop .loop .at) (now (start .args .text))))
+  passes = field-passed _ (fill-field (at-loop .loop .inv) room inside (c .digits-end .ensures))
 
 -- src/lib.rt:208:5
 loop-holds : tie.Need-loop-holds Inv-loop μ-loop
@@ -57,11 +55,11 @@ digits-end-requires c κs = omega arith
 
 -- src/lib.rt:210:20
 read-number-requires : tie.Need-read-number-requires Inv-loop μ-loop
-read-number-requires c κs = (omega arith, (c .digits-end .ensures, passes c .0))
+read-number-requires c κs = (omega arith, (c .digits-end .ensures, passes c .short))
 
 -- src/lib.rt:210:20
 cast-cells : tie.Need-cast-cells Inv-loop μ-loop
-cast-cells c = omega (arith, passes (c .before) .1, c .read-number .ensures)
+cast-cells c = omega (arith, passes (c .before) .small, c .read-number .ensures)
 
 -- src/lib.rt:210:9
 slice-write-cells : tie.Need-slice-write-cells Inv-loop μ-loop

@@ -1,0 +1,119 @@
+-- All lists that begin with p: what is found among them is found by trying the next entry from 1 upward. The loops over entries, pairs and triples
+-- and the search itself go by these laws. Assumes nothing.
+use mathlib.Core.Path.{_≡_, refl, sym, ap, ap₂, _∙_, subst}
+use mathlib.Core.Bool.{Bool, true, false, _&&_, cond}
+use mathlib.Core.Option.{Option, none, some, orElse}
+use mathlib.Core.List.{List, [], _∷_, _++_, map, flatMap, append-assoc, append-nil, List·Memᴰ, List·Memᴰ·head, List·Memᴰ·tail}
+use Prim.Native.Nat.{ℕ, zero, suc, _+_, _-_, _≤_, _<_}
+use native.Mathlib.Nat.{add-sub-cancel}
+use native.Mathlib.Numerals.{add-one}
+use native.Mathlib.Omega.{arith}
+use Rattle.semigroups.specs.Lists.{range, elements, all, find, firstOf, lists}
+use Rattle.semigroups.proofs.FlatMap.{find-flatMap}
+
+-- Every list of the given ones behind p.
+unfoldable pub behind : List ℕ → List (List ℕ) → List (List ℕ)
+behind p l = map (λ q. p ++ q) l
+
+-- The first that passes among all lists that go on from p by d entries from 1 to n.
+unfoldable pub findBehind : (List ℕ → Bool) → ℕ → ℕ → List ℕ → Option (List ℕ)
+findBehind test n d p = find test (behind p (lists d n))
+
+behind-nil : (l : List (List ℕ)) → behind [] l ≡ l
+unfolding behind
+behind-nil [] = refl
+behind-nil (q ∷ l) = ap {B = List (List ℕ)} (λ (r : List (List ℕ)). q ∷ r) (behind-nil l)
+
+behind-append : (p : List ℕ) (l r : List (List ℕ)) → behind p (l ++ r) ≡ behind p l ++ behind p r
+unfolding behind
+behind-append p [] r = refl
+behind-append p (q ∷ l) r = ap {B = List (List ℕ)} (λ (s : List (List ℕ)). (p ++ q) ∷ s) (behind-append p l r)
+
+behind-beginning : (p : List ℕ) (x : ℕ) (l : List (List ℕ)) → behind p (map (λ q. x ∷ q) l) ≡ behind (p ++ x ∷ []) l
+unfolding behind
+behind-beginning p x [] = refl
+behind-beginning p x (q ∷ l) = ap₂ {C = List (List ℕ)} (λ (a : List ℕ) (r : List (List ℕ)). a ∷ r) (sym (append-assoc p (x ∷ []) q)) (behind-beginning p x l)
+
+behind-flatMap : (p : List ℕ) (l : List (List ℕ)) (xs : List ℕ) → behind p (flatMap (λ x. map (λ q. x ∷ q) l) xs) ≡ flatMap (λ x. behind (p ++ x ∷ []) l) xs
+unfolding flatMap
+behind-flatMap p l [] = unfold behind in refl
+behind-flatMap p l (x ∷ xs) =
+    behind-append p (map (λ q. x ∷ q) l) (flatMap (λ x. map (λ q. x ∷ q) l) xs)
+    ∙ ap₂ {C = List (List ℕ)} (λ (a b : List (List ℕ)). a ++ b) (behind-beginning p x l) (behind-flatMap p l xs)
+
+module _ (test : List ℕ → Bool) (n : ℕ) where
+  -- All lists are those behind the empty one.
+  pub find-all : (m : ℕ) → find test (lists m n) ≡ findBehind test n m []
+  unfolding findBehind
+  find-all m = ap (find test) (sym (behind-nil (lists m n)))
+
+  -- No entry left: the list itself is tested.
+  pub find-whole : (p : List ℕ) → findBehind test n 0 p ≡ cond (test p) (some p) none
+  unfolding findBehind behind lists find
+  find-whole p = ap {B = Option (List ℕ)} (λ (q : List ℕ). cond (test q) (some q) none) (append-nil p)
+
+  -- One entry more: its values are tried from 1 upward.
+  pub find-entry : (d : ℕ) (p : List ℕ) → findBehind test n (suc d) p ≡ firstOf (λ x. findBehind test n d (p ++ x ∷ [])) (elements n)
+  unfolding findBehind lists
+  find-entry d p = ap (find test) (behind-flatMap p (lists d n) (elements n)) ∙ find-flatMap (λ x. behind (p ++ x ∷ []) (lists d n)) test (elements n)
+
+-- The first entry that passes is the first that gives itself.
+pub find-firstOf : {A : Type 0} (p : A → Bool) (l : List A) → find p l ≡ firstOf (λ x. cond (p x) (some x) none) l
+unfolding find firstOf orElse
+find-firstOf p [] = refl
+find-firstOf {A} p (x ∷ l) = elim (p x) as (λ b. cond b (some x) (find p l) ≡ orElse (cond b (some x) none) (firstOf (λ y. cond (p y) (some y) none) l)) [ true ↦ refl | false ↦ find-firstOf p l ]
+
+-- ---- trying the values from x upward
+
+module _ {B : Type 0} where
+  -- The first answer of g among x, .., n.
+  unfoldable pub firstFrom : (ℕ → Option B) → ℕ → ℕ → Option B
+  firstFrom g n x = firstOf g (range x (n + 1 - x))
+
+  module _ (g : ℕ → Option B) (n : ℕ) where
+    pub first-start : firstOf g (elements n) ≡ firstFrom g n 1
+    unfolding firstFrom elements
+    first-start = ap (λ (k : ℕ). firstOf g (range 1 k)) (sym (add-sub-cancel n 1))
+
+    pub first-step : (x : ℕ) → x ≤ n → firstFrom g n x ≡ orElse (g x) (firstFrom g n (x + 1))
+    unfolding firstFrom firstOf range
+    first-step x h =
+        let e : n + 1 - x ≡ suc (n + 1 - (x + 1)) = omega arith in
+        ap (λ (k : ℕ). firstOf g (range x k)) e ∙ ap (λ (y : ℕ). orElse (g x) (firstOf g (range y (n + 1 - (x + 1))))) (sym (add-one x))
+
+    -- An entry with no answer is passed over; one with an answer gives it.
+    pub first-skip : (x : ℕ) → x ≤ n → g x ≡ none → firstFrom g n x ≡ firstFrom g n (x + 1)
+    first-skip x h e = first-step x h ∙ ap (λ (o : Option B). orElse o (firstFrom g n (x + 1))) e ∙ (unfold orElse in refl)
+
+    pub first-hit : (x : ℕ) (b : B) → x ≤ n → g x ≡ some b → firstFrom g n x ≡ some b
+    first-hit x b h e = first-step x h ∙ ap (λ (o : Option B). orElse o (firstFrom g n (x + 1))) e ∙ (unfold orElse in refl)
+
+    pub first-end : (x : ℕ) → n < x → firstFrom g n x ≡ none
+    unfolding firstFrom firstOf range
+    first-end x h = ap (λ (k : ℕ). firstOf g (range x k)) (let e : n + 1 - x ≡ 0 = omega arith in e)
+
+  pub firstOf-same : {A : Type 0} (g h : A → Option B) (l : List A) → ((x : A) → List·Memᴰ x l → g x ≡ h x) → firstOf g l ≡ firstOf h l
+  unfolding firstOf
+  firstOf-same g h [] e = refl
+  firstOf-same g h (x ∷ l) e = ap₂ orElse (e x (List·Memᴰ·head refl)) (firstOf-same g h l (λ y m. e y (List·Memᴰ·tail m)))
+
+-- ---- testing the values from x upward
+
+-- Whether p passes at each of x, .., n.
+unfoldable pub allFrom : (ℕ → Bool) → ℕ → ℕ → Bool
+allFrom p n x = all p (range x (n + 1 - x))
+
+module _ (p : ℕ → Bool) (n : ℕ) where
+  pub all-start : all p (elements n) ≡ allFrom p n 1
+  unfolding allFrom elements
+  all-start = ap (λ (k : ℕ). all p (range 1 k)) (sym (add-sub-cancel n 1))
+
+  pub all-step : (x : ℕ) → x ≤ n → allFrom p n x ≡ (p x && allFrom p n (x + 1))
+  unfolding allFrom all range
+  all-step x h =
+      let e : n + 1 - x ≡ suc (n + 1 - (x + 1)) = omega arith in
+      ap (λ (k : ℕ). all p (range x k)) e ∙ ap (λ (y : ℕ). p x && all p (range y (n + 1 - (x + 1)))) (sym (add-one x))
+
+  pub all-end : (x : ℕ) → n < x → allFrom p n x ≡ true
+  unfolding allFrom all range
+  all-end x h = ap (λ (k : ℕ). all p (range x k)) (let e : n + 1 - x ≡ 0 = omega arith in e)

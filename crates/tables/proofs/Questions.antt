@@ -1,0 +1,141 @@
+-- The questions about a table, one by one: what each way out of them answers. Assumes nothing.
+use mathlib.Core.Path.{_≡_, refl, sym, ap, _∙_}
+use mathlib.Core.Bool.{Bool, true, false, cond, not}
+use mathlib.Core.List.{List, [], _∷_}
+use mathlib.Core.Option.{Option, none, some, Option·map, orElse}
+use Prim.Native.Nat.{ℕ, _+_, _-_, _*_, _≤_, _<_}
+use native.Mathlib.Nat.{mul-le-mul}
+use borrow.Author.Tests.{le-leb, lt-leb, eq-eqb, ne-eqb}
+use lib.ListN.{length, getD}
+use Rattle.semigroups.specs.Lists.{elements, at}
+use Rattle.semigroups.specs.Tables.{product, Element, isElement, associates, badCell, badTriple, Filled}
+use Rattle.semigroups.specs.Questions.{Refusal, no, firstNo, cellsRefusal, tableRefusal}
+use Rattle.semigroups.proofs.Tables.{place-below, product-element}
+use Rattle.semigroups.proofs.Completions.{find-firstOf, firstFrom, first-start, first-skip, first-hit, first-end}
+use Rattle.semigroups.proofs.Booleans.{not-of-true, not-of-false}
+use Rattle.tables.proofs.Remaining.{orElse-nothing, remaining, begin, enter, pass, hit, leave}
+
+pub square-small : (n : ℕ) → n ≤ 120 → n * n ≤ 14400
+square-small n h = mul-le-mul h h
+
+module _ (n : ℕ) (cells : List ℕ) where
+  -- ---- the product of two elements
+
+  module _ (f : Filled n cells) (i j : ℕ) (hi : Element n i) (hj : Element n j) where
+    pub place-in : (i - 1) * n + (j - 1) < length cells
+    place-in = rw (f .size) (place-below n n i j hi hj)
+
+    pub product-found : getD cells ((i - 1) * n + (j - 1)) 0 ≡ product n cells i j
+    unfolding product
+    product-found = refl
+
+    pub found-element : Element n (getD cells ((i - 1) * n + (j - 1)) 0)
+    found-element = f .in-range ((i - 1) * n + (j - 1)) place-in
+
+  -- ---- question 3
+
+  -- Cell k where it is not 1 to n.
+  abbrev wrong : ℕ → Option ℕ
+  wrong k = cond (not (isElement n (at cells k))) (some k) none
+
+  -- The first wrong cell from cell k on.
+  unfoldable pub badFrom : ℕ → Option ℕ
+  badFrom k = firstFrom wrong (length cells) k
+
+  pub cell-begin : badCell n cells ≡ badFrom 1
+  unfolding badCell badFrom elements
+  cell-begin = find-firstOf (λ k. not (isElement n (at cells k))) (elements (length cells)) ∙ first-start wrong (length cells)
+
+  pub cell-pass : (k : ℕ) → k ≤ length cells → 1 ≤ getD cells (k - 1) 0 → getD cells (k - 1) 0 ≤ n → badFrom k ≡ badFrom (k + 1)
+  unfolding badFrom isElement at
+  cell-pass k h low high = first-skip wrong (length cells) k h (rw (le-leb 1 (getD cells (k - 1) 0) low, le-leb (getD cells (k - 1) 0) n high))
+
+  pub cell-low : (k : ℕ) → k ≤ length cells → getD cells (k - 1) 0 < 1 → badFrom k ≡ some k
+  unfolding badFrom isElement at
+  cell-low k h low = first-hit wrong (length cells) k k h (rw (lt-leb 1 (getD cells (k - 1) 0) low))
+
+  pub cell-high : (k : ℕ) → k ≤ length cells → 1 ≤ getD cells (k - 1) 0 → n < getD cells (k - 1) 0 → badFrom k ≡ some k
+  unfolding badFrom isElement at
+  cell-high k h low high = first-hit wrong (length cells) k k h (rw (le-leb 1 (getD cells (k - 1) 0) low, lt-leb (getD cells (k - 1) 0) n high))
+
+  pub cell-end : (k : ℕ) → length cells < k → badFrom k ≡ none
+  unfolding badFrom
+  cell-end k h = first-end wrong (length cells) k h
+
+  -- ---- question 4
+
+  -- Whether the triple l does not associate.
+  abbrev fails : List ℕ → Bool
+  fails l = not (associates (product n cells) (at l 1) (at l 2) (at l 3))
+
+  -- What is left of the search for a triple from the first entry i on, from the pair i, j on, and from the triple i, j, k on.
+  unfoldable pub fromFirst : ℕ → Option (List ℕ)
+  fromFirst i = remaining fails n 2 [] i none
+
+  unfoldable pub fromPair : ℕ → ℕ → Option (List ℕ)
+  fromPair i j = remaining fails n 1 (i ∷ []) j (fromFirst (i + 1))
+
+  unfoldable pub fromTriple : ℕ → ℕ → ℕ → Option (List ℕ)
+  fromTriple i j k = remaining fails n 0 (i ∷ j ∷ []) k (fromPair i (j + 1))
+
+  pub triples-begin : badTriple n (product n cells) ≡ fromFirst 1
+  unfolding badTriple fromFirst
+  triples-begin = begin fails n 2
+
+  pub first-enter : (i : ℕ) → i ≤ n → fromFirst i ≡ fromPair i 1
+  unfolding fromFirst fromPair
+  first-enter i h = enter fails n 1 [] i none h
+
+  pub pair-enter : (i j : ℕ) → j ≤ n → fromPair i j ≡ fromTriple i j 1
+  unfolding fromPair fromTriple
+  pair-enter i j h = enter fails n 0 (i ∷ []) j (fromFirst (i + 1)) h
+
+  pub triple-pass : (i j k : ℕ) → k ≤ n → product n cells (product n cells i j) k ≡ product n cells i (product n cells j k) → fromTriple i j k ≡ fromTriple i j (k + 1)
+  unfolding fromTriple associates at
+  triple-pass i j k h e =
+      pass fails n (i ∷ j ∷ []) k (fromPair i (j + 1)) h
+      (not-of-true (associates (product n cells) i j k) (eq-eqb (product n cells (product n cells i j) k) (product n cells i (product n cells j k)) e))
+
+  pub triple-hit : (i j k : ℕ) → k ≤ n → (product n cells (product n cells i j) k ≡ product n cells i (product n cells j k) → ⊥) → fromTriple i j k ≡ some (i ∷ j ∷ k ∷ [])
+  unfolding fromTriple associates at
+  triple-hit i j k h e =
+      hit fails n (i ∷ j ∷ []) k (fromPair i (j + 1)) h
+      (not-of-false (associates (product n cells) i j k) (ne-eqb (product n cells (product n cells i j) k) (product n cells i (product n cells j k)) e))
+
+  pub triple-leave : (i j k : ℕ) → n < k → fromTriple i j k ≡ fromPair i (j + 1)
+  unfolding fromTriple
+  triple-leave i j k h = leave fails n 0 (i ∷ j ∷ []) k (fromPair i (j + 1)) h
+
+  pub pair-leave : (i j : ℕ) → n < j → fromPair i j ≡ fromFirst (i + 1)
+  unfolding fromPair
+  pair-leave i j h = leave fails n 1 (i ∷ []) j (fromFirst (i + 1)) h
+
+  pub triples-end : (i : ℕ) → n < i → fromFirst i ≡ none
+  unfolding fromFirst
+  triples-end i h = leave fails n 2 [] i none h
+
+  -- ---- the questions in order
+
+  pub order-low : n < 1 → cellsRefusal n cells ≡ some (no 1 [])
+  unfolding cellsRefusal firstNo isElement orElse
+  order-low h = rw (lt-leb 1 n h)
+
+  pub order-high : 1 ≤ n → 120 < n → cellsRefusal n cells ≡ some (no 1 [])
+  unfolding cellsRefusal firstNo isElement orElse
+  order-high l h = rw (le-leb 1 n l, lt-leb n 120 h)
+
+  pub wrong-size : 1 ≤ n → n ≤ 120 → (length cells ≡ n * n → ⊥) → cellsRefusal n cells ≡ some (no 2 [])
+  unfolding cellsRefusal firstNo isElement orElse
+  wrong-size l h e = rw (le-leb 1 n l, le-leb n 120 h, ne-eqb (length cells) (n * n) e)
+
+  pub right-size : 1 ≤ n → n ≤ 120 → length cells ≡ n * n → cellsRefusal n cells ≡ Option·map (λ k. no 3 (k ∷ [])) (badCell n cells)
+  unfolding cellsRefusal firstNo isElement orElse
+  right-size l h e = rw (le-leb 1 n l, le-leb n 120 h, eq-eqb (length cells) (n * n) e) (orElse-nothing (Option·map (λ k. no 3 (k ∷ [])) (badCell n cells)))
+
+  pub cells-refused : (r : Refusal) → cellsRefusal n cells ≡ some r → tableRefusal n cells ≡ some r
+  unfolding tableRefusal firstNo orElse
+  cells-refused r e = rw e
+
+  pub cells-pass : cellsRefusal n cells ≡ none → tableRefusal n cells ≡ Option·map (λ l. no 4 l) (badTriple n (product n cells))
+  unfolding tableRefusal firstNo orElse
+  cells-pass e = rw e (orElse-nothing (Option·map (λ l. no 4 l) (badTriple n (product n cells))))

@@ -1,0 +1,21 @@
+-- What the answers about a table mean (01, "The questions"): for each case the number of the question and the values said with it.
+-- Assumes nothing.
+use mathlib.Core.List.{[], _∷_}
+use mathlib.Core.Option.{Option, none, some}
+use Rattle.semigroups.specs.Questions.{Refusal, no}
+use Rattle.tables.specs.declared.Fault.{Fault}
+use Rattle.tables.specs.declared.Fault.the-variants.{Order, Size, Cell, Triple}
+use Rattle.tables.specs.declared.Verdict.{Verdict}
+use Rattle.tables.specs.declared.Verdict.the-variants.{Accepted, Refused}
+
+-- 1 and 2 carry nothing, 3 the cell, 4 the triple.
+abbrev pub faultRefusal : Fault → Refusal
+faultRefusal Order = no 1 []
+faultRefusal Size = no 2 []
+faultRefusal (Cell k) = no 3 (k ∷ [])
+faultRefusal (Triple i j k) = no 4 (i ∷ j ∷ k ∷ [])
+
+-- An accepted table has no failed question.
+abbrev pub verdictRefusal : Verdict → Option Refusal
+verdictRefusal Accepted = none
+verdictRefusal (Refused fault) = some (faultRefusal fault)

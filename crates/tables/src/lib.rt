@@ -1,0 +1,100 @@
+// The four questions about a table: an order and cells, of any content. The first "no" is the answer, with the cell or the triple that is said with it.
+ghost use mathlib.Core.Path.{_≡_};
+ghost use mathlib.Core.List.{[], _∷_};
+ghost use mathlib.Core.Option.{Option·map};
+ghost use Rattle.semigroups.specs.Tables.{Element, Filled, product, badCell, badTriple};
+ghost use Rattle.semigroups.specs.Questions.{no, cellsRefusal, tableRefusal};
+ghost use Rattle.tables.specs.Answers.{verdictRefusal};
+
+// Why a table is refused: questions 1 to 4, with the first cell, counted from 1, or the first triple.
+pub enum Fault {
+    Order,
+    Size,
+    Cell(usize),
+    Triple(usize, usize, usize),
+}
+
+pub enum Verdict {
+    Accepted,
+    Refused(Fault),
+}
+
+// The product i·j.
+pub fn times(cells: &[u8], n: usize, i: usize, j: usize) -> usize
+    requires { ⌜ Filled n (now cells) ⌝ ∗ ⌜ Element n i ⌝ ∗ ⌜ Element n j ⌝ }
+    ensures answer { λ r. ⌜ r ≡ product n (now (cells .entry)) i j ⌝ }
+    ensures element { λ r. ⌜ Element n r ⌝ }
+{
+    cells[(i - 1) * n + (j - 1)] as usize
+}
+
+// Question 3: every cell is 1 to n.
+fn in_range(cells: &[u8], n: usize) -> Verdict
+    ensures answer { λ r. ⌜ verdictRefusal r ≡ Option·map (λ k. no 3 (k ∷ [])) (badCell n (now (cells .entry))) ⌝ }
+{
+    let mut place: usize = 1;
+    while place <= cells.len() {
+        let cell = cells[place - 1] as usize;
+        if cell < 1 {
+            return Verdict::Refused(Fault::Cell(place));
+        }
+        if n < cell {
+            return Verdict::Refused(Fault::Cell(place));
+        }
+        place += 1;
+    }
+    Verdict::Accepted
+}
+
+// Question 4: (i·j)·k = i·(j·k) for every triple.
+fn associative(cells: &[u8], n: usize) -> Verdict
+    requires { ⌜ Filled n (now cells) ⌝ }
+    ensures answer { λ r. ⌜ verdictRefusal r ≡ Option·map (λ l. no 4 l) (badTriple n (product n (now (cells .entry)))) ⌝ }
+{
+    let mut verdict = Verdict::Accepted;
+    let mut i: usize = 1;
+    'triples: while i <= n {
+        let mut j: usize = 1;
+        while j <= n {
+            let ij = times(cells, n, i, j);
+            let mut k: usize = 1;
+            while k <= n {
+                let jk = times(cells, n, j, k);
+                if times(cells, n, ij, k) != times(cells, n, i, jk) {
+                    verdict = Verdict::Refused(Fault::Triple(i, j, k));
+                    break 'triples;
+                }
+                k += 1;
+            }
+            j += 1;
+        }
+        i += 1;
+    }
+    verdict
+}
+
+// Questions 1 to 3: order, size, cells.
+pub fn check_cells(cells: &[u8], n: usize) -> Verdict
+    ensures answer { λ r. ⌜ verdictRefusal r ≡ cellsRefusal n (now (cells .entry)) ⌝ }
+{
+    if n < 1 {
+        return Verdict::Refused(Fault::Order);
+    }
+    if 120 < n {
+        return Verdict::Refused(Fault::Order);
+    }
+    if cells.len() != n * n {
+        return Verdict::Refused(Fault::Size);
+    }
+    in_range(cells, n)
+}
+
+// Questions 1 to 4: order, size, cells, associativity.
+pub fn check(cells: &[u8], n: usize) -> Verdict
+    ensures answer { λ r. ⌜ verdictRefusal r ≡ tableRefusal n (now (cells .entry)) ⌝ }
+{
+    match check_cells(cells, n) {
+        Verdict::Refused(fault) => Verdict::Refused(fault),
+        Verdict::Accepted => associative(cells, n),
+    }
+}
