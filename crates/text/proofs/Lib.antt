@@ -10,3 +10,4 @@ pub mod Judging
 pub mod Buffers
 pub mod Filling
 pub mod Loading
+pub mod Writing

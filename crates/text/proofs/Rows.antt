@@ -9,7 +9,7 @@ use lib.Dec.{eqb, leb}
 use borrow.Author.Tests.{eqb-true, ne-eqb, leb-true, lt-leb, le-leb}
 use Rattle.semigroups.proofs.Booleans.{and-left, and-right}
 use Rattle.text.specs.Decimals.{isDigit}
-use Rattle.text.specs.Records.{isBreak, onto, records, fields, rows, recordText, rowsText}
+use Rattle.text.specs.Records.{isBreak, onto, records, fields, rows, recordText, lineText, rowsText}
 use Rattle.text.proofs.Every.{Every, every-append, every-map}
 use Rattle.text.proofs.Records.{Cons, Plain, Whole, fields-cons, recordText-fields, fields-recordText, records-closed, linesText, linesText-records, ends}
 use Rattle.text.proofs.Bytes.{inField, clean}
@@ -67,8 +67,8 @@ record-in (f ∷ fs) h = every-append (λ b. inField b ≡ true) f (flatMap (λ 
 -- ---- rows to a text and back
 
 pub rowsText-cons : (r : List (List ℕ)) (rs : List (List (List ℕ))) → rowsText (r ∷ rs) ≡ recordText r ++ 13 ∷ 10 ∷ rowsText rs
-unfolding rowsText flatMap
-rowsText-cons r rs = append-assoc (recordText r) (13 ∷ 10 ∷ []) (flatMap (λ k. recordText k ++ 13 ∷ 10 ∷ []) rs)
+unfolding rowsText lineText flatMap
+rowsText-cons r rs = append-assoc (recordText r) (13 ∷ 10 ∷ []) (rowsText rs)
 
 fields-row : (r : List (List ℕ)) → Row r → fields (recordText r) ≡ r
 fields-row [] h = absurd h
@@ -111,7 +111,7 @@ rowsText-ends (r ∷ rs) h = ap ends (rowsText-cons r rs) ∙ ends-closed (recor
 -- ---- a text to its rows and back
 
 rowsText-fields : (l : List (List ℕ)) → rowsText (map fields l) ≡ linesText l
-unfolding rowsText linesText flatMap
+unfolding rowsText lineText linesText flatMap
 rowsText-fields [] = refl
 rowsText-fields (r ∷ l) = cc (recordText-fields r, rowsText-fields l)
 

@@ -3,13 +3,16 @@
 use mathlib.Core.List.{List, [], _∷_}
 use mathlib.Core.Option.{Option, none, some}
 use Rattle.semigroups.specs.Questions.{Refusal, no}
+use Rattle.tables.specs.Answers.{faultRefusal as tableRefusal}
 use Rattle.text.specs.Calls.{Answer, refused, gives}
 use Rattle.text.specs.declared.TextFault.{TextFault}
 use Rattle.text.specs.declared.TextFault.the-variants.{Length, Byte, End, FieldLength, LeadingZero, FieldValue, Shape, Order, Room}
 use Rattle.text.specs.declared.Judged.{Judged}
 use Rattle.text.specs.declared.Judged.the-variants.{Passed, Failed}
 use Rattle.text.specs.declared.Loaded.{Loaded}
-use Rattle.text.specs.declared.Loaded.the-variants.{Order as LoadedOrder, Refused}
+use Rattle.text.specs.declared.Loaded.the-variants.{Order as LoadedOrder, Refused as LoadRefused}
+use Rattle.text.specs.declared.Saved.{Saved}
+use Rattle.text.specs.declared.Saved.the-variants.{Length as SavedLength, Refused as SaveRefused, Room as SavedRoom}
 
 abbrev pub faultRefusal : TextFault → Refusal
 faultRefusal Length = no 20 []
@@ -29,4 +32,9 @@ judgedRefusal (Failed f) = some (faultRefusal f)
 
 abbrev pub loadedAnswer : Loaded → Answer
 loadedAnswer (LoadedOrder n) = gives n
-loadedAnswer (Refused f) = refused (faultRefusal f)
+loadedAnswer (LoadRefused f) = refused (faultRefusal f)
+
+abbrev pub savedAnswer : Saved → Answer
+savedAnswer (SavedLength k) = gives k
+savedAnswer (SaveRefused f) = refused (tableRefusal f)
+savedAnswer SavedRoom = refused (no 28 [])

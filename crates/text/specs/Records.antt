@@ -44,6 +44,10 @@ unfoldable pub recordText : List (List ℕ) → List ℕ
 recordText [] = []
 recordText (f ∷ fs) = f ++ flatMap (λ g. 44 ∷ g) fs
 
+-- The text of a record with its line break.
+unfoldable pub lineText : List (List ℕ) → List ℕ
+lineText r = recordText r ++ 13 ∷ 10 ∷ []
+
 -- The text of records, each closed by a line break, the last one too (01, "Text").
 unfoldable pub rowsText : List (List (List ℕ)) → List ℕ
-rowsText rs = flatMap (λ r. recordText r ++ 13 ∷ 10 ∷ []) rs
+rowsText rs = flatMap lineText rs

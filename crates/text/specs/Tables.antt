@@ -1,8 +1,10 @@
 -- Tables as text (01, "Text"): a record for each row, a field for each cell. The order is the number of fields of the first record.
 -- Assumes nothing.
-use mathlib.Core.List.{List, [], _∷_, _++_, map, flatten}
-use Prim.Native.Nat.{ℕ, zero, suc}
-use lib.ListN.{length, take, drop, getD}
+use mathlib.Core.List.{List, [], map, flatten}
+use Prim.Native.Nat.{ℕ}
+use lib.ListN.{length, getD}
+use Rattle.semigroups.specs.Lists.{elements}
+use Rattle.semigroups.specs.Tables.{product}
 use Rattle.text.specs.Decimals.{value, numeral}
 use Rattle.text.specs.Records.{rows, rowsText}
 
@@ -18,11 +20,10 @@ orderOf t = length (getD (rows t) 0 [])
 unfoldable pub cellsOf : List ℕ → List ℕ
 cellsOf t = map value (fieldsOf t)
 
--- The first m rows of cells that stand row after row, n to a row.
-unfoldable pub split : ℕ → ℕ → List ℕ → List (List ℕ)
-split zero n cells = []
-split (suc m) n cells = take n cells ∷ split m n (drop n cells)
+-- The fields of row i of the table of order n with these cells: the decimal numbers of i·1 to i·n.
+unfoldable pub rowFields : ℕ → List ℕ → ℕ → List (List ℕ)
+rowFields n cells i = map (λ j. numeral (product n cells i j)) (elements n)
 
--- The text of the table of order n with these cells.
+-- The text of the table: a record for each row.
 unfoldable pub tableText : ℕ → List ℕ → List ℕ
-tableText n cells = rowsText (map (map numeral) (split n n cells))
+tableText n cells = rowsText (map (rowFields n cells) (elements n))

@@ -2,13 +2,16 @@
 // `load` asks questions 20 to 27 and 1 of a text, `save` asks 1, 2, 3 and 28; a refusal changes no byte.
 ghost use mathlib.Core.Path.{_≡_};
 ghost use mathlib.Core.Option.{none};
-ghost use Prim.Native.Nat.{_+_, _≤_};
+ghost use Prim.Native.Nat.{_+_, _≤_, _<_};
 ghost use lib.ListN.{length, drop};
-ghost use Rattle.text.specs.Decimals.{digits, value};
-ghost use Rattle.text.specs.Tables.{fieldsOf, orderOf, cellsOf};
+ghost use lib.Seq.{sets};
+ghost use Rattle.semigroups.specs.Tables.{Element, Filled};
+ghost use Rattle.text.specs.Decimals.{digits, value, numeral};
+ghost use Rattle.text.specs.Records.{lineText};
+ghost use Rattle.text.specs.Tables.{fieldsOf, orderOf, cellsOf, rowFields, tableText};
 ghost use Rattle.text.specs.Questions.{bytesRefusal, endRefusal, fieldRefusal, fieldsRefusal, gridRefusal};
-ghost use Rattle.text.specs.Calls.{overwritten, loadAnswer, cellsAfter};
-ghost use Rattle.text.specs.Answers.{judgedRefusal, loadedAnswer};
+ghost use Rattle.text.specs.Calls.{overwritten, loadAnswer, cellsAfter, saveAnswer, textAfter};
+ghost use Rattle.text.specs.Answers.{judgedRefusal, loadedAnswer, savedAnswer};
 
 // Why a text is refused.
 pub enum TextFault {
@@ -28,6 +31,13 @@ pub enum TextFault {
 pub enum Loaded {
     Order(usize),
     Refused(TextFault),
+}
+
+// What saving answers: the length of the text; or the first of questions 1 to 3 that fails; or that the buffer is short of the whole length.
+pub enum Saved {
+    Length(usize),
+    Refused(tables::Fault),
+    Room,
 }
 
 // Whether some of the questions about a text pass.
@@ -247,4 +257,106 @@ pub fn load(text: &[u8], cells: &mut [u8]) -> Loaded
     }
     fill(text, cells);
     Loaded::Order(n)
+}
+
+// How many digits the decimal number of x has.
+fn digit_count(x: usize) -> usize
+    requires { ⌜ x < 1000 ⌝ }
+    ensures answer { λ r. ⌜ r ≡ length (numeral x) ⌝ }
+{
+    if x < 10 {
+        return 1;
+    }
+    if x < 100 {
+        return 2;
+    }
+    3
+}
+
+// The length of the text of a table: each cell is followed by a comma or a CR, each row by an LF.
+fn text_length(cells: &[u8], n: usize) -> usize
+    requires { ⌜ Filled n (now cells) ⌝ }
+    ensures answer { λ r. ⌜ r ≡ length (tableText n (now (cells .entry))) ⌝ }
+{
+    let mut total = n;
+    let mut k: usize = 0;
+    while k < cells.len() {
+        total += digit_count(cells[k] as usize) + 1;
+        k += 1;
+    }
+    total
+}
+
+// Writes the decimal number of x at `at`. Answers the place behind it.
+fn put_number(text: &mut [u8], at: usize, x: usize) -> usize
+    requires small { ⌜ x < 1000 ⌝ }
+    requires room { ⌜ at + length (numeral x) ≤ length (now text) ⌝ }
+    ensures answer { λ r. ⌜ r ≡ at + length (numeral x) ⌝ }
+    ensures text { λ _. ⌜ now (text .exit) ≡ sets (now (text .entry)) at (numeral x) ⌝ }
+{
+    if x < 10 {
+        text[at] = (48 + x) as u8;
+        return at + 1;
+    }
+    if x < 100 {
+        text[at] = (48 + x / 10) as u8;
+        text[at + 1] = (48 + x % 10) as u8;
+        return at + 2;
+    }
+    text[at] = (48 + x / 100) as u8;
+    text[at + 1] = (48 + x / 10 % 10) as u8;
+    text[at + 2] = (48 + x % 10) as u8;
+    at + 3
+}
+
+// Writes row i of a table at `start`, with its line break. Answers the place behind it.
+fn put_row(cells: &[u8], n: usize, i: usize, text: &mut [u8], start: usize) -> usize
+    requires table { ⌜ Filled n (now cells) ⌝ }
+    requires row { ⌜ Element n i ⌝ }
+    requires room { ⌜ start + length (lineText (rowFields n (now cells) i)) ≤ length (now text) ⌝ }
+    ensures answer { λ r. ⌜ r ≡ start + length (lineText (rowFields n (now (cells .entry)) i)) ⌝ }
+    ensures text { λ _. ⌜ now (text .exit) ≡ sets (now (text .entry)) start (lineText (rowFields n (now (cells .entry)) i)) ⌝ }
+{
+    let mut at = put_number(text, start, tables::times(cells, n, i, 1));
+    let mut j: usize = 2;
+    while j <= n {
+        text[at] = 44;
+        at = put_number(text, at + 1, tables::times(cells, n, i, j));
+        j += 1;
+    }
+    text[at] = 13;
+    text[at + 1] = 10;
+    at + 2
+}
+
+// Writes the text of a table to the start of `text`. Answers its length.
+fn put_rows(cells: &[u8], n: usize, text: &mut [u8]) -> usize
+    requires table { ⌜ Filled n (now cells) ⌝ }
+    requires room { ⌜ length (tableText n (now cells)) ≤ length (now text) ⌝ }
+    ensures answer { λ r. ⌜ r ≡ length (tableText n (now (cells .entry))) ⌝ }
+    ensures text { λ _. ⌜ now (text .exit) ≡ overwritten (tableText n (now (cells .entry))) (now (text .entry)) ⌝ }
+{
+    let mut at: usize = 0;
+    let mut i: usize = 1;
+    while i <= n {
+        at = put_row(cells, n, i, text, at);
+        i += 1;
+    }
+    at
+}
+
+// Saves the table of this order with these cells: writes its text to the start of `text` and answers its length; or answers the earliest
+// question that fails, and writes nothing.
+pub fn save(cells: &[u8], order: usize, text: &mut [u8]) -> Saved
+    ensures answer { λ r. ⌜ savedAnswer r ≡ saveAnswer order (now (cells .entry)) (now (text .entry)) ⌝ }
+    ensures text { λ _. ⌜ now (text .exit) ≡ textAfter order (now (cells .entry)) (now (text .entry)) ⌝ }
+{
+    let verdict = tables::check_cells(cells, order);
+    if let tables::Verdict::Refused(f) = verdict {
+        return Saved::Refused(f);
+    }
+    if text.len() < text_length(cells, order) {
+        return Saved::Room;
+    }
+    Saved::Length(put_rows(cells, order, text))
 }
