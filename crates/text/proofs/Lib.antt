@@ -11,3 +11,4 @@ pub mod Buffers
 pub mod Filling
 pub mod Loading
 pub mod Writing
+pub mod Saving
