@@ -12,3 +12,4 @@ pub mod Filling
 pub mod Loading
 pub mod Writing
 pub mod Saving
+pub mod Tables
