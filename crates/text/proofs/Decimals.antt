@@ -132,3 +132,7 @@ numeral-value (a ∷ b ∷ c ∷ []) h l u z =
     let w : 48 + k % 10 ≡ c = omega arith in
     numeral-three k lo hi ∙ cc
 numeral-value (a ∷ b ∷ c ∷ d ∷ f) h l u z = let w : ⊥ = omega arith in absurd w
+
+pub digits-few : (k : ℕ) → length (numeral k) ≤ 3
+unfolding numeral
+digits-few k = numeral-short 3 k

@@ -2,17 +2,22 @@
 -- Assumes nothing.
 use mathlib.Core.Path.{_≡_, refl, ap, sym, _∙_}
 use mathlib.Core.List.{List, [], _∷_, _++_, map, flatMap, append-assoc, append-nil}
+use mathlib.Core.Option.{none, some, orElse}
 use Prim.Native.Nat.{ℕ, zero, suc, _+_, _-_, _≤_, _<_}
 use native.Mathlib.Numerals.{add-one}
 use native.Mathlib.Omega.{arith}
+use borrow.Author.Tests.{le-leb, lt-leb}
 use lib.ListN.{length, set, length-append}
 use lib.Seq.{sets}
 use Rattle.semigroups.specs.Lists.{range, elements}
 use Rattle.semigroups.specs.Tables.{product}
+use Rattle.semigroups.specs.Questions.{Refusal, no, firstNo, cellsRefusal}
 use Rattle.text.specs.Decimals.{numeral}
 use Rattle.text.specs.Records.{recordText, lineText, rowsText}
 use Rattle.text.specs.Tables.{rowFields, tableText}
-use Rattle.text.proofs.Writing.{Writing, write-first, write-next, write-last}
+use Rattle.text.specs.Questions.{saveRefusal}
+use Rattle.text.specs.Calls.{refused, gives, overwritten, saveAnswer, textAfter}
+use Rattle.text.proofs.Writing.{Writing, write-first, write-next, write-last, sets-overwritten}
 
 elements-first : (n : ℕ) → 1 ≤ n → elements n ≡ 1 ∷ range 2 (n + 1 - 2)
 unfolding elements range
@@ -53,6 +58,7 @@ module _ (n : ℕ) (cells : List ℕ) where
 
     pub room-next : (j at room x : ℕ) → x ≡ product n cells i j → j ≤ n → at + length (fieldsLeft j) ≤ room → at + 1 + length (numeral x) ≤ room
     room-next j at room x e h r = rw e (omega (arith, simp length-append at (ap length (row-step j h))))
+
     pub room-comma : (j at room : ℕ) → j ≤ n → at + length (fieldsLeft j) ≤ room → at + 1 ≤ room
     room-comma j at room h r = let k = room-next j at room (product n cells i j) refl h r in omega arith
 
@@ -112,3 +118,52 @@ module _ (n : ℕ) (cells : List ℕ) (i : ℕ) where
       let all = write-last (write-next w (13 ∷ 10 ∷ []) [] (row-end n cells i j h)) refl in
       let whole = write-last (write-next b (fieldsLeft n cells i 2) [] (sym (append-nil (fieldsLeft n cells i 2)))) refl in
       (all .1 ∙ whole .1, rw (add-one at) (all .0 ∙ whole .0))
+
+-- ---- the rows are written
+
+module _ (n : ℕ) (cells : List ℕ) where
+  pub rows-begun : (before : List ℕ) → Writing before 0 (tableText n cells) (rowsLeft n cells 1) before 0
+  rows-begun before = rw (← rows-first n cells) (write-first before 0 (tableText n cells))
+
+  pub rows-room : (i at room : ℕ) → i ≤ n → at + length (rowsLeft n cells i) ≤ room → at + length (lineText (rowFields n cells i)) ≤ room
+  rows-room i at room h r = omega (arith, simp length-append at (ap length (rows-step n cells i h)))
+
+  pub rows-more : {before text : List ℕ} {at : ℕ} (i : ℕ) {later : List ℕ} {next : ℕ} → i ≤ n
+      → Writing before 0 (tableText n cells) (rowsLeft n cells i) text at
+      → later ≡ sets text at (lineText (rowFields n cells i)) → next ≡ at + length (lineText (rowFields n cells i))
+      → Writing before 0 (tableText n cells) (rowsLeft n cells (i + 1)) later next
+  rows-more i h w placed next = rw (placed, next) (write-next w (lineText (rowFields n cells i)) (rowsLeft n cells (i + 1)) (rows-step n cells i h))
+
+  pub rows-done : {before text : List ℕ} {at : ℕ} (i : ℕ) → n < i → length (tableText n cells) ≤ length before
+      → Writing before 0 (tableText n cells) (rowsLeft n cells i) text at
+      → (at ≡ length (tableText n cells)) × (text ≡ overwritten (tableText n cells) before)
+  rows-done {before} i h r w =
+      let all = write-last w (rows-end n cells i h) in
+      let z : 0 + length (tableText n cells) ≡ length (tableText n cells) = omega arith in
+      (all .1 ∙ z, all .0 ∙ sets-overwritten before (tableText n cells) r)
+
+-- ---- the call
+
+module _ (n : ℕ) (cells text : List ℕ) where
+  save-refused : {r : Refusal} → saveRefusal n cells (length text) ≡ some r → (refused r ≡ saveAnswer n cells text) × (text ≡ textAfter n cells text)
+  unfolding saveAnswer textAfter
+  save-refused h = (rw h, rw h)
+
+  -- 1, 2 or 3 refuses; 28 refuses; or the text is written.
+  pub bad-table : {r : Refusal} → cellsRefusal n cells ≡ some r → (refused r ≡ saveAnswer n cells text) × (text ≡ textAfter n cells text)
+  unfolding saveRefusal firstNo orElse
+  bad-table h = save-refused (simp h)
+
+  module _ (table : cellsRefusal n cells ≡ none) where
+    pub bad-room : length text < length (tableText n cells) → (refused (no 28 []) ≡ saveAnswer n cells text) × (text ≡ textAfter n cells text)
+    unfolding saveRefusal firstNo orElse
+    bad-room h = save-refused (simp (table, lt-leb _ _ h))
+
+    pub saves : length (tableText n cells) ≤ length text → saveRefusal n cells (length text) ≡ none
+    unfolding saveRefusal firstNo orElse
+    saves h = simp (table, le-leb _ _ h)
+
+    pub save-given : length (tableText n cells) ≤ length text
+        → (gives (length (tableText n cells)) ≡ saveAnswer n cells text) × (overwritten (tableText n cells) text ≡ textAfter n cells text)
+    unfolding saveAnswer textAfter
+    save-given h = (rw (saves h), rw (saves h))

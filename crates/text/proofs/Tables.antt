@@ -5,11 +5,11 @@ use mathlib.Core.List.{List, [], _∷_, _++_, map, flatMap, flatten, map-append}
 use Prim.Native.Nat.{ℕ, zero, suc, _+_, _-_, _*_, _≤_, _<_}
 use native.Mathlib.Nat.{suc-mul, mul-le-mul}
 use native.Mathlib.Omega.{arith}
-use lib.ListN.{length, take, drop, getD, length-append, length-take, length-drop, length-map}
+use lib.ListN.{length, take, drop, getD, length-append, length-take, length-drop, length-map, drop-of-length-le}
 use lib.Seq.{drop-cons, drop-drop, take-add, take-all, take-length, length-take-le, take-append-seam, drop-append-seam}
 use Rattle.semigroups.specs.Lists.{range, elements, sum}
 use Rattle.semigroups.specs.Tables.{product, Filled}
-use Rattle.semigroups.proofs.Sums.{sum-append, sum-map}
+use Rattle.semigroups.proofs.Sums.{sum-append, sum-map, sum-drop}
 use Rattle.text.specs.Decimals.{numeral}
 use Rattle.text.specs.Records.{recordText, lineText, rowsText}
 use Rattle.text.specs.Tables.{rowFields, tableText}
@@ -153,3 +153,20 @@ text-length n cells one size =
     ∙ rows-length (map (map numeral) rs) (some-rows n rs one e)
     ∙ ap₂ (λ (a : ℕ) (b : List (List ℕ)). a + sum width b) (length-map rs (map numeral) ∙ length-split n n cells) (flatten-map numeral rs ∙ ap (map numeral) all)
     ∙ ap (λ (k : ℕ). n + k) (sum-map width numeral cells)
+
+-- What is left of the length from cell k on.
+unfoldable pub widthsFrom : List ℕ → ℕ → ℕ
+widthsFrom cells k = sum (λ x. length (numeral x) + 1) (drop k cells)
+
+module _ (cells : List ℕ) where
+  pub widths-first : (n : ℕ) → Filled n cells → length (tableText n cells) ≡ n + widthsFrom cells 0
+  unfolding widthsFrom
+  widths-first n f = text-length n cells (f .order .0) (f .size)
+
+  pub widths-step : (k : ℕ) → k < length cells → widthsFrom cells k ≡ length (numeral (getD cells k 0)) + 1 + widthsFrom cells (k + 1)
+  unfolding widthsFrom
+  widths-step k h = sum-drop (λ x. length (numeral x) + 1) 0 cells k h
+
+  pub widths-end : (k : ℕ) → length cells ≤ k → widthsFrom cells k ≡ 0
+  unfolding widthsFrom sum
+  widths-end k h = rw (drop-of-length-le cells h)

@@ -47,7 +47,6 @@ room c = write-room (c .loop .inv .0) (write-room (begun (c .before)) (start-of 
 ending : (c : tie.After-loop Inv-loop μ-loop) → c .before .loop .at + 2 ≤ length (c .before .loop .text)
 ending c = room-last _ _ _ _ _ _ (c .loop-test .left) (room (c .before))
 
-
 -- src/lib.rt:320:42
 times-requires : tie.Need-times-requires Inv-loop μ-loop
 times-requires c κs =
@@ -106,9 +105,11 @@ loop-less c = omega arith
 loop-again : tie.Need-loop-again Inv-loop μ-loop
 loop-again c =
     let l = c .before .before .before .before .before .before in
-    let h = c .before .before .before .before .before .loop-test .taken in
-    (row-more _ _ _ _ _ h (c .before .before .before .times2 .ensures .0) (l .loop .inv .0) (c .before .before .put-number2 .ensures .1) (c .before .before .put-number2 .ensures .0),
-      omega arith, omega arith)
+    let h = c .before .before .before .before .before .loop-test .taken in (
+      row-more _ _ _ _ _ h (c .before .before .before .times2 .ensures .0) (l .loop .inv .0) (c .before .before .put-number2 .ensures .1) (c .before .before .put-number2 .ensures .0),
+      omega arith,
+      omega arith,
+    )
 
 -- src/lib.rt:327:5
 slice-write-text-2 : tie.Need-slice-write-text-2 Inv-loop μ-loop
