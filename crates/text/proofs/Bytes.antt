@@ -140,3 +140,8 @@ pub closed-some : (t : List ℕ) → endRefusal t ≡ none → 0 < length t
 unfolding endRefusal breakAt isBreak
 closed-some [] h = let z : _≡_ {A = ℕ} 0 1 = cc in omega arith
 closed-some (b ∷ t) h = omega arith
+
+pub ends-passes : (t : List ℕ) → 1 ≤ length t → ends t ≡ true → endRefusal t ≡ none
+unfolding endRefusal
+ends-passes [] l h = let w : ⊥ = omega arith in absurd w
+ends-passes (b ∷ t) l h = rw (sym (ends-break b t) ∙ h)

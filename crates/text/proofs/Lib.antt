@@ -13,3 +13,4 @@ pub mod Loading
 pub mod Writing
 pub mod Saving
 pub mod Tables
+pub mod Accepted

@@ -17,7 +17,7 @@ use Rattle.semigroups.proofs.Booleans.{and-left, and-right}
 use Rattle.semigroups.proofs.Tables.{orElse-none, ask-passed}
 use Rattle.text.specs.Records.{rows}
 use Rattle.text.specs.Tables.{fieldsOf, orderOf, cellsOf}
-use Rattle.text.specs.Questions.{bytesRefusal, endRefusal, fieldsRefusal, isSquare, squareRefusal, gridRefusal, loadRefusal}
+use Rattle.text.specs.Questions.{longest, bytesRefusal, endRefusal, fieldsRefusal, isSquare, squareRefusal, gridRefusal, loadRefusal}
 use Rattle.text.specs.Calls.{refused, gives, overwritten, loadAnswer, cellsAfter}
 
 -- ---- a square
@@ -126,3 +126,34 @@ module _ (t cells : List ℕ) where
   pub load-given : loadRefusal t (length cells) ≡ none → (gives (orderOf t) ≡ loadAnswer t cells) × (overwritten (cellsOf t) cells ≡ cellsAfter t cells)
   unfolding loadAnswer cellsAfter
   load-given h = (rw h, rw h)
+
+-- ---- a text that passes
+
+pub record Loadable (t : List ℕ) (size : ℕ) : Type 0 where
+  pub bytes : bytesRefusal t ≡ none
+  pub end : endRefusal t ≡ none
+  pub grid : Square (orderOf t) t
+  pub order : orderOf t ≤ 120
+  pub room : orderOf t * orderOf t ≤ size
+
+pub load-passed : (t : List ℕ) (room : ℕ) → loadRefusal t room ≡ none → Loadable t room
+unfolding loadRefusal firstNo squareRefusal
+load-passed t room h =
+    let shape = ask (isSquare (orderOf t) (rows t)) (no 26 []) in
+    let order = ask (leb (orderOf t) 120) (no 1 []) in
+    let cells = ask (leb (orderOf t * orderOf t) room) (no 27 []) in
+    let after-end = orElse (fieldsRefusal (fieldsOf t)) (orElse shape (orElse order (orElse cells none))) in
+    let a = orElse-none (ask (isElement longest (length t)) (no 20 [])) (orElse (bytesRefusal t) (orElse (endRefusal t) after-end)) h in
+    let b = orElse-none (bytesRefusal t) (orElse (endRefusal t) after-end) (a .1) in
+    let c = orElse-none (endRefusal t) after-end (b .1) in
+    let d = orElse-none (fieldsRefusal (fieldsOf t)) (orElse shape (orElse order (orElse cells none))) (c .1) in
+    let e = orElse-none shape (orElse order (orElse cells none)) (d .1) in
+    let f = orElse-none order (orElse cells none) (e .1) in
+    let g = orElse-none cells none (f .1) in
+    record {
+      bytes = b .0;
+      end = c .0;
+      grid = record { numbers = d .0; square = ask-passed (isSquare (orderOf t) (rows t)) (no 26 []) (e .0) };
+      order = leb-true (orderOf t) 120 (ask-passed (leb (orderOf t) 120) (no 1 []) (f .0));
+      room = leb-true (orderOf t * orderOf t) room (ask-passed (leb (orderOf t * orderOf t) room) (no 27 []) (g .0));
+    }
