@@ -14,3 +14,4 @@ pub mod Writing
 pub mod Saving
 pub mod Tables
 pub mod Accepted
+pub mod RoundTrips

@@ -4,3 +4,4 @@ pub mod Tables
 pub mod Questions
 pub mod Calls
 pub mod Answers
+pub mod Rounds
