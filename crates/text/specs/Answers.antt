@@ -4,7 +4,7 @@ use mathlib.Core.List.{List, [], _∷_}
 use mathlib.Core.Option.{Option, none, some}
 use Rattle.semigroups.specs.Questions.{Refusal, no}
 use Rattle.tables.specs.Answers.{faultRefusal as tableRefusal}
-use Rattle.text.specs.Calls.{Answer, refused, gives}
+use Rattle.csv.specs.Calls.{Answer, refused, gives}
 use Rattle.text.specs.declared.TextFault.{TextFault}
 use Rattle.text.specs.declared.TextFault.the-variants.{Length, Byte, End, FieldLength, LeadingZero, FieldValue, Shape, Order, Room}
 use Rattle.text.specs.declared.Judged.{Judged}

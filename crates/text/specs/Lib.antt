@@ -1,7 +1,1 @@
-pub mod Decimals
-pub mod Records
-pub mod Tables
-pub mod Questions
-pub mod Calls
 pub mod Answers
-pub mod Rounds

@@ -6,11 +6,11 @@ ghost use Prim.Native.Nat.{_+_, _≤_, _<_};
 ghost use lib.ListN.{length, drop};
 ghost use lib.Seq.{sets};
 ghost use Rattle.semigroups.specs.Tables.{Element, Filled};
-ghost use Rattle.text.specs.Decimals.{digits, value, numeral};
-ghost use Rattle.text.specs.Records.{lineText};
-ghost use Rattle.text.specs.Tables.{fieldsOf, orderOf, cellsOf, rowFields, tableText};
-ghost use Rattle.text.specs.Questions.{bytesRefusal, endRefusal, fieldRefusal, fieldsRefusal, gridRefusal};
-ghost use Rattle.text.specs.Calls.{overwritten, loadAnswer, cellsAfter, saveAnswer, textAfter};
+ghost use Rattle.csv.specs.Decimals.{digits, value, numeral};
+ghost use Rattle.csv.specs.Records.{lineText};
+ghost use Rattle.csv.specs.Tables.{fieldsOf, orderOf, cellsOf, rowFields, tableText};
+ghost use Rattle.csv.specs.Questions.{bytesRefusal, endRefusal, fieldRefusal, fieldsRefusal, gridRefusal};
+ghost use Rattle.csv.specs.Calls.{overwritten, loadAnswer, cellsAfter, saveAnswer, textAfter};
 ghost use Rattle.text.specs.Answers.{judgedRefusal, loadedAnswer, savedAnswer};
 
 // Why a text is refused.

@@ -4,8 +4,8 @@ use native.Mathlib.Omega.{arith}
 use Prim.Native.Nat.{_-_}
 use lib.ListN.{length}
 use denote.Ref.{now}
-use Rattle.text.proofs.Reading.{turn-inside}
-use Rattle.text.proofs.Judging.{Counting, count-first, count-more, count-last}
+use Rattle.csv.proofs.Reading.{turn-inside}
+use Rattle.csv.proofs.Judging.{Counting, count-first, count-more, count-last}
 use Rattle.text.proofs.columns.Statement.{statement}
 use Rattle.text.proofs.columns.Tie as tie
 use Rattle.text.proofs.columns.Reads as reads

@@ -2,7 +2,7 @@
 -- Assumes nothing.
 use mathlib.Core.Path.{_≡_, ap, sym}
 use lib.ListN.{length}
-use Rattle.text.proofs.Decimals.{numeral-one, numeral-two, numeral-three}
+use Rattle.csv.proofs.Decimals.{numeral-one, numeral-two, numeral-three}
 use Rattle.text.proofs.digit_count.Statement.{statement}
 use Rattle.text.proofs.digit_count.Tie as tie
 use Rattle.text.proofs.digit_count.Reads as reads

@@ -5,8 +5,8 @@ use Prim.Native.Nat.{_+_, _-_, _≤_}
 use mathlib.Core.Path.{_≡_, ap, _∙_}
 use lib.ListN.{length, drop}
 use denote.Ref.{now}
-use Rattle.text.specs.Decimals.{digits}
-use Rattle.text.proofs.Fields.{is-digit, below-digit, above-digit, digits-past, digits-none, digits-more}
+use Rattle.csv.specs.Decimals.{digits}
+use Rattle.csv.proofs.Fields.{is-digit, below-digit, above-digit, digits-past, digits-none, digits-more}
 use Rattle.text.proofs.digits_end.Statement.{statement}
 use Rattle.text.proofs.digits_end.Tie as tie
 use Rattle.text.proofs.digits_end.Reads as reads

@@ -5,11 +5,11 @@ use Prim.Native.Nat.{_+_, _-_, _≤_, _<_}
 use mathlib.Core.Path.{_≡_, _∙_}
 use lib.ListN.{length, drop}
 use denote.Ref.{now}
-use Rattle.text.specs.Decimals.{digits}
-use Rattle.text.specs.Tables.{cellsOf}
-use Rattle.text.proofs.Fields.{Number, field-passed}
-use Rattle.text.proofs.Reading.{Turn, turn-inside, break-inside}
-use Rattle.text.proofs.Filling.{Filling, here, fill-first, fill-done, fill-length, fill-field, fill-room, fill-comma, fill-break}
+use Rattle.csv.specs.Decimals.{digits}
+use Rattle.csv.specs.Tables.{cellsOf}
+use Rattle.csv.proofs.Fields.{Number, field-passed}
+use Rattle.csv.proofs.Reading.{Turn, turn-inside, break-inside}
+use Rattle.csv.proofs.Filling.{Filling, here, fill-first, fill-done, fill-length, fill-field, fill-room, fill-comma, fill-break}
 use Rattle.text.proofs.fill.Statement.{statement}
 use Rattle.text.proofs.fill.Tie as tie
 use Rattle.text.proofs.fill.Reads as reads

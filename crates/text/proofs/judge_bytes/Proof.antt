@@ -5,8 +5,8 @@ use Prim.Native.Nat.{_-_, _<_}
 use mathlib.Core.Path.{_≡_, sym, _∙_}
 use mathlib.Core.Bool.{false}
 use lib.ListN.{length}
-use Rattle.text.specs.Questions.{firstOther}
-use Rattle.text.proofs.Scan.{otherFrom, begun, begin, begin-clear, pass, fail, finish, digit, comma, clear, pass-pair, clear-pair, lone-last, lone-inside, low, high, other-refused, none-refused}
+use Rattle.csv.specs.Questions.{firstOther}
+use Rattle.csv.proofs.Scan.{otherFrom, begun, begin, begin-clear, pass, fail, finish, digit, comma, clear, pass-pair, clear-pair, lone-last, lone-inside, low, high, other-refused, none-refused}
 use Rattle.text.proofs.judge_bytes.Statement.{statement}
 use Rattle.text.proofs.judge_bytes.Tie as tie
 use Rattle.text.proofs.judge_bytes.Reads as reads

@@ -1,6 +1,6 @@
 -- `judge_end` answers question 22.
 -- Assumes nothing.
-use Rattle.text.proofs.Fields.{end-short, end-no-cr, end-no-lf, end-passes}
+use Rattle.csv.proofs.Fields.{end-short, end-no-cr, end-no-lf, end-passes}
 use borrow.Author.Needs.{needs}
 use Rattle.text.proofs.judge_end.Statement.{statement}
 use Rattle.text.proofs.judge_end.Tie as tie

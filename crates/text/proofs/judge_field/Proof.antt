@@ -6,8 +6,8 @@ use mathlib.Core.Path.{_≡_, sym, _∙_}
 use mathlib.Core.List.{List}
 use lib.ListN.{length, drop, getD}
 use denote.Ref.{now}
-use Rattle.text.specs.Decimals.{digits, value}
-use Rattle.text.proofs.Fields.{digit-here, digits-first, field-empty, field-long, field-zero, field-large, field-passes}
+use Rattle.csv.specs.Decimals.{digits, value}
+use Rattle.csv.proofs.Fields.{digit-here, digits-first, field-empty, field-long, field-zero, field-large, field-passes}
 use borrow.Author.Needs.{needs}
 use Rattle.text.proofs.judge_field.Statement.{statement}
 use Rattle.text.proofs.judge_field.Tie as tie

@@ -8,11 +8,11 @@ use mathlib.Core.Option.{none}
 use mathlib.Core.Logic.{⊎-elim}
 use lib.ListN.{length, drop}
 use denote.Ref.{now}
-use Rattle.text.specs.Decimals.{digits}
-use Rattle.text.specs.Questions.{fieldRefusal}
+use Rattle.csv.specs.Decimals.{digits}
+use Rattle.csv.specs.Questions.{fieldRefusal}
 use Rattle.text.specs.Answers.{judgedRefusal}
-use Rattle.text.proofs.Reading.{Turn, turn-inside, break-inside}
-use Rattle.text.proofs.Judging.{Judging, here, judge-first, judge-refused, judge-comma, judge-break, judge-uneven, says-field, end-uneven, end-many, end-square}
+use Rattle.csv.proofs.Reading.{Turn, turn-inside, break-inside}
+use Rattle.csv.proofs.Judging.{Judging, here, judge-first, judge-refused, judge-comma, judge-break, judge-uneven, says-field, end-uneven, end-many, end-square}
 use Rattle.text.proofs.judge_fields.Statement.{statement}
 use Rattle.text.proofs.judge_fields.Tie as tie
 use Rattle.text.proofs.judge_fields.Reads as reads

@@ -1,4 +1,4 @@
-use Rattle.text.specs.Calls.{gives}
+use Rattle.csv.specs.Calls.{gives}
 -- `load` asks the questions of a text in their order, and writes the cells where all pass.
 -- Assumes nothing.
 use native.Mathlib.Omega.{arith}
@@ -8,10 +8,10 @@ use mathlib.Core.Path.{_≡_, ap, sym, _∙_}
 use mathlib.Core.Option.{none}
 use lib.ListN.{length}
 use denote.Ref.{now}
-use Rattle.text.specs.Tables.{orderOf}
-use Rattle.text.specs.Questions.{bytesRefusal, endRefusal, gridRefusal}
+use Rattle.csv.specs.Tables.{orderOf}
+use Rattle.csv.specs.Questions.{bytesRefusal, endRefusal, gridRefusal}
 use Rattle.text.specs.Answers.{judgedRefusal}
-use Rattle.text.proofs.Loading.{too-short, too-long, bad-byte, bad-end, bad-grid, bad-order, bad-room, loads, load-refused, load-given, grid-passed, cells-length, square-small}
+use Rattle.csv.proofs.Loading.{too-short, too-long, bad-byte, bad-end, bad-grid, bad-order, bad-room, loads, load-refused, load-given, grid-passed, cells-length, square-small}
 use borrow.Author.Needs.{needs}
 use Rattle.text.proofs.load.Statement.{statement}
 use Rattle.text.proofs.load.Tie as tie

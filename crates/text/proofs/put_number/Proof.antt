@@ -3,8 +3,8 @@
 use mathlib.Core.Path.{_≡_, ap}
 use native.Mathlib.Omega.{arith}
 use lib.ListN.{length, length-set}
-use Rattle.text.proofs.Decimals.{numeral-one, numeral-two, numeral-three}
-use Rattle.text.proofs.Writing.{put-one, put-two, put-three}
+use Rattle.csv.proofs.Decimals.{numeral-one, numeral-two, numeral-three}
+use Rattle.csv.proofs.Writing.{put-one, put-two, put-three}
 use borrow.Author.Needs.{needs}
 use Rattle.text.proofs.put_number.Statement.{statement}
 use Rattle.text.proofs.put_number.Tie as tie

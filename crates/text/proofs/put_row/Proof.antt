@@ -6,10 +6,10 @@ use mathlib.Core.Path.{_≡_, ap, sym, _∙_}
 use mathlib.Core.List.{List}
 use lib.ListN.{length, length-set}
 use denote.Ref.{now}
-use Rattle.text.specs.Records.{lineText}
-use Rattle.text.specs.Tables.{rowFields}
-use Rattle.text.proofs.Writing.{Writing, write-first, write-length, write-room}
-use Rattle.text.proofs.Saving.{fieldsLeft, row-begun, row-more, row-done, room-first, room-next, room-comma, room-last}
+use Rattle.csv.specs.Records.{lineText}
+use Rattle.csv.specs.Tables.{rowFields}
+use Rattle.csv.proofs.Writing.{Writing, write-first, write-length, write-room}
+use Rattle.csv.proofs.Saving.{fieldsLeft, row-begun, row-more, row-done, room-first, room-next, room-comma, room-last}
 use Rattle.text.proofs.put_row.Statement.{statement}
 use Rattle.text.proofs.put_row.Tie as tie
 use Rattle.text.proofs.put_row.Reads as reads

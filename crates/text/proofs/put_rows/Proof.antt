@@ -5,9 +5,9 @@ use Prim.Native.Nat.{ℕ, _+_, _-_, _≤_}
 use mathlib.Core.Path.{_≡_, ap, sym, _∙_}
 use lib.ListN.{length}
 use denote.Ref.{now}
-use Rattle.text.specs.Tables.{tableText}
-use Rattle.text.proofs.Writing.{Writing, write-length, write-room, sets-overwritten}
-use Rattle.text.proofs.Saving.{rowsLeft, rows-begun, rows-more, rows-done, rows-room}
+use Rattle.csv.specs.Tables.{tableText}
+use Rattle.csv.proofs.Writing.{Writing, write-length, write-room, sets-overwritten}
+use Rattle.csv.proofs.Saving.{rowsLeft, rows-begun, rows-more, rows-done, rows-room}
 use Rattle.text.proofs.put_rows.Statement.{statement}
 use Rattle.text.proofs.put_rows.Tie as tie
 use Rattle.text.proofs.put_rows.Reads as reads

@@ -7,9 +7,9 @@ use mathlib.Core.Bool.{true}
 use mathlib.Core.List.{[]}
 use lib.ListN.{length, drop, getD}
 use denote.Ref.{now}
-use Rattle.text.specs.Decimals.{isDigit, digits, value, valueFrom}
-use Rattle.text.proofs.Fields.{empty, digit-here, digits-more, bound-more, bound-two}
-use Rattle.text.proofs.Rows.{digit-range}
+use Rattle.csv.specs.Decimals.{isDigit, digits, value, valueFrom}
+use Rattle.csv.proofs.Fields.{empty, digit-here, digits-more, bound-more, bound-two}
+use Rattle.csv.proofs.Rows.{digit-range}
 use Rattle.text.proofs.read_number.Statement.{statement}
 use Rattle.text.proofs.read_number.Tie as tie
 use Rattle.text.proofs.read_number.Reads as reads

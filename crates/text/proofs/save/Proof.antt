@@ -7,8 +7,8 @@ use denote.Ref.{now}
 use Rattle.semigroups.specs.Questions.{cellsRefusal}
 use Rattle.semigroups.proofs.Tables.{filled}
 use Rattle.tables.specs.Answers.{verdictRefusal}
-use Rattle.text.specs.Calls.{gives}
-use Rattle.text.proofs.Saving.{bad-table, bad-room, save-given}
+use Rattle.csv.specs.Calls.{gives}
+use Rattle.csv.proofs.Saving.{bad-table, bad-room, save-given}
 use borrow.Author.Needs.{needs}
 use Rattle.text.proofs.save.Statement.{statement}
 use Rattle.text.proofs.save.Tie as tie

@@ -5,11 +5,11 @@ use Prim.Native.Nat.{ℕ, _+_, _-_, _*_, _≤_, _<_}
 use mathlib.Core.Path.{_≡_, sym, _∙_}
 use lib.ListN.{length, getD}
 use denote.Ref.{now}
-use Rattle.text.specs.Tables.{tableText}
-use Rattle.text.specs.Decimals.{numeral}
-use Rattle.text.proofs.Decimals.{digits-few}
-use Rattle.text.proofs.Loading.{square-small}
-use Rattle.text.proofs.Tables.{widthsFrom, widths-first, widths-step, widths-end}
+use Rattle.csv.specs.Tables.{tableText}
+use Rattle.csv.specs.Decimals.{numeral}
+use Rattle.csv.proofs.Decimals.{digits-few}
+use Rattle.csv.proofs.Loading.{square-small}
+use Rattle.csv.proofs.Tables.{widthsFrom, widths-first, widths-step, widths-end}
 use Rattle.text.proofs.text_length.Statement.{statement}
 use Rattle.text.proofs.text_length.Tie as tie
 use Rattle.text.proofs.text_length.Reads as reads

@@ -5,8 +5,8 @@ use mathlib.Core.Option.{Option, none, some}
 use Prim.Native.Nat.{ℕ}
 use lib.ListN.{length, drop}
 use Rattle.semigroups.specs.Questions.{Refusal}
-use Rattle.text.specs.Tables.{orderOf, cellsOf, tableText}
-use Rattle.text.specs.Questions.{loadRefusal, saveRefusal}
+use Rattle.csv.specs.Tables.{orderOf, cellsOf, tableText}
+use Rattle.csv.specs.Questions.{loadRefusal, saveRefusal}
 
 -- What a call says: the earliest failed question, or the number asked for.
 pub data Answer : Type 0 where

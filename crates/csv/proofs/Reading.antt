@@ -12,11 +12,11 @@ use lib.Dec.{leb}
 use borrow.Author.Tests.{leb-true, leb-false}
 use lib.ListN.{length, getD, drop, length-append, length-drop, drop-of-length-le}
 use lib.Seq.{drop-drop, drop-append-seam, getD-drop, getD-append-seam}
-use Rattle.text.specs.Decimals.{isDigit, digits}
-use Rattle.text.specs.Records.{rows, recordText, rowsText}
-use Rattle.text.specs.Questions.{bytesRefusal, endRefusal}
-use Rattle.text.proofs.Bytes.{other-clean, no-other, closed}
-use Rattle.text.proofs.Rows.{Digits, Row, Rows, rowsText-cons, rowsText-rows, clean-rows}
+use Rattle.csv.specs.Decimals.{isDigit, digits}
+use Rattle.csv.specs.Records.{rows, recordText, rowsText}
+use Rattle.csv.specs.Questions.{bytesRefusal, endRefusal}
+use Rattle.csv.proofs.Bytes.{other-clean, no-other, closed}
+use Rattle.csv.proofs.Rows.{Digits, Row, Rows, rowsText-cons, rowsText-rows, clean-rows}
 
 -- The rows that are left from a place on.
 pub record Left (t : List ℕ) (at : ℕ) (rs : List (List (List ℕ))) : Type 0 where

@@ -11,12 +11,12 @@ use lib.ListN.{length, getD, drop}
 use borrow.Author.Tests.{eq-eqb, ne-eqb, not-true, not-false}
 use Rattle.semigroups.specs.Lists.{all}
 use Rattle.semigroups.specs.Questions.{Refusal, no, ask, firstNo}
-use Rattle.text.specs.Decimals.{digits}
-use Rattle.text.specs.Records.{rows}
-use Rattle.text.specs.Tables.{fieldsOf, orderOf}
-use Rattle.text.specs.Questions.{bytesRefusal, endRefusal, fieldRefusal, fieldsRefusal, isSquare, squareRefusal, gridRefusal}
-use Rattle.text.proofs.Bytes.{closed-some}
-use Rattle.text.proofs.Reading.{Left, Turn, comma, line-break, turn, left-none, left-some, all-left}
+use Rattle.csv.specs.Decimals.{digits}
+use Rattle.csv.specs.Records.{rows}
+use Rattle.csv.specs.Tables.{fieldsOf, orderOf}
+use Rattle.csv.specs.Questions.{bytesRefusal, endRefusal, fieldRefusal, fieldsRefusal, isSquare, squareRefusal, gridRefusal}
+use Rattle.csv.proofs.Bytes.{closed-some}
+use Rattle.csv.proofs.Reading.{Left, Turn, comma, line-break, turn, left-none, left-some, all-left}
 
 -- ---- the order
 

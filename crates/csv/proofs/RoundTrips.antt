@@ -13,14 +13,14 @@ use borrow.Author.Tests.{leb-true}
 use Rattle.semigroups.specs.Tables.{Filled}
 use Rattle.semigroups.specs.Questions.{Refusal, no, ask, firstNo, cellsRefusal}
 use Rattle.semigroups.proofs.Tables.{orElse-none, ask-passed, filled, no-cells-refusal}
-use Rattle.text.specs.Tables.{orderOf, cellsOf, tableText}
-use Rattle.text.specs.Questions.{loadRefusal, saveRefusal}
-use Rattle.text.specs.Calls.{Answer, refused, gives, givenUnless, overwritten, loadAnswer, cellsAfter, saveAnswer, textAfter}
-use Rattle.text.specs.Rounds.{Desk, given, held, saved, loadedOrder, loadedCells, round, rounds}
-use Rattle.text.proofs.Buffers.{overwritten-length}
-use Rattle.text.proofs.Loading.{Loadable, load-passed, load-given, cells-length}
-use Rattle.text.proofs.Saving.{save-given}
-use Rattle.text.proofs.Accepted.{table-cells, table-order, table-loads, text-back, text-filled}
+use Rattle.csv.specs.Tables.{orderOf, cellsOf, tableText}
+use Rattle.csv.specs.Questions.{loadRefusal, saveRefusal}
+use Rattle.csv.specs.Calls.{Answer, refused, gives, givenUnless, overwritten, loadAnswer, cellsAfter, saveAnswer, textAfter}
+use Rattle.csv.specs.Rounds.{Desk, given, held, saved, loadedOrder, loadedCells, round, rounds}
+use Rattle.csv.proofs.Buffers.{overwritten-length}
+use Rattle.csv.proofs.Loading.{Loadable, load-passed, load-given, cells-length}
+use Rattle.csv.proofs.Saving.{save-given}
+use Rattle.csv.proofs.Accepted.{table-cells, table-order, table-loads, text-back, text-filled}
 
 -- ---- what an answer other than a refusal shows
 

@@ -7,8 +7,8 @@ use Prim.Native.Nat.{ℕ}
 use native.Mathlib.Omega.{arith}
 use lib.Dec.{eqb}
 use borrow.Author.Tests.{eqb-true, ne-eqb}
-use Rattle.text.specs.Records.{isBreak, onto, records, fields, rows, recordText, rowsText}
-use Rattle.text.proofs.Every.{Every}
+use Rattle.csv.specs.Records.{isBreak, onto, records, fields, rows, recordText, rowsText}
+use Rattle.csv.proofs.Every.{Every}
 
 -- ---- fields
 

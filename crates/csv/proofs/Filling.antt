@@ -8,14 +8,14 @@ use Prim.Native.Nat.{ℕ, zero, suc, _+_, _-_, _≤_, _<_}
 use native.Mathlib.Omega.{arith}
 use lib.ListN.{length, getD, drop, set, length-append, length-map}
 use Rattle.semigroups.specs.Questions.{Refusal, no, ask, firstNo}
-use Rattle.text.specs.Decimals.{digits, value}
-use Rattle.text.specs.Records.{rows}
-use Rattle.text.specs.Tables.{fieldsOf, cellsOf}
-use Rattle.text.specs.Questions.{bytesRefusal, endRefusal, fieldRefusal, fieldsRefusal}
-use Rattle.text.specs.Calls.{overwritten}
-use Rattle.text.proofs.Reading.{Left, Turn, comma, line-break, turn, left-none, all-left}
-use Rattle.text.proofs.Buffers.{overwritten-length, overwritten-next}
-use Rattle.text.proofs.Fields.{fields-passed}
+use Rattle.csv.specs.Decimals.{digits, value}
+use Rattle.csv.specs.Records.{rows}
+use Rattle.csv.specs.Tables.{fieldsOf, cellsOf}
+use Rattle.csv.specs.Questions.{bytesRefusal, endRefusal, fieldRefusal, fieldsRefusal}
+use Rattle.csv.specs.Calls.{overwritten}
+use Rattle.csv.proofs.Reading.{Left, Turn, comma, line-break, turn, left-none, all-left}
+use Rattle.csv.proofs.Buffers.{overwritten-length, overwritten-next}
+use Rattle.csv.proofs.Fields.{fields-passed}
 
 pub record Filling (t before cells : List ℕ) (at k : ℕ) : Type 0 where
   pub rest : List (List (List ℕ))

@@ -3,7 +3,7 @@
 use mathlib.Core.List.{List}
 use Prim.Native.Nat.{ℕ, zero, suc, _*_}
 use lib.ListN.{take}
-use Rattle.text.specs.Calls.{Answer, refused, gives, loadAnswer, cellsAfter, saveAnswer, textAfter}
+use Rattle.csv.specs.Calls.{Answer, refused, gives, loadAnswer, cellsAfter, saveAnswer, textAfter}
 
 -- The two buffers, and how many bytes of the first are the text.
 pub record Desk : Type 0 where

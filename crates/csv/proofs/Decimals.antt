@@ -9,9 +9,9 @@ use native.Mathlib.Nat.{mod-lt}
 use lib.Dec.{leb, ltb}
 use lib.ListN.{length, getD, length-append}
 use borrow.Author.Tests.{le-leb, lt-ltb, le-ltb, ltb-true, ltb-false}
-use Rattle.text.specs.Decimals.{isDigit, valueFrom, value, numeralWithin, numeral}
-use Rattle.text.proofs.Every.{Every, every-append}
-use Rattle.text.proofs.Rows.{Digits, digit-range}
+use Rattle.csv.specs.Decimals.{isDigit, valueFrom, value, numeralWithin, numeral}
+use Rattle.csv.proofs.Every.{Every, every-append}
+use Rattle.csv.proofs.Rows.{Digits, digit-range}
 
 -- ---- by the number of digits
 

@@ -11,10 +11,10 @@ use lib.Dec.{eqb}
 use lib.ListN.{length, getD, List·getD-eq-default}
 use borrow.Author.Tests.{le-leb, lt-leb, ne-eqb}
 use Rattle.semigroups.specs.Lists.{range, find}
-use Rattle.text.specs.Decimals.{isDigit}
-use Rattle.text.specs.Records.{isBreak}
+use Rattle.csv.specs.Decimals.{isDigit}
+use Rattle.csv.specs.Records.{isBreak}
 use Rattle.semigroups.specs.Questions.{no}
-use Rattle.text.specs.Questions.{breakAt, inBreak, isAllowed, firstOther, bytesRefusal}
+use Rattle.csv.specs.Questions.{breakAt, inBreak, isAllowed, firstOther, bytesRefusal}
 
 -- The first other byte from place i on.
 unfoldable pub otherFrom : List ℕ → ℕ → Option ℕ

@@ -14,19 +14,19 @@ use Rattle.semigroups.specs.Lists.{elements, sum, all}
 use Rattle.semigroups.specs.Tables.{Element, Filled}
 use Rattle.semigroups.specs.Questions.{Refusal, no, ask, firstNo}
 use Rattle.semigroups.proofs.Booleans.{both, and-left, and-right}
-use Rattle.text.specs.Decimals.{numeral, value}
-use Rattle.text.specs.Records.{rows, rowsText}
-use Rattle.text.specs.Tables.{fieldsOf, orderOf, cellsOf, rowFields, tableText}
-use Rattle.text.specs.Questions.{bytesRefusal, endRefusal, fieldRefusal, fieldsRefusal, isSquare, squareRefusal, gridRefusal, loadRefusal}
-use Rattle.text.proofs.Every.{Every, every-append}
-use Rattle.text.proofs.Bytes.{clean, clean-other, other-clean, no-other, closed, closed-some, ends-passes}
-use Rattle.text.proofs.Scan.{none-refused}
-use Rattle.text.proofs.Rows.{Digits, Row, Rows, rows-rowsText, rowsText-rows, clean-rows, rowsText-clean, rowsText-ends}
-use Rattle.text.proofs.Decimals.{numeral-one, numeral-digits, numeral-long, numeral-leading, digits-few, value-numeral, numeral-value}
-use Rattle.text.proofs.Fields.{Number, field-passes, field-passed, fields-passed}
-use Rattle.text.proofs.Records.{ends}
-use Rattle.text.proofs.Tables.{split, Even, length-split, split-even, flatten-split, split-flatten, table-rows, flatten-map, text-length}
-use Rattle.text.proofs.Loading.{Square, Loadable, square-small, cells-length, loads}
+use Rattle.csv.specs.Decimals.{numeral, value}
+use Rattle.csv.specs.Records.{rows, rowsText}
+use Rattle.csv.specs.Tables.{fieldsOf, orderOf, cellsOf, rowFields, tableText}
+use Rattle.csv.specs.Questions.{bytesRefusal, endRefusal, fieldRefusal, fieldsRefusal, isSquare, squareRefusal, gridRefusal, loadRefusal}
+use Rattle.csv.proofs.Every.{Every, every-append}
+use Rattle.csv.proofs.Bytes.{clean, clean-other, other-clean, no-other, closed, closed-some, ends-passes}
+use Rattle.csv.proofs.Scan.{none-refused}
+use Rattle.csv.proofs.Rows.{Digits, Row, Rows, rows-rowsText, rowsText-rows, clean-rows, rowsText-clean, rowsText-ends}
+use Rattle.csv.proofs.Decimals.{numeral-one, numeral-digits, numeral-long, numeral-leading, digits-few, value-numeral, numeral-value}
+use Rattle.csv.proofs.Fields.{Number, field-passes, field-passed, fields-passed}
+use Rattle.csv.proofs.Records.{ends}
+use Rattle.csv.proofs.Tables.{split, Even, length-split, split-even, flatten-split, split-flatten, table-rows, flatten-map, text-length}
+use Rattle.csv.proofs.Loading.{Square, Loadable, square-small, cells-length, loads}
 
 -- ---- the length of a table's text
 

@@ -14,10 +14,10 @@ use Rattle.semigroups.specs.Questions.{no}
 use Rattle.semigroups.proofs.Booleans.{both, and-left, and-right, not-of-true}
 use Rattle.semigroups.proofs.Lists.{mem-range, range-mem, find-none, none-find}
 use Rattle.semigroups.proofs.Tables.{ask-passed, map-none}
-use Rattle.text.specs.Decimals.{isDigit}
-use Rattle.text.specs.Records.{isBreak}
-use Rattle.text.specs.Questions.{breakAt, inBreak, isAllowed, firstOther, bytesRefusal, endRefusal}
-use Rattle.text.proofs.Records.{ends, break-bytes}
+use Rattle.csv.specs.Decimals.{isDigit}
+use Rattle.csv.specs.Records.{isBreak}
+use Rattle.csv.specs.Questions.{breakAt, inBreak, isAllowed, firstOther, bytesRefusal, endRefusal}
+use Rattle.csv.proofs.Records.{ends, break-bytes}
 
 -- ---- the last line break
 

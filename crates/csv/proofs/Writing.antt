@@ -7,9 +7,9 @@ use native.Mathlib.Numerals.{add-one, add-two}
 use native.Mathlib.Omega.{arith}
 use lib.ListN.{length, drop, set, length-append}
 use lib.Seq.{sets, length-sets, sets-eq}
-use Rattle.text.specs.Decimals.{numeral}
-use Rattle.text.specs.Calls.{overwritten}
-use Rattle.text.proofs.Decimals.{numeral-one, numeral-two, numeral-three}
+use Rattle.csv.specs.Decimals.{numeral}
+use Rattle.csv.specs.Calls.{overwritten}
+use Rattle.csv.proofs.Decimals.{numeral-one, numeral-two, numeral-three}
 
 sets-append : (b : List ℕ) (i : ℕ) (p q : List ℕ) → sets b i (p ++ q) ≡ sets (sets b i p) (i + length p) q
 sets-append b i [] q = let e : i + 0 ≡ i = omega arith in rw e

@@ -10,10 +10,10 @@ use lib.Seq.{drop-cons, drop-drop, take-add, take-all, take-length, length-take-
 use Rattle.semigroups.specs.Lists.{range, elements, sum}
 use Rattle.semigroups.specs.Tables.{product, Filled}
 use Rattle.semigroups.proofs.Sums.{sum-append, sum-map, sum-drop}
-use Rattle.text.specs.Decimals.{numeral}
-use Rattle.text.specs.Records.{recordText, lineText, rowsText}
-use Rattle.text.specs.Tables.{rowFields, tableText}
-use Rattle.text.proofs.Every.{Every}
+use Rattle.csv.specs.Decimals.{numeral}
+use Rattle.csv.specs.Records.{recordText, lineText, rowsText}
+use Rattle.csv.specs.Tables.{rowFields, tableText}
+use Rattle.csv.proofs.Every.{Every}
 
 -- ---- cells cut into rows
 

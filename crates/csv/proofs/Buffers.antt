@@ -6,7 +6,7 @@ use Prim.Native.Nat.{ℕ, suc, _+_, _-_, _≤_, _<_}
 use native.Mathlib.Omega.{arith}
 use lib.ListN.{length, drop, set, length-append, length-drop}
 use lib.Seq.{drop-cons, set-append-seam}
-use Rattle.text.specs.Calls.{overwritten}
+use Rattle.csv.specs.Calls.{overwritten}
 
 pub overwritten-length : (w b : List ℕ) → length w ≤ length b → length (overwritten w b) ≡ length b
 overwritten-length w b h = simp (length-append, length-drop) (omega arith)

@@ -16,9 +16,9 @@ use Rattle.semigroups.specs.Tables.{isElement}
 use Rattle.semigroups.specs.Questions.{Refusal, no, ask, firstNo}
 use Rattle.semigroups.proofs.Booleans.{and-left, and-right}
 use Rattle.semigroups.proofs.Tables.{orElse-none, ask-passed}
-use Rattle.text.specs.Decimals.{isDigit, digits, valueFrom, value}
-use Rattle.text.specs.Records.{isBreak}
-use Rattle.text.specs.Questions.{breakAt, endRefusal, fieldRefusal, fieldsRefusal}
+use Rattle.csv.specs.Decimals.{isDigit, digits, valueFrom, value}
+use Rattle.csv.specs.Records.{isBreak}
+use Rattle.csv.specs.Questions.{breakAt, endRefusal, fieldRefusal, fieldsRefusal}
 
 -- ---- the digits at a place
 

@@ -11,9 +11,9 @@ use lib.ListN.{length, getD}
 use Rattle.semigroups.specs.Lists.{range, all, find}
 use Rattle.semigroups.specs.Tables.{isElement}
 use Rattle.semigroups.specs.Questions.{Refusal, no, ask, firstNo, cellsRefusal}
-use Rattle.text.specs.Decimals.{isDigit, value}
-use Rattle.text.specs.Records.{isBreak, rows}
-use Rattle.text.specs.Tables.{fieldsOf, orderOf, tableText}
+use Rattle.csv.specs.Decimals.{isDigit, value}
+use Rattle.csv.specs.Records.{isBreak, rows}
+use Rattle.csv.specs.Tables.{fieldsOf, orderOf, tableText}
 
 -- The most bytes that a text may have: those of a table of order 120 whose cells all take three digits.
 abbrev pub longest : ℕ

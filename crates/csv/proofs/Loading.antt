@@ -15,10 +15,10 @@ use Rattle.semigroups.specs.Tables.{isElement}
 use Rattle.semigroups.specs.Questions.{Refusal, no, ask, firstNo}
 use Rattle.semigroups.proofs.Booleans.{and-left, and-right}
 use Rattle.semigroups.proofs.Tables.{orElse-none, ask-passed}
-use Rattle.text.specs.Records.{rows}
-use Rattle.text.specs.Tables.{fieldsOf, orderOf, cellsOf}
-use Rattle.text.specs.Questions.{longest, bytesRefusal, endRefusal, fieldsRefusal, isSquare, squareRefusal, gridRefusal, loadRefusal}
-use Rattle.text.specs.Calls.{refused, gives, overwritten, loadAnswer, cellsAfter}
+use Rattle.csv.specs.Records.{rows}
+use Rattle.csv.specs.Tables.{fieldsOf, orderOf, cellsOf}
+use Rattle.csv.specs.Questions.{longest, bytesRefusal, endRefusal, fieldsRefusal, isSquare, squareRefusal, gridRefusal, loadRefusal}
+use Rattle.csv.specs.Calls.{refused, gives, overwritten, loadAnswer, cellsAfter}
 
 -- ---- a square
 

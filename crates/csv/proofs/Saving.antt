@@ -12,12 +12,12 @@ use lib.Seq.{sets}
 use Rattle.semigroups.specs.Lists.{range, elements}
 use Rattle.semigroups.specs.Tables.{product}
 use Rattle.semigroups.specs.Questions.{Refusal, no, firstNo, cellsRefusal}
-use Rattle.text.specs.Decimals.{numeral}
-use Rattle.text.specs.Records.{recordText, lineText, rowsText}
-use Rattle.text.specs.Tables.{rowFields, tableText}
-use Rattle.text.specs.Questions.{saveRefusal}
-use Rattle.text.specs.Calls.{refused, gives, overwritten, saveAnswer, textAfter}
-use Rattle.text.proofs.Writing.{Writing, write-first, write-next, write-last, sets-overwritten}
+use Rattle.csv.specs.Decimals.{numeral}
+use Rattle.csv.specs.Records.{recordText, lineText, rowsText}
+use Rattle.csv.specs.Tables.{rowFields, tableText}
+use Rattle.csv.specs.Questions.{saveRefusal}
+use Rattle.csv.specs.Calls.{refused, gives, overwritten, saveAnswer, textAfter}
+use Rattle.csv.proofs.Writing.{Writing, write-first, write-next, write-last, sets-overwritten}
 
 elements-first : (n : ℕ) → 1 ≤ n → elements n ≡ 1 ∷ range 2 (n + 1 - 2)
 unfolding elements range

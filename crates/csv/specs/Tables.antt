@@ -5,8 +5,8 @@ use Prim.Native.Nat.{ℕ}
 use lib.ListN.{length, getD}
 use Rattle.semigroups.specs.Lists.{elements}
 use Rattle.semigroups.specs.Tables.{product}
-use Rattle.text.specs.Decimals.{value, numeral}
-use Rattle.text.specs.Records.{rows, rowsText}
+use Rattle.csv.specs.Decimals.{value, numeral}
+use Rattle.csv.specs.Records.{rows, rowsText}
 
 -- The fields of a text in reading order.
 unfoldable pub fieldsOf : List ℕ → List (List ℕ)
