@@ -2,22 +2,22 @@
 -- its order saves to the same bytes; so loading and saving again, however often, changes no byte.
 -- Assumes nothing.
 use mathlib.Core.Path.{_≡_, refl, ap, sym, _∙_, subst₂}
-use mathlib.Core.List.{List, [], _∷_, _++_}
+use mathlib.Core.List.{List, []}
 use mathlib.Core.Option.{Option, none, some, orElse}
-use Prim.Native.Nat.{ℕ, zero, suc, _+_, _-_, _*_, _≤_, _<_}
+use Prim.Native.Nat.{ℕ, zero, suc, _*_, _≤_, _<_}
 use native.Mathlib.Omega.{arith}
 use lib.Dec.{leb}
 use lib.ListN.{length, getD, take, drop, List·getD-append}
-use lib.Seq.{take-at, drop-append-seam, take-append-seam}
+use lib.Seq.{take-at}
 use borrow.Author.Tests.{leb-true}
 use Rattle.semigroups.specs.Tables.{Filled}
 use Rattle.semigroups.specs.Questions.{Refusal, no, ask, firstNo, cellsRefusal}
 use Rattle.semigroups.proofs.Tables.{orElse-none, ask-passed, filled, no-cells-refusal}
 use Rattle.csv.specs.Tables.{orderOf, cellsOf, tableText}
 use Rattle.csv.specs.Questions.{loadRefusal, saveRefusal}
-use Rattle.csv.specs.Calls.{Answer, refused, gives, givenUnless, overwritten, loadAnswer, cellsAfter, saveAnswer, textAfter}
+use Rattle.csv.specs.Calls.{refused, gives, givenUnless, overwritten, loadAnswer, cellsAfter, saveAnswer, textAfter}
 use Rattle.csv.specs.Rounds.{Desk, given, held, saved, loadedOrder, loadedCells, round, rounds}
-use Rattle.csv.proofs.Buffers.{overwritten-length}
+use Rattle.csv.proofs.Writing.{overwritten-length, overwritten-twice}
 use Rattle.csv.proofs.Loading.{Loadable, load-passed, load-given, cells-length}
 use Rattle.csv.proofs.Saving.{save-given}
 use Rattle.csv.proofs.Accepted.{table-cells, table-order, table-loads, text-back, text-filled}
@@ -135,9 +135,6 @@ pub record Unchanged (n : ℕ) (cells : List ℕ) (first d : Desk) : Type 0 wher
   pub length : d .length ≡ first .length
   pub order : loadAnswer (held d) (d .cells) ≡ gives n
   pub cells-same : loadedCells d ≡ cells
-
-overwritten-twice : (w b : List ℕ) → overwritten w (overwritten w b) ≡ overwritten w b
-overwritten-twice w b = ap (λ (l : List ℕ). w ++ l) (drop-append-seam w (drop (length w) b))
 
 module _ (n : ℕ) (cells before : List ℕ) (f : Filled n cells) (fits : length (tableText n cells) ≤ length before) where
   -- Saving over any buffer that holds the text leaves it as it is.

@@ -3,10 +3,10 @@
 use mathlib.Core.Path.{_≡_, refl, ap, ap₂, sym, _∙_}
 use mathlib.Core.List.{List, [], _∷_, _++_, map, flatMap, flatten, map-append}
 use Prim.Native.Nat.{ℕ, zero, suc, _+_, _-_, _*_, _≤_, _<_}
-use native.Mathlib.Nat.{suc-mul, mul-le-mul}
+use native.Mathlib.Nat.{suc-mul}
 use native.Mathlib.Omega.{arith}
-use lib.ListN.{length, take, drop, getD, length-append, length-take, length-drop, length-map, drop-of-length-le}
-use lib.Seq.{drop-cons, drop-drop, take-add, take-all, take-length, length-take-le, take-append-seam, drop-append-seam}
+use lib.ListN.{length, take, drop, getD, length-append, length-drop, length-map, drop-of-length-le}
+use lib.Seq.{drop-cons, drop-drop, take-add, take-all, length-take-le, take-append-seam, drop-append-seam}
 use Rattle.semigroups.specs.Lists.{range, elements, sum}
 use Rattle.semigroups.specs.Tables.{product, Filled}
 use Rattle.semigroups.proofs.Sums.{sum-append, sum-map, sum-drop}

@@ -2,9 +2,9 @@
 -- Stricter than RFC 4180, by 01, "About loading a text": a length limit (20), no byte but digits, commas and line breaks, so no header, no
 -- quoted field and no space (21), the last record closed too (22), decimal fields of 1 to 120 with no leading 0 (23 to 25), a square (26).
 -- Assumes nothing.
-use mathlib.Core.Bool.{Bool, true, false, _&&_, _||_, not}
+use mathlib.Core.Bool.{Bool, _&&_, _||_, not}
 use mathlib.Core.List.{List, [], _∷_, map}
-use mathlib.Core.Option.{Option, none, some, Option·map}
+use mathlib.Core.Option.{Option, Option·map}
 use Prim.Native.Nat.{ℕ, zero, suc, _-_, _*_}
 use lib.Dec.{eqb, leb}
 use lib.ListN.{length, getD}

@@ -3,7 +3,7 @@
 -- Stricter than RFC 4180 by 01, "Text": there is no header and no quoted field. That the last record is closed too is question 22 and not part
 -- of what the records of a text are.
 -- Assumes nothing.
-use mathlib.Core.Bool.{Bool, true, false, _&&_, cond}
+use mathlib.Core.Bool.{Bool, _&&_, cond}
 use mathlib.Core.List.{List, [], _∷_, _++_, map, flatMap}
 use Prim.Native.Nat.{ℕ}
 use lib.Dec.{eqb}

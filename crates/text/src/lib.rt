@@ -41,7 +41,7 @@ pub enum Saved {
 }
 
 // Whether some of the questions about a text pass.
-pub enum Judged {
+enum Judged {
     Passed,
     Failed(TextFault),
 }
