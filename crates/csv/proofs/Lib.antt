@@ -14,3 +14,4 @@ pub mod Tables
 pub mod Saving
 pub mod Accepted
 pub mod RoundTrips
+pub mod Examples

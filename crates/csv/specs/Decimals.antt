@@ -23,7 +23,7 @@ valueFrom v (b ∷ f) = valueFrom (v * 10 + (b - 48)) f
 unfoldable pub value : List ℕ → ℕ
 value f = valueFrom 0 f
 
--- The last d decimal digits of k with no leading 0: where k has at most d digits, its decimal number.
+-- The decimal number of k with no leading 0, where k has at most d digits. Of a larger k, which no cell is, its last d digits.
 unfoldable pub numeralWithin : ℕ → ℕ → List ℕ
 numeralWithin zero k = []
 numeralWithin (suc d) k = let r = numeralWithin d (k / 10) in cond (ltb k 10) [] r ++ (48 + k % 10) ∷ []
