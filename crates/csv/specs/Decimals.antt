@@ -14,7 +14,7 @@ unfoldable pub digits : List ℕ → List ℕ
 digits [] = []
 digits (b ∷ t) = let r = digits t in cond (isDigit b) (b ∷ r) []
 
--- The number that digits go on to where those before them make v.
+-- The number that v and the digits behind it make.
 unfoldable pub valueFrom : ℕ → List ℕ → ℕ
 valueFrom v [] = v
 valueFrom v (b ∷ f) = valueFrom (v * 10 + (b - 48)) f
