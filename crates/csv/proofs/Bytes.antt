@@ -128,7 +128,7 @@ clean-other t h =
 
 pub no-other : (t : List ℕ) → bytesRefusal t ≡ none → firstOther t ≡ none
 unfolding bytesRefusal
-no-other t h = map-none (λ p. no 21 (p ∷ [])) (firstOther t) h
+no-other t h = map-none _ (firstOther t) h
 
 -- Question 22 passes: the text ends in a line break.
 pub closed : (t : List ℕ) → endRefusal t ≡ none → ends t ≡ true

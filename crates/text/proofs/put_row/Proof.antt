@@ -70,7 +70,10 @@ add-put-number c = omega (arith, room-comma _ _ _ _ _ _ (c .before .loop-test .t
 times-requires-2 : tie.Need-times-requires-2 Inv-loop μ-loop
 times-requires-2 c κs =
     let s = start-of (c .before .before .before) in
-    (s .pre .0, (s .pre .1 .0, (let e = c .before .before .loop .inv .1 in omega arith, c .before .loop-test .taken)))
+    let row = s .pre .1 .0 in
+    let column = c .before .before .loop .inv .1 in
+    let last = c .before .loop-test .taken in
+    (s .pre .0, (omega arith, omega arith))
 
 put-number-requires-2 : tie.Need-put-number-requires-2 Inv-loop μ-loop
 put-number-requires-2 c κs =
