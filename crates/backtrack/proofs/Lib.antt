@@ -1,1 +1,4 @@
 pub mod Marks
+pub mod Placing
+pub mod Noting
+pub mod Steps

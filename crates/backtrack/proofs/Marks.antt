@@ -17,7 +17,7 @@ use Rattle.semigroups.specs.Search.{fits, passes}
 use Rattle.semigroups.proofs.Booleans.{either, clash, untrue, same-truth, both, and-left, and-right, or-holds}
 use Rattle.semigroups.proofs.Lists.{each-at, each-of, pairs-at, pairs-of, at-front, at-seam, length-snoc, not-member}
 use Rattle.semigroups.proofs.NoRepeats.{place-mem}
-use Rattle.backtrack.specs.Marks.{allows, merge, imageProduct, asks, agreeOn, cross, newFits, Reads}
+use Rattle.backtrack.specs.Marks.{allows, merge, noted, imageProduct, asks, agreeOn, cross, newFits, Reads}
 
 -- ---- one more value asked
 
@@ -35,7 +35,7 @@ merge-allows v y₀ y lo hi =
 
 -- Marks after one more pair, which asks y₀ of c₀.
 pub note-reads : (marks : List ℕ) (q : ℕ → ℕ → Bool) (c₀ y₀ : ℕ) → length marks ≡ 121 → Element 120 c₀ → Element 120 y₀ → Reads marks q
-    → Reads (set marks c₀ (merge (getD marks c₀ 0) y₀)) (λ c y. q c y && (not (eqb c₀ c) || eqb y₀ y))
+    → Reads (noted marks c₀ y₀) (λ c y. q c y && (not (eqb c₀ c) || eqb y₀ y))
 note-reads marks q c₀ y₀ l hc hy R c y hc′ hy′ =
     elim (eqb c₀ c) as (λ w. eqb c₀ c ≡ w → allows (getD (set marks c₀ (merge (getD marks c₀ 0) y₀)) c 0) y ≡ (q c y && (not w || eqb y₀ y))) [
       | true ↦ (λ e.
@@ -102,7 +102,7 @@ asked u v c y e q = ⊎-elim (λ h. absurd (eqb-false u c (not-true (eqb u c) h)
 asking : (u v c y : ℕ) → (u ≡ c → v ≡ y) → (not (eqb u c) || eqb v y) ≡ true
 asking u v c y h = elim (eqb u c) as (λ w. eqb u c ≡ w → (not w || eqb v y) ≡ true) [ true ↦ (λ e. eq-eqb v y (h (eqb-true u c e))) | false ↦ (λ _. refl) ] refl
 
-member-snoc : (y : ℕ) (f : List ℕ) (x : ℕ) → member y (f ++ x ∷ []) ≡ (member y f || eqb y x)
+pub member-snoc : (y : ℕ) (f : List ℕ) (x : ℕ) → member y (f ++ x ∷ []) ≡ (member y f || eqb y x)
 unfolding member
 member-snoc y [] x = or-false (eqb y x)
 member-snoc y (z ∷ f) x = ap (λ (b : Bool). eqb y z || b) (member-snoc y f x) ∙ sym (or-assoc (eqb y z) (member y f) (eqb y x))
