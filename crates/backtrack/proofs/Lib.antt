@@ -2,3 +2,4 @@ pub mod Marks
 pub mod Placing
 pub mod Noting
 pub mod Steps
+pub mod Extending

@@ -1,18 +1,18 @@
 -- The images placed and the target elements used, as a pair is looked up and as an element is placed. Assumes nothing.
+-- Nothing placed.
 use mathlib.Core.Path.{_≡_, refl, sym, ap, ap₂, subst, _∙_}
-use mathlib.Core.Bool.{Bool, true, false, cond, not, _&&_, _||_, or-false}
-use mathlib.Core.List.{List, [], _∷_, _++_, List·Memᴰ·not-nil}
-use Prim.Native.Nat.{ℕ, zero, suc, _+_, _-_, _≤_, _<_}
+use mathlib.Core.Bool.{Bool, true, false, cond, not, _||_, or-false}
+use mathlib.Core.List.{List, [], _∷_, _++_}
+use Prim.Native.Nat.{ℕ, _+_, _-_, _≤_, _<_}
 use native.Mathlib.Numerals.{add-one}
 use native.Mathlib.Omega.{arith}
 use borrow.Author.Tests.{le-leb, lt-leb, eqb-true, eqb-false}
-use lib.Dec.{eqb, leb}
+use lib.Dec.{eqb}
 use lib.ListN.{length, getD, take, set, length-set, replicate, length-replicate, getD-replicate}
 use lib.Seq.{length-take-le, getD-take, take-suc-set, getD-set-same, getD-set-other}
 use Rattle.semigroups.specs.Lists.{at, member}
 use Rattle.semigroups.specs.Tables.{Product, Element}
-use Rattle.semigroups.specs.Search.{fits, Placed}
-use Rattle.semigroups.proofs.Tables.{list-at}
+use Rattle.semigroups.specs.Search.{fits}
 use Rattle.semigroups.proofs.Search.{placed-none, placed-more}
 use Rattle.semigroups.proofs.NoRepeats.{place-mem}
 use Rattle.backtrack.specs.State.{Placing}
@@ -77,7 +77,6 @@ module _ (n : ℕ) (image used : List ℕ) (len : ℕ) (P : Placing n image used
           uses = λ y hy. rw (more-prefix, member-snoc y (take len image) x) (more-uses y hy);
         }
 
--- Nothing placed.
 pub no-placing : (n : ℕ) → Placing n (replicate 120 0) (replicate 121 0) 0
 unfolding member
 no-placing n =

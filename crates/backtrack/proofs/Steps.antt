@@ -1,19 +1,21 @@
 -- The steps of one call of the search, over the values that it holds: what is left of the search at x is the answer at x, or what is left at x + 1.
 -- Assumes nothing.
-use mathlib.Core.Path.{_≡_, refl, sym, ap, ap₂, subst, _∙_}
+-- The smallest next entry that is not too early.
+-- The answer at x of the search behind p, where d elements are left to place after x.
+-- What is left of it from x on.
+use mathlib.Core.Path.{_≡_, refl, sym, ap, ap₂, _∙_}
 use mathlib.Core.Bool.{Bool, true, false, cond, not, _&&_, and-false}
 use mathlib.Core.Logic.{_⊎_, inl, inr}
 use mathlib.Core.Option.{Option, none, some}
 use mathlib.Core.List.{List, [], _∷_, _++_, append-assoc}
 use Prim.Native.Nat.{ℕ, zero, suc, _+_, _-_, _≤_, _<_}
-use native.Mathlib.Numerals.{add-one}
 use native.Mathlib.Omega.{arith}
 use borrow.Author.Tests.{eqb-true, eqb-false, ne-eqb, leb-true, le-leb, lt-leb}
 use lib.Dec.{eqb, leb}
 use lib.ListN.{length, getD, take, drop}
 use lib.Seq.{split-at, take-suc, take-all}
 use Rattle.semigroups.specs.Lists.{elements, member, earlier}
-use Rattle.semigroups.specs.Tables.{Product, Element}
+use Rattle.semigroups.specs.Tables.{Product}
 use Rattle.semigroups.specs.Maps.{Ask, first, next, beyond}
 use Rattle.semigroups.specs.Search.{notBefore, passes, admits, search}
 use Rattle.semigroups.proofs.Booleans.{both, and-left, trichotomy}
@@ -21,9 +23,14 @@ use Rattle.semigroups.proofs.ListOrder.{earlier-skip, earlier-above, earlier-he
 use Rattle.semigroups.proofs.Completions.{firstFrom, first-start, first-skip, first-hit, first-end, firstOf-same}
 use Rattle.backtrack.specs.State.{asked}
 
--- The smallest next entry that is not too early.
 abbrev pub lowest : Bool → List ℕ → ℕ → ℕ
 lowest tight after i = cond tight (getD after i 0) 0
+
+abbrev answerAt : Product → Product → (ℕ → ℕ → Bool) → Ask → ℕ → ℕ → List ℕ → ℕ → Option (List ℕ)
+answerAt s t candidate ask n d p x = cond (admits s t candidate ask p x) (search s t candidate ask n d (p ++ x ∷ [])) none
+
+unfoldable pub leftFrom : Product → Product → (ℕ → ℕ → Bool) → Ask → ℕ → ℕ → List ℕ → ℕ → Option (List ℕ)
+leftFrom s t candidate ask n d p x = firstFrom (answerAt s t candidate ask n d p) n x
 
 regroup : (c u p l : Bool) → (c && (u && (p && l))) ≡ ((l && (u && c)) && p)
 regroup c u p true = regroup′ c u p
@@ -69,20 +76,18 @@ module _ (s t : Product) (candidate : ℕ → ℕ → Bool) (n : ℕ) where
             ap {B = Option (List ℕ)} (λ (b : Bool). cond b (some p) none) (sym (ap (λ (a : List ℕ). earlier a p) eq ∙ earlier-irreflexive p))
 
     module _ (d : ℕ) (room : length p < length after) where
-      -- The answer at x.
       abbrev here : ℕ → Option (List ℕ)
-      here x = cond (admits s t candidate (asked tight after) p x) (search s t candidate (asked tight after) n d (p ++ x ∷ [])) none
+      here = answerAt s t candidate (asked tight after) n d p
 
-      -- What is left of the search from x on.
-      pub left : ℕ → Option (List ℕ)
-      left x = firstFrom here n x
+      abbrev left : ℕ → Option (List ℕ)
+      left = leftFrom s t candidate (asked tight after) n d p
 
       pub begin : search s t candidate (asked tight after) n (suc d) p ≡ left 1
-      unfolding search left
+      unfolding search leftFrom
       begin = first-start here n
 
       pub end : (x : ℕ) → n < x → left x ≡ none
-      unfolding left
+      unfolding leftFrom
       end x h = first-end here n x h
 
       split : tight ≡ true → after ≡ p ++ getD after (length p) 0 ∷ drop (suc (length p)) after
@@ -122,7 +127,7 @@ module _ (s t : Product) (candidate : ℕ → ℕ → Bool) (n : ℕ) where
             ∙ regroup (candidate (suc (length p)) x) (not (member x p)) (passes s t (p ++ x ∷ [])) (leb low x)
 
         skipped : admits s t candidate (asked tight after) p x ≡ false → x ≤ n → left x ≡ left (x + 1)
-        unfolding left
+        unfolding leftFrom
         skipped e h = first-skip here n x h (ap {B = Option (List ℕ)} (λ (b : Bool). cond b (search s t candidate (asked tight after) n d (p ++ x ∷ [])) none) e)
 
         -- An image that is not open, or does not pass, is passed over.
@@ -155,11 +160,11 @@ module _ (s t : Product) (candidate : ℕ → ℕ → Bool) (n : ℕ) where
 
           -- Nothing behind x: it is passed over.
           pub back : search s t candidate (asked (eqb x low) after) n d (p ++ x ∷ []) ≡ none → x ≤ n → left x ≡ left (x + 1)
-          unfolding left
+          unfolding leftFrom
           back e h = first-skip here n x h (answer ∙ e)
 
           pub hit : (f : List ℕ) → search s t candidate (asked (eqb x low) after) n d (p ++ x ∷ []) ≡ some f → x ≤ n → left x ≡ some f
-          unfolding left
+          unfolding leftFrom
           hit f e h = first-hit here n x f h (answer ∙ e)
 
         -- The call for the next element is bound only where it has to be.
