@@ -128,9 +128,9 @@ module _ (n : ℕ) (cells : List ℕ) where
   unfolding cellsRefusal firstNo isElement orElse
   wrong-size l h e = rw (le-leb 1 n l, le-leb n 120 h, ne-eqb (length cells) (n * n) e)
 
-  pub right-size : 1 ≤ n → n ≤ 120 → length cells ≡ n * n → cellsRefusal n cells ≡ Option·map (λ k. no 3 (k ∷ [])) (badCell n cells)
+  pub right-size : 1 ≤ n → n ≤ 120 → length cells ≡ n * n → (o : Option ℕ) → badCell n cells ≡ o → cellsRefusal n cells ≡ Option·map (λ k. no 3 (k ∷ [])) o
   unfolding cellsRefusal firstNo isElement orElse
-  right-size l h e = rw (le-leb 1 n l, le-leb n 120 h, eq-eqb (length cells) (n * n) e) (orElse-nothing (Option·map (λ k. no 3 (k ∷ [])) (badCell n cells)))
+  right-size l h e o w = rw (le-leb 1 n l, le-leb n 120 h, eq-eqb (length cells) (n * n) e, w) (orElse-nothing (Option·map (λ k. no 3 (k ∷ [])) o))
 
   pub cells-refused : (r : Refusal) → cellsRefusal n cells ≡ some r → tableRefusal n cells ≡ some r
   unfolding tableRefusal firstNo orElse

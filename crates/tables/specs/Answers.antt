@@ -2,11 +2,14 @@
 -- Assumes nothing.
 use mathlib.Core.List.{[], _∷_}
 use mathlib.Core.Option.{Option, none, some}
+use Prim.Native.Nat.{ℕ}
 use Rattle.semigroups.specs.Questions.{Refusal, no}
 use Rattle.tables.specs.declared.Fault.{Fault}
 use Rattle.tables.specs.declared.Fault.the-variants.{Order, Size, Cell, Triple}
 use Rattle.tables.specs.declared.Verdict.{Verdict}
 use Rattle.tables.specs.declared.Verdict.the-variants.{Accepted, Refused}
+use Rattle.tables.specs.declared.Place.{Place}
+use Rattle.tables.specs.declared.Place.the-variants.{At, Nowhere}
 
 -- 1 and 2 carry nothing, 3 the cell, 4 the triple.
 abbrev pub faultRefusal : Fault → Refusal
@@ -19,3 +22,8 @@ faultRefusal (Triple i j k) = no 4 (i ∷ j ∷ k ∷ [])
 abbrev pub verdictRefusal : Verdict → Option Refusal
 verdictRefusal Accepted = none
 verdictRefusal (Refused fault) = some (faultRefusal fault)
+
+-- The place, where there is one.
+abbrev pub placeOption : Place → Option ℕ
+placeOption (At k) = some k
+placeOption Nowhere = none

@@ -1,11 +1,10 @@
 // The four questions about a table: an order and cells, of any content. The first "no" is the answer, with the cell or the triple that is said with it.
 ghost use mathlib.Core.Path.{_≡_};
-ghost use mathlib.Core.List.{[], _∷_};
 ghost use mathlib.Core.Option.{Option·map};
 ghost use Rattle.semigroups.specs.Tables.{Element, product, badCell, badTriple};
 ghost use Rattle.semigroups.specs.Questions.{no, cellsRefusal, tableRefusal};
 ghost use Rattle.semigroups.proofs.Tables.{Filled};
-ghost use Rattle.tables.specs.Answers.{verdictRefusal};
+ghost use Rattle.tables.specs.Answers.{verdictRefusal, placeOption};
 
 // Why a table is refused: questions 1 to 4, with the first cell, counted from 1, or the first triple.
 pub enum Fault {
@@ -20,6 +19,12 @@ pub enum Verdict {
     Refused(Fault),
 }
 
+// Where something stands, counted from 1.
+pub enum Place {
+    At(usize),
+    Nowhere,
+}
+
 // The product i·j.
 pub fn times(cells: &[u8], n: usize, i: usize, j: usize) -> usize
     requires { ⌜ Filled n (now cells) ⌝ ∗ ⌜ Element n i ⌝ ∗ ⌜ Element n j ⌝ }
@@ -29,22 +34,22 @@ pub fn times(cells: &[u8], n: usize, i: usize, j: usize) -> usize
     cells[(i - 1) * n + (j - 1)] as usize
 }
 
-// Question 3: every cell is 1 to n.
-fn in_range(cells: &[u8], n: usize) -> Verdict
-    ensures answer { λ r. ⌜ verdictRefusal r ≡ Option·map (λ k. no 3 (k ∷ [])) (badCell n (now (cells .entry))) ⌝ }
+// The first cell that is not 1 to n, counted from 1.
+pub fn outside(cells: &[u8], n: usize) -> Place
+    ensures answer { λ r. ⌜ placeOption r ≡ badCell n (now (cells .entry)) ⌝ }
 {
     let mut place: usize = 1;
     while place <= cells.len() {
         let cell = cells[place - 1] as usize;
         if cell < 1 {
-            return Verdict::Refused(Fault::Cell(place));
+            return Place::At(place);
         }
         if n < cell {
-            return Verdict::Refused(Fault::Cell(place));
+            return Place::At(place);
         }
         place += 1;
     }
-    Verdict::Accepted
+    Place::Nowhere
 }
 
 // Question 4: (i·j)·k = i·(j·k) for every triple.
@@ -87,7 +92,10 @@ pub fn check_cells(cells: &[u8], n: usize) -> Verdict
     if cells.len() != n * n {
         return Verdict::Refused(Fault::Size);
     }
-    in_range(cells, n)
+    match outside(cells, n) {
+        Place::At(cell) => Verdict::Refused(Fault::Cell(cell)),
+        Place::Nowhere => Verdict::Accepted,
+    }
 }
 
 // Questions 1 to 4: order, size, cells, associativity.
