@@ -2,13 +2,14 @@
 use mathlib.Core.Path.{_≡_, refl, sym, ap, _∙_}
 use mathlib.Core.List.{List, [], _∷_, map, flatMap, List·Memᴰ, List·Memᴰ·head, List·Memᴰ·tail, head-eq-of-cons-eq, tail-eq-of-cons-eq}
 use mathlib.Core.Option.{orElse}
+use Prim.Native.Nat.{ℕ}
 use Rattle.semigroups.specs.Lists.{range, elements, at, all, find, keep, sum, count, least, member, distinct, earlier, lists}
 use Rattle.semigroups.specs.Tables.{product, grid, isElement, associates, badCell, badTriple}
 use Rattle.semigroups.specs.Questions.{firstNo, cellsRefusal, tableRefusal}
 use Rattle.semigroups.specs.Invariants.{power, periodFrom, index, period, indexPeriod, frequency, diagonalFrequency, rowFrequency, columnFrequency, profile}
 use Rattle.semigroups.specs.Maps.{isHomomorphism, isEmbedding, isIsomorphism, maps, earliest, after}
 use Rattle.semigroups.specs.Transformations.{transformations, transformationOrder, transformation, numberOf, transformationProduct, transformationCells}
-use Rattle.semigroups.specs.Cases.{Case, answer, cases, two}
+use Rattle.semigroups.specs.Cases.{Case, answer, cases, left, two}
 
 -- Two functions that agree over a list agree at each entry.
 each : {A B : Type 0} (f g : A → B) (l : List A) → map f l ≡ map g l → (c : A) → List·Memᴰ c l → f c ≡ g c
@@ -21,3 +22,13 @@ computed = refl
 
 pub worked : (c : Case) → List·Memᴰ c cases → answer (c .asks) ≡ c .says
 worked c m = each (λ (x : Case). answer (x .asks)) (λ (x : Case). x .says) cases computed c m
+
+-- The degree 2 table has the cells that 01 prints.
+two-printed : two ≡ record { order = 4; cells = 1 ∷ 1 ∷ 4 ∷ 4 ∷ 1 ∷ 2 ∷ 3 ∷ 4 ∷ 1 ∷ 3 ∷ 2 ∷ 4 ∷ 1 ∷ 4 ∷ 1 ∷ 4 ∷ [] }
+unfolding two range elements at sum count earlier lists grid after transformations transformationOrder transformation numberOf transformationProduct transformationCells flatMap
+two-printed = refl
+
+-- Row and column counts differ where products depend on the side: in left, element 1 stands twice in its row and once in its column.
+row-and-column : (rowFrequency 2 (product 2 (left .cells)) 1 ≡ 2) × (columnFrequency 2 (product 2 (left .cells)) 1 ≡ 1)
+unfolding range elements sum count product rowFrequency columnFrequency
+row-and-column = (refl, refl)

@@ -164,6 +164,11 @@ module _ {A : Type 0} where
       elim (p x) as (λ b. find q (cond b (x ∷ keep p l) (keep p l)) ≡ cond (b && q x) (some x) (find (λ x. p x && q x) l))
       [ true ↦ ap (λ (o : Option A). cond (q x) (some x) o) (find-keep p q l) | false ↦ find-keep p q l ]
 
+  pub keep-same : (p q : A → Bool) (l : List A) → ((x : A) → p x ≡ q x) → keep p l ≡ keep q l
+  unfolding keep
+  keep-same p q [] h = refl
+  keep-same p q (x ∷ l) h = ap₂ (λ (b : Bool) (r : List A). cond b (x ∷ r) r) (h x) (keep-same p q l h)
+
   pub mem-keep : (p : A → Bool) (l : List A) (x : A) → List·Memᴰ x (keep p l) → List·Memᴰ x l × (p x ≡ true)
   unfolding keep
   mem-keep p [] x m = absurd (List·Memᴰ·not-nil m)

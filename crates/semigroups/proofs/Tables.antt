@@ -12,7 +12,7 @@ use borrow.Author.Tests.{eqb-true, eqb-false, eq-eqb, not-true, not-false}
 use lib.Dec.{eqb, leb}
 use lib.ListN.{length, getD, length-map}
 use Rattle.semigroups.specs.Lists.{range, elements, at, find, lists, Earliest}
-use Rattle.semigroups.specs.Tables.{Product, product, grid, Element, IsList, Closed, Associative, FailingTriple, Accepted, isElement, associates, badCell, badTriple}
+use Rattle.semigroups.specs.Tables.{Product, product, grid, Element, IsList, Closed, Associative, FailingTriple, Filled, Accepted, isElement, associates, badCell, badTriple}
 use Rattle.semigroups.specs.Questions.{Refusal, no, ask, firstNo, cellsRefusal, tableRefusal, Refused, wrong-order, wrong-size, wrong-cell, wrong-triple}
 use Rattle.semigroups.proofs.Booleans.{clash, untrue, not-of-true, not-of-false, trichotomy}
 use Rattle.semigroups.proofs.Lists.{length-elements, getD-map, mem-elements, elements-mem, mem-range, range-mem, sorted-range, at-suc, at-elements, is-element, element-is, find-some, find-none, none-find, find-first}
@@ -114,44 +114,38 @@ module _ (n : ℕ) (cells : List ℕ) where
             let z : ⊥ = ⊎-elim (λ (q : j ≡ k). let y : ⊥ = omega arith in y) (λ (q : k < j). let y : ⊥ = omega arith in y) (find-first _<_ p (range 1 (length cells)) (sorted-range 1 (length cells)) k e j (range-mem 1 (length cells) j lo (omega arith)) t) in z))),
       )
 
+-- ---- pairs and triples as lists
+
+list-more : (m n x : ℕ) (l : List ℕ) → Element n x → IsList m n l → IsList (suc m) n (x ∷ l)
+list-more m n x l hx h = record { size = ap suc (h .size); entries = λ y k. ⊎-elim (λ e. subst (Element n) (sym e) hx) (h .entries y) (List·Memᴰ·cases-cons k) }
+
+pub pair-list : (n i j : ℕ) → Element n i → Element n j → IsList 2 n (i ∷ j ∷ [])
+pair-list n i j hi hj = list-more 1 n i (j ∷ []) hi (list-more 0 n j [] hj (record { size = refl; entries = λ y k. absurd (List·Memᴰ·not-nil k) }))
+
+pub triple-list : (n i j k : ℕ) → Element n i → Element n j → Element n k → IsList 3 n (i ∷ j ∷ k ∷ [])
+triple-list n i j k hi hj hk = list-more 2 n i (j ∷ k ∷ []) hi (pair-list n j k hj hk)
+
+-- Entry i of a list of m elements is one.
+pub list-at : (m n : ℕ) (l : List ℕ) → IsList m n l → (i : ℕ) → Element m i → Element n (at l i)
+unfolding at
+list-at m n l h i hi = let e = h .size in h .entries (getD l (i - 1) 0) (place-mem 0 l (i - 1) (omega arith))
+
 -- ---- question 4
 
 module _ (n : ℕ) (s : Product) where
-  three : (i j k : ℕ) → Element n i → Element n j → Element n k → IsList 3 n (i ∷ j ∷ k ∷ [])
-  three i j k hi hj hk = record { size = refl; entries = λ x m. one x (List·Memᴰ·cases-cons m) }
-    where
-      none-left : (x : ℕ) → List·Memᴰ x [] → Element n x
-      none-left x m = absurd (List·Memᴰ·not-nil m)
-
-      third : (x : ℕ) → (x ≡ k) ⊎ List·Memᴰ x [] → Element n x
-      third x (inl e) = subst (Element n) (sym e) hk
-      third x (inr m) = none-left x m
-
-      second : (x : ℕ) → (x ≡ j) ⊎ List·Memᴰ x (k ∷ []) → Element n x
-      second x (inl e) = subst (Element n) (sym e) hj
-      second x (inr m) = third x (List·Memᴰ·cases-cons m)
-
-      one : (x : ℕ) → (x ≡ i) ⊎ List·Memᴰ x (j ∷ k ∷ []) → Element n x
-      one x (inl e) = subst (Element n) (sym e) hi
-      one x (inr m) = second x (List·Memᴰ·cases-cons m)
-
   pub associative-of : badTriple n s ≡ none → Associative n s
   unfolding badTriple associates at
   associative-of e i j k hi hj hk =
       eqb-true (s (s i j) k) (s i (s j k))
-      (not-false (associates s i j k) (find-nowhere (λ l. not (associates s (at l 1) (at l 2) (at l 3))) 3 n e (i ∷ j ∷ k ∷ []) (three i j k hi hj hk)))
-
-  list-at : (l : List ℕ) → IsList 3 n l → Element n (at l 1) × Element n (at l 2) × Element n (at l 3)
-  unfolding at
-  list-at l h = let e = h .size in (h .entries (getD l 0 0) (place-mem 0 l 0 (omega arith)), h .entries (getD l 1 0) (place-mem 0 l 1 (omega arith)), h .entries (getD l 2 0) (place-mem 0 l 2 (omega arith)))
+      (not-false (associates s i j k) (find-nowhere (λ l. not (associates s (at l 1) (at l 2) (at l 3))) 3 n e (i ∷ j ∷ k ∷ []) (triple-list n i j k hi hj hk)))
 
   pub no-bad-triple : Associative n s → badTriple n s ≡ none
   unfolding badTriple associates
   no-bad-triple h =
       none-find (λ l. not (associates s (at l 1) (at l 2) (at l 3))) (lists 3 n)
       (λ l m.
-      let w = list-at l (mem-lists 3 n l m) in
-      not-of-true (associates s (at l 1) (at l 2) (at l 3)) (eq-eqb (s (s (at l 1) (at l 2)) (at l 3)) (s (at l 1) (s (at l 2) (at l 3))) (h (at l 1) (at l 2) (at l 3) (w .0) (w .1) (w .2))))
+      let w = list-at 3 n l (mem-lists 3 n l m) in
+      not-of-true (associates s (at l 1) (at l 2) (at l 3)) (eq-eqb (s (s (at l 1) (at l 2)) (at l 3)) (s (at l 1) (s (at l 2) (at l 3))) (h (at l 1) (at l 2) (at l 3) (w 1 (omega arith)) (w 2 (omega arith)) (w 3 (omega arith)))))
 
   bad-triple-first : (l : List ℕ) → badTriple n s ≡ some l → Earliest (FailingTriple n s) l
   unfolding badTriple associates
@@ -165,13 +159,8 @@ module _ (n : ℕ) (s : Product) where
 -- ---- the four questions
 
 module _ (n : ℕ) (cells : List ℕ) where
-  -- The three questions before associativity pass exactly so.
-  pub record Filled : Type 0 where
-    pub order : Element 120 n
-    pub size : length cells ≡ n * n
-    pub in-range : (k : ℕ) → k < length cells → Element n (getD cells k 0)
-
-  pub filled : cellsRefusal n cells ≡ none → Filled
+  -- The three questions before associativity pass exactly where the cells fill a table.
+  pub filled : cellsRefusal n cells ≡ none → Filled n cells
   unfolding cellsRefusal firstNo
   filled e =
       let order = ask (isElement 120 n) (no 1 []) in
@@ -186,7 +175,7 @@ module _ (n : ℕ) (cells : List ℕ) where
         in-range = cells-in-range n cells (map-none (λ k. no 3 (k ∷ [])) (badCell n cells) (p3 .0));
       }
 
-  pub no-cells-refusal : Filled → cellsRefusal n cells ≡ none
+  pub no-cells-refusal : Filled n cells → cellsRefusal n cells ≡ none
   unfolding cellsRefusal firstNo orElse
   no-cells-refusal f = rw (element-is 120 n (f .order), eq-eqb (length cells) (n * n) (f .size), no-bad-cell n cells (f .in-range))
 
@@ -251,7 +240,7 @@ module _ (n : ℕ) (cells : List ℕ) where
       triple : Option Refusal
       triple = Option·map (λ l. no 4 l) (badTriple n (product n cells))
 
-      by-triple : Filled → (triple ≡ some r) ⊎ ((triple ≡ none) × (none ≡ some r)) → Refused n cells r
+      by-triple : Filled n cells → (triple ≡ some r) ⊎ ((triple ≡ none) × (none ≡ some r)) → Refused n cells r
       by-triple f (inl q) =
           let w = map-some (λ l. no 4 l) (badTriple n (product n cells)) r q in
           subst (Refused n cells) (w .2) (wrong-triple (w .0) (f .order) (f .size) (f .in-range) (bad-triple-first n (product n cells) (w .0) (w .1)))

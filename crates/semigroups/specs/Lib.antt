@@ -4,6 +4,7 @@ pub mod Scratch
 pub mod Questions
 pub mod Invariants
 pub mod Maps
+pub mod Isomorphisms
 pub mod MapCheck
 pub mod Candidates
 pub mod Search

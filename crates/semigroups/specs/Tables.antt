@@ -46,6 +46,12 @@ pub record FailingTriple (n : ℕ) (s : Product) (l : List ℕ) : Type 0 where
   pub triple : IsList 3 n l
   pub fails : s (s (at l 1) (at l 2)) (at l 3) ≡ s (at l 1) (s (at l 2) (at l 3)) → ⊥
 
+-- Cells that fill a table of order n: they pass the questions before associativity.
+pub record Filled (n : ℕ) (cells : List ℕ) : Type 0 where
+  pub order : Element 120 n
+  pub size : length cells ≡ n * n
+  pub in-range : (k : ℕ) → k < length cells → Element n (getD cells k 0)
+
 -- A table is accepted (01, "Tables and elements").
 pub record Accepted (n : ℕ) (cells : List ℕ) : Type 0 where
   pub from-one : 1 ≤ n

@@ -8,9 +8,9 @@ use native.Mathlib.Nat.{mul-le-mul}
 use borrow.Author.Tests.{le-leb, lt-leb, eq-eqb, ne-eqb}
 use lib.ListN.{length, getD}
 use Rattle.semigroups.specs.Lists.{elements, at}
-use Rattle.semigroups.specs.Tables.{product, Element, isElement, associates, badCell, badTriple}
-use Rattle.semigroups.specs.Questions.{Refusal, no, firstNo, cellsRefusal, tableRefusal}
-use Rattle.semigroups.proofs.Tables.{Filled, place-below, product-element}
+use Rattle.semigroups.specs.Tables.{product, Element, isElement, associates, badCell, badTriple, Filled}
+use Rattle.semigroups.specs.Questions.{Refusal, no, firstNo, cellsRefusal, tableRefusal, tablesRefusal, naming}
+use Rattle.semigroups.proofs.Tables.{place-below, product-element}
 use Rattle.semigroups.proofs.Completions.{find-firstOf, firstFrom, first-start, first-skip, first-hit, first-end}
 use Rattle.semigroups.proofs.Booleans.{not-of-true, not-of-false}
 use Rattle.tables.proofs.Remaining.{orElse-nothing, remaining, begin, enter, pass, hit, leave}
@@ -139,3 +139,18 @@ module _ (n : ℕ) (cells : List ℕ) where
   pub cells-pass : cellsRefusal n cells ≡ none → tableRefusal n cells ≡ Option·map (λ l. no 4 l) (badTriple n (product n cells))
   unfolding tableRefusal firstNo orElse
   cells-pass e = rw e (orElse-nothing (Option·map (λ l. no 4 l) (badTriple n (product n cells))))
+
+-- ---- the questions about two tables
+
+module _ (m : ℕ) (source : List ℕ) (n : ℕ) (target : List ℕ) where
+  pub source-refused : (r : Refusal) → tableRefusal m source ≡ some r → tablesRefusal m source n target ≡ some (naming 1 r)
+  unfolding tablesRefusal firstNo orElse
+  source-refused r e = rw e
+
+  pub target-refused : (r : Refusal) → tableRefusal m source ≡ none → tableRefusal n target ≡ some r → tablesRefusal m source n target ≡ some (naming 2 r)
+  unfolding tablesRefusal firstNo orElse
+  target-refused r e g = rw (e, g)
+
+  pub both-pass : tableRefusal m source ≡ none → tableRefusal n target ≡ none → tablesRefusal m source n target ≡ none
+  unfolding tablesRefusal firstNo orElse
+  both-pass e g = rw (e, g)

@@ -1,10 +1,9 @@
 // The four questions about a table: an order and cells, of any content. The first "no" is the answer, with the cell or the triple that is said with it.
 ghost use mathlib.Core.Path.{_≡_};
 ghost use mathlib.Core.Option.{Option·map};
-ghost use Rattle.semigroups.specs.Tables.{Element, product, badCell, badTriple};
-ghost use Rattle.semigroups.specs.Questions.{no, cellsRefusal, tableRefusal};
-ghost use Rattle.semigroups.proofs.Tables.{Filled};
-ghost use Rattle.tables.specs.Answers.{verdictRefusal, placeOption};
+ghost use Rattle.semigroups.specs.Tables.{Element, Filled, product, badCell, badTriple};
+ghost use Rattle.semigroups.specs.Questions.{no, cellsRefusal, tableRefusal, tablesRefusal};
+ghost use Rattle.tables.specs.Answers.{verdictRefusal, placeOption, pairRefusal};
 
 // Why a table is refused: questions 1 to 4, with the first cell, counted from 1, or the first triple.
 pub enum Fault {
@@ -17,6 +16,17 @@ pub enum Fault {
 pub enum Verdict {
     Accepted,
     Refused(Fault),
+}
+
+// Which of two tables.
+pub enum Side {
+    Source,
+    Target,
+}
+
+pub enum PairVerdict {
+    Accepted,
+    Refused(Side, Fault),
 }
 
 // Where something stands, counted from 1.
@@ -106,4 +116,19 @@ pub fn check(cells: &[u8], n: usize) -> Verdict
         Verdict::Refused(fault) => Verdict::Refused(fault),
         Verdict::Accepted => associative(cells, n),
     }
+}
+
+// Questions 1 to 4 of the source, then of the target.
+pub fn check_pair(source: &[u8], m: usize, target: &[u8], n: usize) -> PairVerdict
+    ensures answer { λ r. ⌜ pairRefusal r ≡ tablesRefusal m (now (source .entry)) n (now (target .entry)) ⌝ }
+{
+    let first = check(source, m);
+    if let Verdict::Refused(fault) = first {
+        return PairVerdict::Refused(Side::Source, fault);
+    }
+    let second = check(target, n);
+    if let Verdict::Refused(fault) = second {
+        return PairVerdict::Refused(Side::Target, fault);
+    }
+    PairVerdict::Accepted
 }

@@ -1,0 +1,64 @@
+-- Candidates lose no map: an embedding keeps the index-period, an isomorphism the profile. So the search with them finds what first and next mean.
+-- Scratch marks read back as the candidates. Assumes nothing.
+use mathlib.Core.Path.{_≡_, refl, sym, ap, _∙_, subst}
+use mathlib.Core.Bool.{Bool, true, false, cond}
+use mathlib.Core.List.{List, [], _++_}
+use Prim.Native.Nat.{ℕ, _+_, _-_, _*_, _≤_, _<_}
+use native.Mathlib.Omega.{arith}
+use lib.Dec.{eqb}
+use lib.ListN.{length, getD, drop, length-append, length-drop, List·getD-append}
+use Rattle.semigroups.specs.Lists.{at}
+use Rattle.semigroups.specs.Tables.{Product, Element, Closed, grid}
+use Rattle.semigroups.specs.Scratch.{scratchSize, marks, marked, scratchAfter}
+use Rattle.semigroups.specs.Invariants.{indexPeriod, profile}
+use Rattle.semigroups.specs.Maps.{Embedding, embeddings, isomorphisms, maps, Ask, earliest}
+use Rattle.semigroups.specs.Candidates.{candidate}
+use Rattle.semigroups.specs.Search.{search}
+use Rattle.semigroups.proofs.Tables.{place-below, length-grid, grid-at}
+use Rattle.semigroups.proofs.Maps.{one-order}
+use Rattle.semigroups.proofs.IndexPeriod.{index-period-kept, index-period-same}
+use Rattle.semigroups.proofs.Frequencies.{profile-kept, profile-same}
+use Rattle.semigroups.proofs.Search.{Sound, search-earliest}
+
+-- ---- no map is lost
+
+module _ (m : ℕ) (s : Product) (n : ℕ) (t : Product) (source : Closed m s) (target : Closed n t) where
+  pub index-period-sound : Sound m s n t source (candidate embeddings m s n t)
+  unfolding candidate
+  index-period-sound f F i h = index-period-same (indexPeriod m s i) (indexPeriod n t (at f i)) (sym (index-period-kept m s n t f F source i h target))
+
+  pub search-embeddings : (ask : Ask) → search s t (candidate embeddings m s n t) ask n m [] ≡ earliest ask (maps embeddings m s n t)
+  search-embeddings ask = search-earliest m s n t source (candidate embeddings m s n t) index-period-sound ask
+
+module _ (n : ℕ) (s t : Product) (source : Closed n s) (target : Closed n t) where
+  pub profile-sound : Sound n s n t source (candidate isomorphisms n s n t)
+  unfolding candidate
+  profile-sound f F i h = profile-same (profile n s i) (profile n t (at f i)) (sym (profile-kept n s t f F source i h target))
+
+  pub search-isomorphisms : (ask : Ask) → search s t (candidate isomorphisms n s n t) ask n n [] ≡ earliest ask (maps isomorphisms n s n t)
+  search-isomorphisms ask = search-earliest n s n t source (candidate isomorphisms n s n t) profile-sound ask ∙ ap (earliest ask) (sym (one-order n s t))
+
+-- ---- marks
+
+module _ (m n : ℕ) (p : ℕ → ℕ → Bool) (scratch : List ℕ) where
+  pub length-marks : length (marks m n p) ≡ scratchSize m n
+  unfolding marks scratchSize
+  length-marks = length-grid m n (λ i j. cond (p i j) 1 0)
+
+  -- The buffer keeps its length.
+  pub length-scratch : scratchSize m n ≤ length scratch → length (scratchAfter m n p scratch) ≡ length scratch
+  unfolding scratchAfter
+  length-scratch h =
+      let e = length-append (marks m n p) (drop (scratchSize m n) scratch) in
+      let d = length-drop (scratchSize m n) scratch in
+      let l = length-marks in
+      omega arith
+
+  -- A mark reads back as the candidate that it stands for.
+  pub marked-candidate : (i j : ℕ) → Element m i → Element n j → marked n (scratchAfter m n p scratch) i j ≡ p i j
+  unfolding marked scratchAfter marks
+  marked-candidate i j hi hj =
+      let k = (i - 1) * n + (j - 1) in
+      let below : k < length (marks m n p) = (let b = place-below m n i j hi hj in let l = length-grid m n (λ x y. cond (p x y) 1 0) in omega arith) in
+      ap (λ (v : ℕ). eqb v 1) (List·getD-append (marks m n p) (drop (scratchSize m n) scratch) 0 k below ∙ grid-at m n (λ x y. cond (p x y) 1 0) i j hi hj)
+      ∙ (elim (p i j) as (λ b. eqb (cond b 1 0) 1 ≡ b) [ true ↦ refl | false ↦ refl ])

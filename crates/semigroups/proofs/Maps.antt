@@ -1,0 +1,153 @@
+-- Maps: the tests and the plain statements agree, both ways; the full lists are increasing and hold exactly the maps of their kind; what first and next
+-- find is the earliest, and none means that there is none; more elements do not fit into fewer. Assumes nothing.
+use mathlib.Core.Path.{_≡_, refl, ap}
+use mathlib.Core.Bool.{Bool, true, false, _&&_}
+use mathlib.Core.Logic.{_↔_}
+use mathlib.Core.Option.{none, some}
+use mathlib.Core.List.{List, [], _∷_, List·Memᴰ, List·Memᴰ·head}
+use Prim.Native.Nat.{ℕ, _-_, _≤_, _<_}
+use native.Mathlib.Omega.{arith}
+use borrow.Author.Tests.{eqb-true, eq-eqb}
+use lib.Dec.{eqb}
+use lib.ListN.{length}
+use Rattle.semigroups.specs.Lists.{elements, at, all, distinct, earlier, lists, Increasing, Earliest}
+use Rattle.semigroups.specs.Tables.{Product, Element, IsList, isElement}
+use Rattle.semigroups.specs.Maps.{Homomorphism, Embedding, Isomorphism, isHomomorphism, isEmbedding, isIsomorphism, Kind, embeddings, isomorphisms, IsMap, isMap, maps, Ask, first, next, beyond, earliest}
+use Rattle.semigroups.proofs.Booleans.{clash, both, and-left, and-right}
+use Rattle.semigroups.proofs.Lists.{all-at, all-of, pairs-at, pairs-of, is-element, element-is, find-some, find-none, find-first, keep-same, mem-keep, keep-mem, sorted-keep}
+use Rattle.semigroups.proofs.NoRepeats.{distinct-places, distinct-of, one-to-one, one-to-one-no-repeats, within-mem, no-more, place-mem}
+use Rattle.semigroups.proofs.ListOrder.{lists-increasing, mem-lists, lists-mem}
+
+-- ---- tests and plain statements
+
+module _ (m : ℕ) (s : Product) (n : ℕ) (t : Product) (f : List ℕ) where
+  agree : ℕ → ℕ → Bool
+  agree i j = eqb (at f (s i j)) (t (at f i) (at f j))
+
+  pub is-homomorphism : isHomomorphism m s n t f ≡ true → Homomorphism m s n t f
+  unfolding isHomomorphism agree at
+  is-homomorphism e =
+      let products = all (λ i. all (agree i) (elements m)) (elements m) in
+      let images = all (isElement n) f && products in
+      let long : length f ≡ m = eqb-true (length f) m (and-left (eqb (length f) m) images e) in
+      let rest = and-right (eqb (length f) m) images e in
+      record {
+        size = long;
+        within = λ i h. is-element n (at f i) (all-at (isElement n) f (and-left (all (isElement n) f) products rest) (at f i) (place-mem 0 f (i - 1) (omega arith)));
+        keeps-product = λ i j hi hj. eqb-true (at f (s i j)) (t (at f i) (at f j)) (pairs-at m agree (and-right (all (isElement n) f) products rest) i j hi hj);
+      }
+
+  pub homomorphism-is : Homomorphism m s n t f → isHomomorphism m s n t f ≡ true
+  unfolding isHomomorphism agree
+  homomorphism-is h =
+      let products = all (λ i. all (agree i) (elements m)) (elements m) in
+      both (eqb (length f) m) (all (isElement n) f && products) (eq-eqb (length f) m (h .size))
+      (both (all (isElement n) f) products
+      (all-of (isElement n) f (λ x k. element-is n x (within-mem m n f (h .size) (h .within) x k)))
+      (pairs-of m agree (λ i j hi hj. eq-eqb (at f (s i j)) (t (at f i) (at f j)) (h .keeps-product i j hi hj))))
+
+  pub is-embedding : isEmbedding m s n t f ≡ true → Embedding m s n t f
+  unfolding isEmbedding
+  is-embedding e =
+      let h = is-homomorphism (and-right (distinct f) (isHomomorphism m s n t f) e) in
+      record { homomorphism = h; one-to-one = one-to-one m f (h .size) (distinct-places f (and-left (distinct f) (isHomomorphism m s n t f) e)) }
+
+  pub embedding-is : Embedding m s n t f → isEmbedding m s n t f ≡ true
+  unfolding isEmbedding
+  embedding-is h =
+      both (distinct f) (isHomomorphism m s n t f) (distinct-of f (one-to-one-no-repeats m f (h .homomorphism .size) (h .one-to-one))) (homomorphism-is (h .homomorphism))
+
+  pub is-isomorphism : isIsomorphism m s n t f ≡ true → Isomorphism m s n t f
+  unfolding isIsomorphism
+  is-isomorphism e = record { same-order = eqb-true m n (and-left (eqb m n) (isEmbedding m s n t f) e); embedding = is-embedding (and-right (eqb m n) (isEmbedding m s n t f) e) }
+
+  pub isomorphism-is : Isomorphism m s n t f → isIsomorphism m s n t f ≡ true
+  unfolding isIsomorphism
+  isomorphism-is h = both (eqb m n) (isEmbedding m s n t f) (eq-eqb m n (h .same-order)) (embedding-is (h .embedding))
+
+  pub is-map : (kind : Kind) → isMap kind m s n t f ≡ true → IsMap kind m s n t f
+  is-map embeddings e = is-embedding e
+  is-map isomorphisms e = is-isomorphism e
+
+  pub map-is : (kind : Kind) → IsMap kind m s n t f → isMap kind m s n t f ≡ true
+  map-is embeddings h = embedding-is h
+  map-is isomorphisms h = isomorphism-is h
+
+  -- A map of either kind is an embedding, and a list of m elements.
+  pub map-embeds : (kind : Kind) → IsMap kind m s n t f → Embedding m s n t f
+  map-embeds embeddings h = h
+  map-embeds isomorphisms h = h .embedding
+
+  pub embedding-list : Embedding m s n t f → IsList m n f
+  embedding-list h = let w = h .homomorphism in record { size = w .size; entries = within-mem m n f (w .size) (w .within) }
+
+-- ---- the full lists
+
+module _ (kind : Kind) (m : ℕ) (s : Product) (n : ℕ) (t : Product) where
+  pub maps-increasing : Increasing (maps kind m s n t)
+  unfolding maps
+  maps-increasing = sorted-keep (λ (a b : List ℕ). earlier a b ≡ true) (isMap kind m s n t) (lists m n) (lists-increasing m n)
+
+  pub mem-maps : (f : List ℕ) → List·Memᴰ f (maps kind m s n t) → IsMap kind m s n t f
+  unfolding maps
+  mem-maps f k = is-map m s n t f kind (mem-keep (isMap kind m s n t) (lists m n) f k .1)
+
+  pub maps-mem : (f : List ℕ) → IsMap kind m s n t f → List·Memᴰ f (maps kind m s n t)
+  unfolding maps
+  maps-mem f h = keep-mem (isMap kind m s n t) (lists m n) f (lists-mem m n f (embedding-list m s n t f (map-embeds m s n t f kind h))) (map-is m s n t f kind h)
+
+  -- The full list holds exactly the maps of its kind.
+  pub maps-exactly : (f : List ℕ) → List·Memᴰ f (maps kind m s n t) ↔ IsMap kind m s n t f
+  maps-exactly f = (mem-maps f, maps-mem f)
+
+  -- What is found is the earliest map that is late enough.
+  pub earliest-found : (ask : Ask) (f : List ℕ) → earliest ask (maps kind m s n t) ≡ some f → Earliest (λ g. IsMap kind m s n t g × (beyond ask g ≡ true)) f
+  unfolding earliest
+  earliest-found ask f e =
+      let l = maps kind m s n t in
+      let r = find-some (beyond ask) l f e in
+      record {
+        has = (mem-maps f (r .0), r .1);
+        before-others = λ g h. find-first (λ (a b : List ℕ). earlier a b ≡ true) (beyond ask) l maps-increasing f e g (maps-mem g (h .0)) (h .1);
+      }
+
+  -- "None" means that there is none.
+  pub earliest-none : (ask : Ask) → earliest ask (maps kind m s n t) ≡ none → (g : List ℕ) → IsMap kind m s n t g → beyond ask g ≡ true → ⊥
+  unfolding earliest
+  earliest-none ask e g h q = clash {b = beyond ask g} q (find-none (beyond ask) (maps kind m s n t) e g (maps-mem g h))
+
+  -- First is earlier than every other map of its kind.
+  pub first-earliest : (f : List ℕ) → earliest first (maps kind m s n t) ≡ some f → Earliest (IsMap kind m s n t) f
+  first-earliest f e = let r = earliest-found first f e in record { has = r .has .0; before-others = λ g h. r .before-others g (h, refl) }
+
+  pub first-none : earliest first (maps kind m s n t) ≡ none → (g : List ℕ) → IsMap kind m s n t g → ⊥
+  first-none e g h = earliest-none first e g h refl
+
+  -- Next is the earliest map that is later than b.
+  pub next-earliest : (b f : List ℕ) → earliest (next b) (maps kind m s n t) ≡ some f → Earliest (λ g. IsMap kind m s n t g × (earlier b g ≡ true)) f
+  next-earliest b f e = earliest-found (next b) f e
+
+  pub next-none : (b : List ℕ) → earliest (next b) (maps kind m s n t) ≡ none → (g : List ℕ) → IsMap kind m s n t g → earlier b g ≡ true → ⊥
+  next-none b e = earliest-none (next b) e
+
+-- ---- where there is none
+
+no-entry : {A : Type 0} (l : List A) → ((x : A) → List·Memᴰ x l → ⊥) → l ≡ []
+no-entry [] h = refl
+no-entry (x ∷ l) h = absurd (h x (List·Memᴰ·head refl))
+
+-- An embedding has at most as many elements as its target.
+pub embedding-order : (m : ℕ) (s : Product) (n : ℕ) (t : Product) (f : List ℕ) → Embedding m s n t f → m ≤ n
+embedding-order m s n t f h = let w = h .homomorphism in no-more m n f (w .size) (w .within) (h .one-to-one)
+
+pub no-embedding : (m : ℕ) (s : Product) (n : ℕ) (t : Product) → n < m → maps embeddings m s n t ≡ []
+no-embedding m s n t h =
+    no-entry (maps embeddings m s n t) (λ f k. let l = embedding-order m s n t f (mem-maps embeddings m s n t f k) in let z : ⊥ = omega arith in z)
+
+pub no-isomorphism : (m : ℕ) (s : Product) (n : ℕ) (t : Product) → (m ≡ n → ⊥) → maps isomorphisms m s n t ≡ []
+no-isomorphism m s n t h = no-entry (maps isomorphisms m s n t) (λ f k. h (mem-maps isomorphisms m s n t f k .same-order))
+
+-- Between tables of one order the two kinds are one.
+pub one-order : (n : ℕ) (s t : Product) → maps isomorphisms n s n t ≡ maps embeddings n s n t
+unfolding maps isIsomorphism
+one-order n s t = keep-same (isIsomorphism n s n t) (isEmbedding n s n t) (lists n n) (λ f. ap (λ (b : Bool). b && isEmbedding n s n t f) (eq-eqb n n refl))
