@@ -9,7 +9,7 @@ use borrow.Author.Tests.{le-leb, lt-leb, eq-eqb, ne-eqb}
 use lib.ListN.{length, getD}
 use Rattle.semigroups.specs.Lists.{elements, at}
 use Rattle.semigroups.specs.Tables.{product, Element, isElement, associates, badCell, badTriple, Filled}
-use Rattle.semigroups.specs.Questions.{Refusal, no, firstNo, cellsRefusal, tableRefusal}
+use Rattle.semigroups.specs.Questions.{Refusal, no, firstNo, cellsRefusal, tableRefusal, tablesRefusal, naming}
 use Rattle.semigroups.proofs.Tables.{place-below, product-element}
 use Rattle.semigroups.proofs.Completions.{find-firstOf, firstFrom, first-start, first-skip, first-hit, first-end}
 use Rattle.semigroups.proofs.Booleans.{not-of-true, not-of-false}
@@ -128,9 +128,9 @@ module _ (n : ℕ) (cells : List ℕ) where
   unfolding cellsRefusal firstNo isElement orElse
   wrong-size l h e = rw (le-leb 1 n l, le-leb n 120 h, ne-eqb (length cells) (n * n) e)
 
-  pub right-size : 1 ≤ n → n ≤ 120 → length cells ≡ n * n → cellsRefusal n cells ≡ Option·map (λ k. no 3 (k ∷ [])) (badCell n cells)
+  pub right-size : 1 ≤ n → n ≤ 120 → length cells ≡ n * n → (o : Option ℕ) → badCell n cells ≡ o → cellsRefusal n cells ≡ Option·map (λ k. no 3 (k ∷ [])) o
   unfolding cellsRefusal firstNo isElement orElse
-  right-size l h e = rw (le-leb 1 n l, le-leb n 120 h, eq-eqb (length cells) (n * n) e) (orElse-nothing (Option·map (λ k. no 3 (k ∷ [])) (badCell n cells)))
+  right-size l h e o w = rw (le-leb 1 n l, le-leb n 120 h, eq-eqb (length cells) (n * n) e, w) (orElse-nothing (Option·map (λ k. no 3 (k ∷ [])) o))
 
   pub cells-refused : (r : Refusal) → cellsRefusal n cells ≡ some r → tableRefusal n cells ≡ some r
   unfolding tableRefusal firstNo orElse
@@ -139,3 +139,18 @@ module _ (n : ℕ) (cells : List ℕ) where
   pub cells-pass : cellsRefusal n cells ≡ none → tableRefusal n cells ≡ Option·map (λ l. no 4 l) (badTriple n (product n cells))
   unfolding tableRefusal firstNo orElse
   cells-pass e = rw e (orElse-nothing (Option·map (λ l. no 4 l) (badTriple n (product n cells))))
+
+-- ---- the questions about two tables
+
+module _ (m : ℕ) (source : List ℕ) (n : ℕ) (target : List ℕ) where
+  pub source-refused : (r : Refusal) → tableRefusal m source ≡ some r → tablesRefusal m source n target ≡ some (naming 1 r)
+  unfolding tablesRefusal firstNo orElse
+  source-refused r e = rw e
+
+  pub target-refused : (r : Refusal) → tableRefusal m source ≡ none → tableRefusal n target ≡ some r → tablesRefusal m source n target ≡ some (naming 2 r)
+  unfolding tablesRefusal firstNo orElse
+  target-refused r e g = rw (e, g)
+
+  pub both-pass : tableRefusal m source ≡ none → tableRefusal n target ≡ none → tablesRefusal m source n target ≡ none
+  unfolding tablesRefusal firstNo orElse
+  both-pass e g = rw (e, g)

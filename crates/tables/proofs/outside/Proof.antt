@@ -1,19 +1,13 @@
--- `in_range` meets its contract. The invariant: the first wrong cell is the first wrong one from cell `place` on. Assumes nothing.
-use mathlib.Core.Path.{_≡_, sym, ap, _∙_}
-use mathlib.Core.List.{[], _∷_}
-use mathlib.Core.Option.{Option, Option·map}
-use Prim.Native.Nat.{ℕ, suc, _-_, _≤_}
+-- `outside` meets its contract. The invariant: the first wrong cell is the first wrong one from `place` on. Assumes nothing.
+use mathlib.Core.Path.{_≡_, sym, _∙_}
+use Prim.Native.Nat.{suc, _-_, _≤_}
 use native.Mathlib.Omega.{arith}
 use borrow.Author.Needs.{needs}
 use lib.ListN.{length}
-use Rattle.semigroups.specs.Questions.{Refusal, no}
 use Rattle.semigroups.specs.Tables.{badCell}
 use Rattle.tables.proofs.Questions.{badFrom, cell-begin, cell-pass, cell-low, cell-high, cell-end}
-use Rattle.tables.proofs.in_range.Statement.{statement}
-use Rattle.tables.proofs.in_range.Tie as tie
-
-abbrev refusal : Option ℕ → Option Refusal
-refusal o = Option·map (λ k. no 3 (k ∷ [])) o
+use Rattle.tables.proofs.outside.Statement.{statement}
+use Rattle.tables.proofs.outside.Tie as tie
 
 abbrev Inv-loop : tie.InvT-loop
 Inv-loop cells n place₀ place = (1 ≤ place) × (badCell n cells ≡ badFrom n cells place)
@@ -36,12 +30,12 @@ cast-cell c = omega (arith, c .shared-slice-known .given (c .before .before .loo
 returns : tie.Need-returns Inv-loop μ-loop
 returns c =
     let h = c .before .before in
-    sym (ap refusal (h .before .loop .inv .1 ∙ cell-low _ _ _ (h .loop-test .taken) (c .if1 .taken)))
+    sym (h .before .loop .inv .1 ∙ cell-low _ _ _ (h .loop-test .taken) (c .if1 .taken))
 
 returns-2 : tie.Need-returns-2 Inv-loop μ-loop
 returns-2 c =
     let h = c .before .before .before in
-    sym (ap refusal (h .before .loop .inv .1 ∙ cell-high _ _ _ (h .loop-test .taken) (c .before .if1 .left) (c .if2 .taken)))
+    sym (h .before .loop .inv .1 ∙ cell-high _ _ _ (h .loop-test .taken) (c .before .if1 .left) (c .if2 .taken))
 
 add-place : tie.Need-add-place Inv-loop μ-loop
 add-place c = omega arith
@@ -55,10 +49,10 @@ loop-again c =
     (omega arith, h .before .loop .inv .1 ∙ cell-pass _ _ _ (h .loop-test .taken) (c .before .if1 .left) (c .if2 .left))
 
 returns-3 : tie.Need-returns-3 Inv-loop μ-loop
-returns-3 c = sym (ap refusal (c .before .loop .inv .1 ∙ cell-end _ _ _ (c .loop-test .left)))
+returns-3 c = sym (c .before .loop .inv .1 ∙ cell-end _ _ _ (c .loop-test .left))
 
-pub in-range-spec : {M : Type 1} → statement M
-in-range-spec =
+pub outside-spec : {M : Type 1} → statement M
+outside-spec =
     tie.close
     (tie.spec
     Inv-loop
