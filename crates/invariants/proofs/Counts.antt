@@ -4,7 +4,7 @@ use mathlib.Core.Path.{_≡_, refl, sym, ap, ap₂, _∙_}
 use mathlib.Core.Bool.{Bool, cond}
 use mathlib.Core.List.{List, [], _∷_, _++_, map}
 use Prim.Native.Nat.{ℕ, zero, suc, _+_, _-_, _*_, _≤_, _<_}
-use native.Mathlib.Nat.{suc-mul, mul-le-mul, mul-le-mul-right, mul-suc, mul-one}
+use native.Mathlib.Nat.{suc-mul, mul-le-mul, mul-le-mul-right, mul-suc}
 use native.Mathlib.Numerals.{add-one}
 use native.Mathlib.Omega.{arith}
 use borrow.Author.Tests.{eq-eqb, ne-eqb}
@@ -12,7 +12,7 @@ use lib.Dec.{eqb}
 use lib.ListN.{length, getD, take, drop, length-map, length-drop}
 use lib.Seq.{ext-getD, getD-drop, take-all}
 use Rattle.semigroups.specs.Lists.{range, elements, sum, count}
-use Rattle.semigroups.specs.Tables.{product, Element, Accepted}
+use Rattle.semigroups.specs.Tables.{product, Element, Filled}
 use Rattle.semigroups.specs.Invariants.{frequency, diagonalFrequency, rowFrequency, columnFrequency}
 use Rattle.semigroups.proofs.Lists.{length-range, length-elements, getD-range, getD-map}
 use Rattle.semigroups.proofs.Sums.{sum-append, count-map, count-at-most}
@@ -127,9 +127,9 @@ module _ (n : ℕ) (cells : List ℕ) where
 square-at-most : (n : ℕ) → n ≤ 120 → n * n ≤ 14400
 square-at-most n h = mul-le-mul h h
 
-module _ (n : ℕ) (cells : List ℕ) (t : Accepted n cells) where
+module _ (n : ℕ) (cells : List ℕ) (t : Filled n cells) where
   pub cells-at-most : length cells ≤ 14400
-  cells-at-most = let e = t .size in omega (arith, square-at-most n (t .to-limit))
+  cells-at-most = let e = t .size in omega (arith, square-at-most n (t .order .1))
 
   rows-below : (i : ℕ) → i < n → i * n + n ≤ n * n
   rows-below i h = let le : suc i * n ≤ n * n = mul-le-mul-right n h in omega (arith, suc-mul i n)

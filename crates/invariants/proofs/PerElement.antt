@@ -1,8 +1,8 @@
 -- Arrays that hold a value for each element and zeros behind: filled place by place, and raised by one at a place. Assumes nothing.
 use mathlib.Core.Path.{_≡_, refl, sym, ap, ap₂, _∙_}
-use mathlib.Core.Logic.{_⊎_, inl, inr, ⊎-elim}
+use mathlib.Core.Logic.{⊎-elim}
 use mathlib.Core.List.{List, [], _∷_, _++_, map, append-assoc, List·Memᴰ, List·Memᴰ·head, List·Memᴰ·tail}
-use Prim.Native.Nat.{ℕ, zero, suc, _+_, _-_, _≤_, _<_}
+use Prim.Native.Nat.{ℕ, suc, _+_, _-_, _≤_, _<_}
 use native.Mathlib.Omega.{arith}
 use lib.ListN.{length, getD, set, replicate, length-map, length-append, length-replicate, length-set, replicate-append-replicate, List·getD-append}
 use lib.Seq.{ext-getD, set-at, set-append-left, getD-set-same, getD-set-other}
@@ -10,7 +10,7 @@ use Rattle.semigroups.specs.Lists.{range, elements}
 use Rattle.semigroups.specs.Tables.{Element}
 use Rattle.semigroups.proofs.Booleans.{equal-or-not}
 use Rattle.semigroups.proofs.Lists.{length-elements, getD-map, getD-range, mem-elements}
-use Rattle.invariants.specs.Counts.{perElement}
+use Rattle.invariants.specs.PerElement.{perElement}
 use Rattle.invariants.proofs.Counts.{map-range-snoc}
 
 width : (n : ℕ) (w : ℕ → ℕ) → length (map w (elements n)) ≡ n

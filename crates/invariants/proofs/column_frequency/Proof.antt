@@ -1,42 +1,33 @@
+-- `column_frequency` meets its contract: n cells of the part that starts at a - 1, n apart, are column a. Assumes nothing.
 use native.Mathlib.Omega.{arith}
 use denote.Ref.{now}
-use Prim.Native.Nat.{ℕ, _+_, _-_, _*_, _≤_, _<_}
-use mathlib.Core.Path.{_≡_, sym, ap, _∙_, subst}
+use Prim.Native.Nat.{ℕ, _-_}
+use mathlib.Core.Path.{sym, ap, _∙_, subst}
 use mathlib.Core.List.{List}
-use lib.ListN.{length, drop}
 use Rattle.invariants.specs.Counts.{every, occurrences, Reached}
 use Rattle.invariants.proofs.Counts.{column-within, column-reached, column-counted, part-to-end}
 use borrow.Author.Needs.{needs}
 use Rattle.invariants.proofs.column_frequency.Statement.{statement}
 use Rattle.invariants.proofs.column_frequency.Tie as tie
-use Rattle.invariants.proofs.column_frequency.Reads as reads
-use Rattle.invariants.proofs.column_frequency.Lts as lts
-use Rattle.invariants.proofs.count.Reads as count-reads
 
--- src/lib.rt:125:14
 sub-at : tie.Need-sub-at
 sub-at c = search needs
 
--- src/lib.rt:126:11
 sub-count : tie.Need-sub-count
 sub-count c = let s = c .before in omega (arith, column-within (s .args .n) (now (s .args .cells)) (s .pre .0) (s .args .a) (s .pre .1))
 
--- src/lib.rt:126:11
 part-count-start : tie.Need-part-count-start
 part-count-start c = let s = c .before in omega (arith, column-within (s .args .n) (now (s .args .cells)) (s .pre .0) (s .args .a) (s .pre .1))
 
--- src/lib.rt:126:11
 part-count-end : tie.Need-part-count-end
 part-count-end c = search needs
 
--- src/lib.rt:126:5
 count-requires : tie.Need-count-requires
 count-requires c κs =
     let s = c .before .before in
     subst (Reached (s .args .n) (s .args .n)) (sym (part-to-end (now (s .args .cells)) (s .args .a - 1)))
     (column-reached (s .args .n) (now (s .args .cells)) (s .pre .0) (s .args .a) (s .pre .1))
 
--- src/lib.rt:120:1
 returns : tie.Need-returns
 returns c =
     let s = c .before .before .before in

@@ -1,14 +1,13 @@
+-- `count` meets its contract: what was found is how often a stands among the first i of the k cells. The measure is what is left of k. Assumes nothing.
 use native.Mathlib.Omega.{arith}
 use denote.Ref.{now}
-use Prim.Native.Nat.{ℕ, _+_, _-_, _*_, _≤_, _<_}
+use Prim.Native.Nat.{ℕ, _-_, _*_, _≤_}
 use mathlib.Core.Path.{_≡_, sym, ap, _∙_}
 use mathlib.Core.Logic.{⊎-elim}
 use Rattle.invariants.specs.Counts.{every, occurrences}
 use Rattle.invariants.proofs.Counts.{none-yet, count-hit, count-miss}
 use Rattle.invariants.proofs.count.Statement.{statement}
 use Rattle.invariants.proofs.count.Tie as tie
-use Rattle.invariants.proofs.count.Reads as reads
-use Rattle.invariants.proofs.count.Lts as lts
 
 abbrev Inv-loop : tie.InvT-loop
 Inv-loop cells k step a found₀ i₀ found i = (i ≤ k) × (found ≤ i) × (found ≡ occurrences a (every step i cells))
@@ -16,35 +15,27 @@ Inv-loop cells k step a found₀ i₀ found i = (i ≤ k) × (found ≤ i) × (f
 abbrev μ-loop : tie.MeasureT-loop
 μ-loop cells k step a found₀ i₀ found i = k - i
 
--- src/lib.rt:83:5
 loop-holds : tie.Need-loop-holds Inv-loop μ-loop
 loop-holds c = let a = c .args in (omega arith, omega arith, sym (none-yet (a .a) (a .step) (now (a .cells))))
 
--- src/lib.rt:84:18
 mul-if1 : tie.Need-mul-if1 Inv-loop μ-loop
 mul-if1 c = omega (arith, c .before .before .pre (c .before .loop .i) (c .loop-test .taken))
 
--- src/lib.rt:84:12
 shared-slice-read-if1 : tie.Need-shared-slice-read-if1 Inv-loop μ-loop
 shared-slice-read-if1 c = let t = c .before in omega (arith, t .before .before .pre (t .before .loop .i) (t .loop-test .taken))
 
--- src/lib.rt:84:12
 cast-if1 : tie.Need-cast-if1 Inv-loop μ-loop
 cast-if1 c = let t = c .before in omega (arith, c .shared-slice-known .given (t .before .loop .i * t .before .before .args .step))
 
--- src/lib.rt:85:13
 add-found : tie.Need-add-found Inv-loop μ-loop
 add-found c = omega arith
 
--- src/lib.rt:87:9
 add-i : tie.Need-add-i Inv-loop μ-loop
 add-i c = omega arith
 
--- src/lib.rt:83:5
 loop-less : tie.Need-loop-less Inv-loop μ-loop
 loop-less c = omega arith
 
--- src/lib.rt:83:5
 loop-again : tie.Need-loop-again Inv-loop μ-loop
 loop-again c =
     let t = c .before .before in
@@ -53,7 +44,6 @@ loop-again c =
     ⊎-elim (λ w. omega (arith, count-hit (a .a) (a .step) (now (a .cells)) (l .i) (w .0 .taken)))
     (λ w. omega (arith, count-miss (a .a) (a .step) (now (a .cells)) (l .i) (w .0 .left))) (c .if1 .came)
 
--- src/lib.rt:77:1
 returns : tie.Need-returns Inv-loop μ-loop
 returns c =
     let l = c .before .loop in

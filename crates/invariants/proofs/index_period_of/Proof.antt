@@ -1,17 +1,16 @@
+-- `index_period_of` meets its contract: the walk stands at power k, and each power before it is noted once (`Walked` of proofs/Powers.antt); of n + 1
+-- powers two are equal, which bounds the walk and is the measure. Assumes nothing.
 use native.Mathlib.Omega.{arith}
 use denote.Ref.{now}
-use Prim.Native.Nat.{ℕ, suc, _+_, _-_, _*_, _≤_, _<_}
-use mathlib.Core.Path.{_≡_, refl, sym, ap, ap₂, _∙_}
-use lib.ListN.{length, getD}
+use Prim.Native.Nat.{ℕ, _+_, _-_, _≤_, _<_}
+use mathlib.Core.Path.{_≡_, ap₂}
+use lib.ListN.{getD}
 use Rattle.semigroups.specs.Tables.{Product, product, Closed}
 use Rattle.semigroups.specs.Invariants.{index, period, indexPeriod, IndexPeriod}
-use Rattle.semigroups.proofs.Tables.{accepted-closed}
+use Rattle.semigroups.proofs.Tables.{product-element}
 use Rattle.invariants.proofs.Powers.{Walked, walk-start, walk-short, walk-step, walk-end}
 use Rattle.invariants.proofs.index_period_of.Statement.{statement}
 use Rattle.invariants.proofs.index_period_of.Tie as tie
-use Rattle.invariants.proofs.index_period_of.Reads as reads
-use Rattle.invariants.proofs.index_period_of.Lts as lts
-use Rattle.invariants.proofs.times.Reads as times-reads
 
 abbrev Inv-loop : tie.InvT-loop
 Inv-loop cells n a met₀ power₀ k₀ met power k = Walked n (product n cells) a met power k
@@ -28,7 +27,7 @@ module _ (c : tie.At-loop Inv-loop μ-loop) where
   table = product (start .args .n) (now (start .args .cells))
 
   closed : Closed (start .args .n) table
-  closed = accepted-closed (start .args .n) (now (start .args .cells)) (start .pre .0)
+  closed = product-element (start .args .n) (now (start .args .cells)) (start .pre .0 .size) (start .pre .0 .in-range)
 
   short : getD (c .loop .met) (c .loop .power) 0 ≡ 0 → c .loop .k ≤ start .args .n
   short = walk-short (start .args .n) table (start .args .a) closed (start .pre .1) (c .loop .met) (c .loop .power) (c .loop .k) (c .loop .inv)
@@ -39,60 +38,48 @@ module _ (c : tie.At-loop Inv-loop μ-loop) where
       × (c .loop .k - getD (c .loop .met) (c .loop .power) 0 ≡ period (start .args .n) table (start .args .a))
   found = walk-end (start .args .n) table (start .args .a) closed (start .pre .1) (c .loop .met) (c .loop .power) (c .loop .k) (c .loop .inv)
 
--- src/lib.rt:39:5
 loop-holds : tie.Need-loop-holds Inv-loop μ-loop
 loop-holds c = let a = c .before .args in walk-start (a .n) (product (a .n) (now (a .cells))) (a .a) (c .before .pre .1)
 
--- src/lib.rt:39:11
 array-read-loop : tie.Need-array-read-loop Inv-loop μ-loop
-array-read-loop c = let w = c .loop .inv .element in let l = c .before .before .pre .0 .to-limit in omega arith
+array-read-loop c = let w = c .loop .inv .element in let l = c .before .before .pre .0 .order .1 in omega arith
 
--- src/lib.rt:40:22
 cast-met : tie.Need-cast-met Inv-loop μ-loop
-cast-met c = let l = c .before .before .before .pre .0 .to-limit in omega (arith, short (c .before) (c .loop-test .taken))
+cast-met c = let l = c .before .before .before .pre .0 .order .1 in omega (arith, short (c .before) (c .loop-test .taken))
 
--- src/lib.rt:40:9
 array-write-met : tie.Need-array-write-met Inv-loop μ-loop
-array-write-met c = let w = c .before .loop .inv .element in let l = c .before .before .before .pre .0 .to-limit in omega arith
+array-write-met c = let w = c .before .loop .inv .element in let l = c .before .before .before .pre .0 .order .1 in omega arith
 
--- src/lib.rt:41:9
 times-requires : tie.Need-times-requires Inv-loop μ-loop
 times-requires c κs = let s = c .before .before .before in (s .pre .0, (c .before .loop .inv .element, s .pre .1))
 
--- src/lib.rt:42:9
 add-k : tie.Need-add-k Inv-loop μ-loop
-add-k c = let t = c .before in let l = t .before .before .before .pre .0 .to-limit in omega (arith, short (t .before) (t .loop-test .taken))
+add-k c = let t = c .before in let l = t .before .before .before .pre .0 .order .1 in omega (arith, short (t .before) (t .loop-test .taken))
 
--- src/lib.rt:39:5
 loop-less : tie.Need-loop-less Inv-loop μ-loop
 loop-less c = let t = c .before in omega (arith, short (t .before) (t .loop-test .taken))
 
--- src/lib.rt:39:5
 loop-again : tie.Need-loop-again Inv-loop μ-loop
 loop-again c =
     let t = c .before in
     let h = t .before in
     let s = start h in
-    walk-step (s .args .n) (table h) (s .args .a) (closed h) (s .pre .1) (h .loop .met) (h .loop .power) (h .loop .k) (h .loop .inv) (s .pre .0 .to-limit) (t .loop-test .taken)
+    walk-step (s .args .n) (table h) (s .args .a) (closed h) (s .pre .1) (h .loop .met) (h .loop .power) (h .loop .k) (h .loop .inv) (s .pre .0 .order .1) (t .loop-test .taken)
     (c .times .result) (c .times .ensures .0)
 
--- src/lib.rt:44:17
 array-read-first : tie.Need-array-read-first Inv-loop μ-loop
-array-read-first c = let w = c .before .loop .inv .element in let l = c .before .before .before .pre .0 .to-limit in omega arith
+array-read-first c = let w = c .before .loop .inv .element in let l = c .before .before .before .pre .0 .order .1 in omega arith
 
--- src/lib.rt:44:17
 cast-first : tie.Need-cast-first Inv-loop μ-loop
 cast-first c =
     let f = found (c .before) (c .loop-test .left) in
     let f1 = f .1 in
-    let l = c .before .before .before .pre .0 .to-limit in
+    let l = c .before .before .before .pre .0 .order .1 in
     let e = c .before .loop .inv .to-end in omega arith
 
--- src/lib.rt:47:17
 sub-t17 : tie.Need-sub-t17 Inv-loop μ-loop
 sub-t17 c = let f = found (c .before) (c .loop-test .left) in let f1 = f .1 in omega arith
 
--- src/lib.rt:31:1
 returns : tie.Need-returns Inv-loop μ-loop
 unfolding indexPeriod
 returns c =

