@@ -1,0 +1,4 @@
+pub mod Powers
+pub mod Counts
+pub mod PerElement
+pub mod Questions
