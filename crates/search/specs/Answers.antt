@@ -2,6 +2,8 @@
 -- Assumes nothing.
 use mathlib.Core.Bool.{Bool, true, false}
 use mathlib.Core.List.{[]}
+use Prim.Native.Nat.{ℕ}
+use lib.Dec.{eqb, leb}
 use Rattle.semigroups.specs.Questions.{Refusal, no, naming}
 use Rattle.semigroups.specs.Maps as maps
 use Rattle.semigroups.specs.Walks as said
@@ -27,3 +29,8 @@ kindOf Isomorphisms = maps.isomorphisms
 abbrev pub requestOf : Bool → Request
 requestOf true = theNext
 requestOf false = theFirst
+
+-- Whether tables of orders m and n can have a map of the kind: m is at most n for embeddings, and equal for isomorphisms (01, "Maps").
+abbrev pub orderFits : maps.Kind → ℕ → ℕ → Bool
+orderFits maps.embeddings m n = leb m n
+orderFits maps.isomorphisms m n = eqb m n
