@@ -20,6 +20,9 @@ pub record Lent : Type 0 where
   pub map : List ℕ
   pub scratch : List ℕ
 
+abbrev pub lend : List ℕ → ℕ → List ℕ → ℕ → List ℕ → List ℕ → Lent
+lend source m target n map scratch = record { source = source; m = m; target = target; n = n; map = map; scratch = scratch }
+
 -- What a call says, and the two buffers as it leaves them.
 pub record Called : Type 0 where
   pub says : Said Refusal
