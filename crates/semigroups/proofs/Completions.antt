@@ -1,14 +1,14 @@
 -- All lists that begin with p: what is found among them is found by trying the next entry from 1 upward. The loops over entries, pairs and triples
 -- and the search itself go by these laws. Assumes nothing.
 use mathlib.Core.Path.{_≡_, refl, sym, ap, ap₂, _∙_, subst}
-use mathlib.Core.Bool.{Bool, true, false, cond}
+use mathlib.Core.Bool.{Bool, true, false, _&&_, cond}
 use mathlib.Core.Option.{Option, none, some, orElse}
 use mathlib.Core.List.{List, [], _∷_, _++_, map, flatMap, append-assoc, append-nil, List·Memᴰ, List·Memᴰ·head, List·Memᴰ·tail}
 use Prim.Native.Nat.{ℕ, zero, suc, _+_, _-_, _≤_, _<_}
 use native.Mathlib.Nat.{add-sub-cancel}
 use native.Mathlib.Numerals.{add-one}
 use native.Mathlib.Omega.{arith}
-use Rattle.semigroups.specs.Lists.{range, elements, find, firstOf, lists}
+use Rattle.semigroups.specs.Lists.{range, elements, all, find, firstOf, lists}
 use Rattle.semigroups.proofs.FlatMap.{find-flatMap}
 
 -- Every list of the given ones behind p.
@@ -96,3 +96,24 @@ module _ {B : Type 0} where
   unfolding firstOf
   firstOf-same g h [] e = refl
   firstOf-same g h (x ∷ l) e = ap₂ orElse (e x (List·Memᴰ·head refl)) (firstOf-same g h l (λ y m. e y (List·Memᴰ·tail m)))
+
+-- ---- testing the values from x upward
+
+-- Whether p passes at each of x, .., n.
+unfoldable pub allFrom : (ℕ → Bool) → ℕ → ℕ → Bool
+allFrom p n x = all p (range x (n + 1 - x))
+
+module _ (p : ℕ → Bool) (n : ℕ) where
+  pub all-start : all p (elements n) ≡ allFrom p n 1
+  unfolding allFrom elements
+  all-start = ap (λ (k : ℕ). all p (range 1 k)) (sym (add-sub-cancel n 1))
+
+  pub all-step : (x : ℕ) → x ≤ n → allFrom p n x ≡ (p x && allFrom p n (x + 1))
+  unfolding allFrom all range
+  all-step x h =
+      let e : n + 1 - x ≡ suc (n + 1 - (x + 1)) = omega arith in
+      ap (λ (k : ℕ). all p (range x k)) e ∙ ap (λ (y : ℕ). p x && all p (range y (n + 1 - (x + 1)))) (sym (add-one x))
+
+  pub all-end : (x : ℕ) → n < x → allFrom p n x ≡ true
+  unfolding allFrom all range
+  all-end x h = ap (λ (k : ℕ). all p (range x k)) (let e : n + 1 - x ≡ 0 = omega arith in e)

@@ -6,10 +6,11 @@ use mathlib.Core.List.{List, [], _∷_, map, List·Memᴰ, List·Memᴰ·head, M
 use Prim.Native.Nat.{ℕ, _≤_, _<_}
 use native.Mathlib.Nat.{le-antisymm}
 use lib.ListN.{length, getD, length-map}
+use Rattle.semigroups.specs.Lists.{NoRepeats}
 use Rattle.semigroups.specs.Tables.{Product, Element, Closed}
 use Rattle.semigroups.specs.Maps.{Embedding, embeddings, isomorphisms, maps, identity, after, inverse}
 use Rattle.semigroups.specs.Isomorphisms.{IsGroup, EachOnce}
-use Rattle.semigroups.proofs.NoRepeats.{NoRepeats, length-inside, mem-place, place-mem, place-unique, map-no-repeats}
+use Rattle.semigroups.proofs.NoRepeats.{length-inside, mem-place, place-mem, place-unique, map-no-repeats}
 use Rattle.semigroups.proofs.ListOrder.{increasing-no-repeats}
 use Rattle.semigroups.proofs.Maps.{maps-increasing, mem-maps, maps-mem, one-order}
 use Rattle.semigroups.proofs.Composition.{identity-embeds, after-embeds, inverse-at, inverse-embeds, after-inverse, after-cancels}

@@ -11,11 +11,10 @@ use native.Mathlib.Omega.{arith}
 use borrow.Author.Tests.{eqb-true, eq-eqb, ne-eqb, ltb-true, lt-ltb, le-ltb}
 use lib.Dec.{eqb, ltb}
 use lib.ListN.{length, length-map}
-use Rattle.semigroups.specs.Lists.{range, elements, find, earlier, lists, Increasing, Earliest}
+use Rattle.semigroups.specs.Lists.{range, elements, find, earlier, lists, Increasing, Earliest, NoRepeats}
 use Rattle.semigroups.specs.Tables.{Element, IsList}
 use Rattle.semigroups.proofs.Booleans.{clash, untrue, trichotomy}
 use Rattle.semigroups.proofs.Lists.{mem-elements, elements-mem, length-range, find-some, find-none, find-first, sorted-map, sorted-weaken, sorted-range}
-use Rattle.semigroups.proofs.NoRepeats.{NoRepeats}
 use Rattle.semigroups.proofs.FlatMap.{mem-flatMap, flatMap-mem, sorted-flatMap, length-flatMap}
 
 -- ---- the order

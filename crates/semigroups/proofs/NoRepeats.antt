@@ -8,19 +8,12 @@ use native.Mathlib.Omega.{arith}
 use borrow.Author.Tests.{eq-eqb, ne-eqb, not-true}
 use lib.Dec.{eqb}
 use lib.ListN.{length, getD, length-map}
-use Rattle.semigroups.specs.Lists.{range, elements, at, sum, count, member, distinct, Sorted}
+use Rattle.semigroups.specs.Lists.{range, elements, at, sum, count, member, distinct, Sorted, NoRepeats}
 use Rattle.semigroups.specs.Tables.{Element}
 use Rattle.semigroups.proofs.Booleans.{both, and-left, and-right, not-of-false, trichotomy}
 use Rattle.semigroups.proofs.Lists.{length-range, getD-range, length-elements, mem-elements, elements-mem, at-suc, getD-map, sorted-range, sorted-weaken, not-member, unmember, mem-or-not}
 
--- No entry equals one behind it.
-abbrev pub NoRepeats : {A : Type 0} → List A → Type 0
-NoRepeats {A} l = Sorted (λ (x y : A). x ≡ y → ⊥) l
-
 module _ {A : Type 0} where
-  apart : (x : A) (l : List A) → ((y : A) → List·Memᴰ y l → x ≡ y → ⊥) → List·Memᴰ x l → ⊥
-  apart x l h m = h x m refl
-
   -- The list without the one entry that a membership points at.
   abbrev without : {x : A} (l : List A) → List·Memᴰ x l → List A
   without (y ∷ l) (List·Memᴰ·head e) = l

@@ -10,23 +10,18 @@ use native.Mathlib.Omega.{arith}
 use borrow.Author.Tests.{eqb-true, eq-eqb, leb-true, leb-false, le-leb, not-true}
 use lib.Dec.{eqb, leb}
 use lib.ListN.{length, length-append}
-use Rattle.semigroups.specs.Lists.{range, elements, at, all, member, earlier, lists}
+use Rattle.semigroups.specs.Lists.{range, elements, at, all, member, earlier, lists, NoRepeats}
 use Rattle.semigroups.specs.Tables.{Product, Element, Closed}
 use Rattle.semigroups.specs.Maps.{Embedding, isEmbedding, embeddings, maps, Ask, first, next, beyond, earliest}
-use Rattle.semigroups.specs.Search.{notBefore, fits, passes, admits, search}
+use Rattle.semigroups.specs.Search.{notBefore, fits, passes, admits, search, Placed}
 use Rattle.semigroups.proofs.Booleans.{clash, untrue, both, and-left, and-right, not-of-false}
 use Rattle.semigroups.proofs.Lists.{mem-elements, at-suc, at-front, at-seam, length-snoc, pairs-at, pairs-of, none-find, find-keep, sorted-append, not-member, unmember}
-use Rattle.semigroups.proofs.NoRepeats.{NoRepeats, one-to-one, mem-place, place-mem}
+use Rattle.semigroups.proofs.NoRepeats.{one-to-one, mem-place, place-mem}
 use Rattle.semigroups.proofs.ListOrder.{earlier-irreflexive, earlier-transitive, earlier-longer}
 use Rattle.semigroups.proofs.Completions.{behind, findBehind, find-all, find-whole, find-entry, firstOf-same}
 use Rattle.semigroups.proofs.Maps.{is-embedding, embedding-is}
 
 -- ---- a list placed so far
-
--- Its entries are elements of the target, and no two are equal.
-pub record Placed (n : ℕ) (p : List ℕ) : Type 0 where
-  pub entries : (x : ℕ) → List·Memᴰ x p → Element n x
-  pub apart : NoRepeats p
 
 pub placed-none : (n : ℕ) → Placed n []
 placed-none n = record { entries = λ x k. absurd (List·Memᴰ·not-nil k); apart = tt }

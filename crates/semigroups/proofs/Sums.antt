@@ -11,11 +11,11 @@ use borrow.Author.Tests.{eq-eqb, ne-eqb}
 use lib.Dec.{eqb}
 use lib.ListN.{length, getD, drop}
 use lib.Seq.{drop-cons}
-use Rattle.semigroups.specs.Lists.{range, elements, sum, count}
+use Rattle.semigroups.specs.Lists.{range, elements, sum, count, NoRepeats}
 use Rattle.semigroups.specs.Tables.{Element}
 use Rattle.semigroups.proofs.Booleans.{equal-or-not}
 use Rattle.semigroups.proofs.Lists.{elements-mem}
-use Rattle.semigroups.proofs.NoRepeats.{NoRepeats, elements-no-repeats}
+use Rattle.semigroups.proofs.NoRepeats.{elements-no-repeats}
 
 module _ {A : Type 0} where
   pub sum-same : (v w : A → ℕ) (l : List A) → ((x : A) → List·Memᴰ x l → v x ≡ w x) → sum v l ≡ sum w l

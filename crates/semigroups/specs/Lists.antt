@@ -91,6 +91,10 @@ abbrev pub Sorted : {A : Type 0} → (A → A → Type 0) → List A → Type 0
 Sorted R [] = Unit {0}
 Sorted {A} R (x ∷ l) = ((y : A) → List·Memᴰ y l → R x y) × Sorted R l
 
+-- No entry equals one behind it.
+abbrev pub NoRepeats : {A : Type 0} → List A → Type 0
+NoRepeats {A} l = Sorted (λ (x y : A). x ≡ y → ⊥) l
+
 -- Each list is earlier than every list behind it.
 abbrev pub Increasing : List (List ℕ) → Type 0
 Increasing l = Sorted (λ a b. earlier a b ≡ true) l

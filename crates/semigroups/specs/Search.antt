@@ -3,13 +3,13 @@
 -- The paper prints φ(i)φ(k) for the undefined product that it means, φ(i)φ(j).
 -- Assumes nothing.
 use mathlib.Core.Bool.{Bool, true, false, _&&_, not, cond}
-use mathlib.Core.List.{List, [], _∷_, _++_}
+use mathlib.Core.List.{List, [], _∷_, _++_, List·Memᴰ}
 use mathlib.Core.Option.{Option, none, some}
 use Prim.Native.Nat.{ℕ, zero, suc}
 use lib.Dec.{eqb, leb}
 use lib.ListN.{length}
-use Rattle.semigroups.specs.Lists.{elements, at, all, firstOf, member, earlier}
-use Rattle.semigroups.specs.Tables.{Product}
+use Rattle.semigroups.specs.Lists.{elements, at, all, firstOf, member, earlier, NoRepeats}
+use Rattle.semigroups.specs.Tables.{Product, Element}
 use Rattle.semigroups.specs.Maps.{Ask, first, next, beyond}
 
 -- Whether no list that begins with p is ruled out for being too early.
@@ -42,3 +42,10 @@ module _ (s t : Product) where
     unfoldable pub search : ℕ → ℕ → List ℕ → Option (List ℕ)
     search n zero p = cond (beyond ask p) (some p) none
     search n (suc d) p = firstOf (λ x. let r = search n d (p ++ x ∷ []) in cond (admits p x) r none) (elements n)
+
+-- ---- plain statements
+
+-- What is placed so far: its entries are elements of the target, and no two are equal.
+pub record Placed (n : ℕ) (p : List ℕ) : Type 0 where
+  pub entries : (x : ℕ) → List·Memᴰ x p → Element n x
+  pub apart : NoRepeats p
