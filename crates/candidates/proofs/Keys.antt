@@ -174,7 +174,7 @@ key-at : (n : ℕ) (w : ℕ → ℕ) (l : List ℕ) (a : ℕ) → Element n a �
 key-at n w l a h e = ap (λ (x : List ℕ). getD x (a - 1) 0) e ∙ per-element-at n w a h
 
 -- Equal keys are equal index-periods, or equal profiles: the candidates of either kind.
-module _ (m : ℕ) (source : List ℕ) (n : ℕ) (target : List ℕ) (fs : Filled m source) (ft : Filled n target) (sources targets scratch : List ℕ) where
+module _ {m : ℕ} {source : List ℕ} {n : ℕ} {target : List ℕ} {sources targets : List ℕ} (scratch : List ℕ) (fs : Filled m source) (ft : Filled n target) where
   pub embedding-marks : sources ≡ perElement m (λ a. indexPeriodKey (indexPeriod m (product m source) a)) → targets ≡ perElement n (λ a. indexPeriodKey (indexPeriod n (product n target) a))
       → scratchAfter m n (sameKey sources targets) scratch ≡ scratchAfter m n (candidate embeddings m (product m source) n (product n target)) scratch
   unfolding sameKey at candidate

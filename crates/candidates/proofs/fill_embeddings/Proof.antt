@@ -20,13 +20,10 @@ same-length c = search needs
 
 returns : tie.Need-returns
 returns c =
-    let f = c .before .before in
-    let targets = f .before .before .before .before in
+    let targets = c .before .before .before .before .before .before in
     let sources = targets .before in
-    let s = sources .before .before .before .before in
-    let a = s .args in
-    f .fill .ensures
-    ∙ embedding-marks (a .m) (now (a .source)) (a .n) (now (a .target)) (s .pre .0 .0) (s .pre .0 .1) (sources .index-period-keys .result) (targets .index-period-keys2 .result) (now (a .scratch)) (sources .index-period-keys .ensures) (targets .index-period-keys2 .ensures)
+    let start = sources .before .before .before .before in
+    c .before .before .fill .ensures ∙ embedding-marks (now (start .args .scratch)) (start .pre .0 .0) (start .pre .0 .1) (sources .index-period-keys .ensures) (targets .index-period-keys2 .ensures)
 
 pub fill-embeddings-spec : {M : Type 1} → statement M
 fill-embeddings-spec =

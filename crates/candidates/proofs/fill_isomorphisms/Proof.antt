@@ -20,13 +20,10 @@ same-length c = search needs
 
 returns : tie.Need-returns
 returns c =
-    let f = c .before .before in
-    let targets = f .before .before .before .before in
+    let targets = c .before .before .before .before .before .before in
     let sources = targets .before in
-    let s = sources .before .before .before .before in
-    let a = s .args in
-    f .fill .ensures
-    ∙ isomorphism-marks (a .m) (now (a .source)) (a .n) (now (a .target)) (s .pre .0 .0) (s .pre .0 .1) (sources .profile-keys .result) (targets .profile-keys2 .result) (now (a .scratch)) (sources .profile-keys .ensures) (targets .profile-keys2 .ensures)
+    let start = sources .before .before .before .before in
+    c .before .before .fill .ensures ∙ isomorphism-marks (now (start .args .scratch)) (start .pre .0 .0) (start .pre .0 .1) (sources .profile-keys .ensures) (targets .profile-keys2 .ensures)
 
 pub fill-isomorphisms-spec : {M : Type 1} → statement M
 fill-isomorphisms-spec =
