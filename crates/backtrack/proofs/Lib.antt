@@ -1,1 +1,5 @@
 pub mod Marks
+pub mod Placing
+pub mod Noting
+pub mod Steps
+pub mod Extending

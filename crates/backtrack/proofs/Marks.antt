@@ -1,25 +1,32 @@
 -- Marks and the pairs of the new element decide what all pairs decide. The idea: a pair placed before can fail now only where its product is the new
 -- element and its target product another one, or the other way round. Assumes nothing.
+-- ---- one more value asked
+-- Marks after one more pair, which asks y₀ of c₀.
+-- ---- one more element
+-- A test over 1 to k + 1 is one over 1 to k, and one at k + 1.
+-- Tests that agree at 1 to k.
+-- The pairs of k + 1 elements are those of k, and those of the last.
+-- ---- the test by marks is the test of all pairs
+-- ---- the pairs of the newest element, one after another
 use mathlib.Core.Path.{_≡_, refl, sym, ap, ap₂, subst, _∙_}
 use mathlib.Core.Logic.{_⊎_, inl, inr, ⊎-elim}
-use mathlib.Core.Bool.{Bool, true, false, cond, not, _&&_, _||_, and-true, or-true, or-false, or-assoc}
+use mathlib.Core.Bool.{Bool, true, false, cond, not, _&&_, _||_, and-true, and-false, or-true, or-false, or-assoc}
 use mathlib.Core.List.{List, [], _∷_, _++_, List·Memᴰ}
-use Prim.Native.Nat.{ℕ, zero, suc, _+_, _-_, _≤_, _<_}
-use native.Mathlib.Nat.{eq-or-lt-of-le, le-refl}
+use Prim.Native.Nat.{ℕ, suc, _+_, _-_, _≤_, _<_}
+use native.Mathlib.Nat.{eq-or-lt-of-le}
 use native.Mathlib.Omega.{arith}
 use borrow.Author.Tests.{eqb-true, eqb-false, eq-eqb, ne-eqb, le-leb, lt-leb, leb-true, leb-false, not-true}
 use lib.Dec.{eqb, leb}
-use lib.ListN.{length, getD, set, length-set}
+use lib.ListN.{length, getD, set}
 use lib.Seq.{getD-set-same, getD-set-other}
 use Rattle.semigroups.specs.Lists.{elements, at, all, member}
 use Rattle.semigroups.specs.Tables.{Product, Element, Closed}
 use Rattle.semigroups.specs.Search.{fits, passes}
-use Rattle.semigroups.proofs.Booleans.{either, clash, untrue, same-truth, both, and-left, and-right, or-holds}
+use Rattle.semigroups.proofs.Booleans.{clash, untrue, same-truth, both, and-left, and-right, or-holds}
 use Rattle.semigroups.proofs.Lists.{each-at, each-of, pairs-at, pairs-of, at-front, at-seam, length-snoc, not-member}
 use Rattle.semigroups.proofs.NoRepeats.{place-mem}
-use Rattle.backtrack.specs.Marks.{allows, merge, imageProduct, asks, agreeOn, cross, newFits, Reads}
-
--- ---- one more value asked
+use Rattle.semigroups.proofs.Completions.{allFrom, all-step}
+use Rattle.backtrack.specs.Marks.{allows, merge, noted, imageProduct, asks, agreeOn, cross, newFits, Reads}
 
 merge-allows : (v y₀ y : ℕ) → 1 ≤ y₀ → y ≤ 120 → allows (merge v y₀) y ≡ (allows v y && eqb y₀ y)
 merge-allows v y₀ y lo hi =
@@ -33,9 +40,8 @@ merge-allows v y₀ y lo hi =
       ] refl)
     ] refl
 
--- Marks after one more pair, which asks y₀ of c₀.
 pub note-reads : (marks : List ℕ) (q : ℕ → ℕ → Bool) (c₀ y₀ : ℕ) → length marks ≡ 121 → Element 120 c₀ → Element 120 y₀ → Reads marks q
-    → Reads (set marks c₀ (merge (getD marks c₀ 0) y₀)) (λ c y. q c y && (not (eqb c₀ c) || eqb y₀ y))
+    → Reads (noted marks c₀ y₀) (λ c y. q c y && (not (eqb c₀ c) || eqb y₀ y))
 note-reads marks q c₀ y₀ l hc hy R c y hc′ hy′ =
     elim (eqb c₀ c) as (λ w. eqb c₀ c ≡ w → allows (getD (set marks c₀ (merge (getD marks c₀ 0) y₀)) c 0) y ≡ (q c y && (not w || eqb y₀ y))) [
       | true ↦ (λ e.
@@ -50,23 +56,18 @@ note-reads marks q c₀ y₀ l hc hy R c y hc′ hy′ =
           ∙ R c y hc′ hy′ ∙ sym (and-true (q c y)))
     ] refl
 
--- ---- one more element
-
--- A test over 1 to k + 1 is one over 1 to k, and one at k + 1.
 pub each-more : (k : ℕ) (p : ℕ → Bool) → all p (elements (suc k)) ≡ (all p (elements k) && p (suc k))
 each-more k p =
     same-truth (all p (elements (suc k))) (all p (elements k) && p (suc k))
     (λ h. both (all p (elements k)) (p (suc k)) (each-of k p (λ i w. each-at (suc k) p h i (omega arith))) (each-at (suc k) p h (suc k) (omega arith)))
     (λ h. each-of (suc k) p (λ i w. ⊎-elim (λ (e : i ≡ suc k). ap p e ∙ and-right (all p (elements k)) (p (suc k)) h) (λ (l : i < suc k). each-at k p (and-left (all p (elements k)) (p (suc k)) h) i (omega arith)) (eq-or-lt-of-le (w .1))))
 
--- Tests that agree at 1 to k.
 pub each-same : (k : ℕ) (p q : ℕ → Bool) → ((i : ℕ) → Element k i → p i ≡ q i) → all p (elements k) ≡ all q (elements k)
 each-same k p q h =
     same-truth (all p (elements k)) (all q (elements k))
     (λ e. each-of k q (λ i w. sym (h i w) ∙ each-at k p e i w))
     (λ e. each-of k p (λ i w. h i w ∙ each-at k q e i w))
 
--- The pairs of k + 1 elements are those of k, and those of the last.
 square-more : (p : ℕ → ℕ → Bool) (k : ℕ) → all (λ a. all (p a) (elements (suc k))) (elements (suc k)) ≡ (all (λ a. all (p a) (elements k)) (elements k) && all (λ j. cross p (suc k) j) (elements (suc k)))
 square-more p k =
     same-truth whole (old && new)
@@ -102,12 +103,10 @@ asked u v c y e q = ⊎-elim (λ h. absurd (eqb-false u c (not-true (eqb u c) h)
 asking : (u v c y : ℕ) → (u ≡ c → v ≡ y) → (not (eqb u c) || eqb v y) ≡ true
 asking u v c y h = elim (eqb u c) as (λ w. eqb u c ≡ w → (not w || eqb v y) ≡ true) [ true ↦ (λ e. eq-eqb v y (h (eqb-true u c e))) | false ↦ (λ _. refl) ] refl
 
-member-snoc : (y : ℕ) (f : List ℕ) (x : ℕ) → member y (f ++ x ∷ []) ≡ (member y f || eqb y x)
+pub member-snoc : (y : ℕ) (f : List ℕ) (x : ℕ) → member y (f ++ x ∷ []) ≡ (member y f || eqb y x)
 unfolding member
 member-snoc y [] x = or-false (eqb y x)
 member-snoc y (z ∷ f) x = ap (λ (b : Bool). eqb y z || b) (member-snoc y f x) ∙ sym (or-assoc (eqb y z) (member y f) (eqb y x))
-
--- ---- the test by marks is the test of all pairs
 
 module _ (m : ℕ) (s t : Product) (closed : Closed m s) (f : List ℕ) (x : ℕ) (short : length f < m) where
   abbrev k : ℕ
@@ -212,3 +211,13 @@ module _ (m : ℕ) (s t : Product) (closed : Closed m s) (f : List ℕ) (x : ℕ
     pub settle : passes s t g ≡ (agreeOn s (imageProduct t f) k (suc k) x && agreeOn (imageProduct t f) s k x (suc k) && newFits s t g)
     unfolding passes newFits
     settle = rw (length-snoc f x) (square-more (fits s t g) k ∙ ap (λ (b : Bool). b && all (λ j. cross (fits s t g) (suc k) j) (elements (suc k))) old-pairs)
+
+module _ (p : ℕ → ℕ → Bool) (k j : ℕ) (h : j ≤ k) where
+  pub first-fails : p j k ≡ false → allFrom (cross p k) k j ≡ false
+  first-fails e = all-step (cross p k) k j h ∙ ap (λ (b : Bool). b && p k j && allFrom (cross p k) k (j + 1)) e
+
+  pub second-fails : p k j ≡ false → allFrom (cross p k) k j ≡ false
+  second-fails e = all-step (cross p k) k j h ∙ ap (λ (b : Bool). p j k && b && allFrom (cross p k) k (j + 1)) e ∙ ap (λ (b : Bool). b && allFrom (cross p k) k (j + 1)) (and-false (p j k))
+
+  pub both-fit : p j k ≡ true → p k j ≡ true → allFrom (cross p k) k j ≡ allFrom (cross p k) k (j + 1)
+  both-fit e g = all-step (cross p k) k j h ∙ ap (λ (b : Bool). b && allFrom (cross p k) k (j + 1)) (both (p j k) (p k j) e g)

@@ -6,7 +6,7 @@ use mathlib.Core.Bool.{Bool, not, _&&_, _||_, cond}
 use mathlib.Core.List.{List}
 use Prim.Native.Nat.{ℕ, suc}
 use lib.Dec.{eqb}
-use lib.ListN.{length, getD}
+use lib.ListN.{length, getD, set}
 use Rattle.semigroups.specs.Lists.{elements, at, all}
 use Rattle.semigroups.specs.Tables.{Product, Element}
 use Rattle.semigroups.specs.Search.{fits}
@@ -18,6 +18,10 @@ allows mark y = eqb mark 0 || eqb mark y
 -- The mark after y is asked too.
 abbrev pub merge : ℕ → ℕ → ℕ
 merge mark y = cond (allows mark y) y 255
+
+-- The marks after y is asked at a place too.
+abbrev pub noted : List ℕ → ℕ → ℕ → List ℕ
+noted marks place y = set marks place (merge (getD marks place 0) y)
 
 -- The product of the images of a and b.
 abbrev pub imageProduct : Product → List ℕ → Product

@@ -4,8 +4,10 @@ use mathlib.Core.Path.{_≡_, refl, sym, ap, _∙_}
 use mathlib.Core.Bool.{Bool, true, false, cond}
 use mathlib.Core.List.{List, [], _∷_, _++_}
 use mathlib.Core.Option.{Option, none, some, orElse}
-use Prim.Native.Nat.{ℕ, suc, _+_, _≤_, _<_}
+use Prim.Native.Nat.{ℕ, zero, suc, _+_, _≤_, _<_}
+use native.Mathlib.Omega.{arith}
 use Rattle.semigroups.specs.Lists.{find, lists, elements}
+use Rattle.semigroups.specs.Tables.{Element}
 use Rattle.semigroups.proofs.Completions.{findBehind, find-all, find-whole, find-entry, firstFrom, first-start, first-step, first-end}
 
 orElse-assoc : {A : Type 0} (a b c : Option A) → orElse (orElse a b) c ≡ orElse a (orElse b c)
@@ -55,6 +57,14 @@ module _ (test : List ℕ → Bool) (n : ℕ) where
 
   pub hit : (p : List ℕ) (x : ℕ) (rest : Option (List ℕ)) → x ≤ n → test (p ++ x ∷ []) ≡ true → remaining 0 p x rest ≡ some (p ++ x ∷ [])
   hit p x rest h e = last p x rest true h e ∙ (unfold orElse in refl)
+
+  -- The values up to k are left behind together.
+  pub skip : (p : List ℕ) (rest : Option (List ℕ)) (k : ℕ) → k ≤ n → ((x : ℕ) → Element k x → test (p ++ x ∷ []) ≡ false) → remaining 0 p 1 rest ≡ remaining 0 p (k + 1) rest
+  skip p rest zero h e = refl
+  skip p rest (suc k) h e =
+      skip p rest k (omega arith) (λ x u. e x (let z : Element (suc k) x = omega arith in z))
+      ∙ ap (λ (x : ℕ). remaining 0 p x rest) (let z : k + 1 ≡ suc k = omega arith in z)
+      ∙ pass p (suc k) rest h (e (suc k) (omega arith))
 
   -- The loop ends.
   pub leave : (d : ℕ) (p : List ℕ) (x : ℕ) (rest : Option (List ℕ)) → n < x → remaining d p x rest ≡ rest

@@ -2,11 +2,18 @@
 -- Assumes nothing.
 use mathlib.Core.List.{[], _∷_}
 use mathlib.Core.Option.{Option, none, some}
-use Rattle.semigroups.specs.Questions.{Refusal, no}
+use Prim.Native.Nat.{ℕ}
+use Rattle.semigroups.specs.Questions.{Refusal, no, naming}
 use Rattle.tables.specs.declared.Fault.{Fault}
 use Rattle.tables.specs.declared.Fault.the-variants.{Order, Size, Cell, Triple}
 use Rattle.tables.specs.declared.Verdict.{Verdict}
 use Rattle.tables.specs.declared.Verdict.the-variants.{Accepted, Refused}
+use Rattle.tables.specs.declared.Side.{Side}
+use Rattle.tables.specs.declared.Side.the-variants.{Source, Target}
+use Rattle.tables.specs.declared.PairVerdict.{PairVerdict}
+use Rattle.tables.specs.declared.PairVerdict.the-variants as pair
+use Rattle.tables.specs.declared.Place.{Place}
+use Rattle.tables.specs.declared.Place.the-variants.{At, Nowhere}
 
 -- 1 and 2 carry nothing, 3 the cell, 4 the triple.
 abbrev pub faultRefusal : Fault → Refusal
@@ -19,3 +26,18 @@ faultRefusal (Triple i j k) = no 4 (i ∷ j ∷ k ∷ [])
 abbrev pub verdictRefusal : Verdict → Option Refusal
 verdictRefusal Accepted = none
 verdictRefusal (Refused fault) = some (faultRefusal fault)
+
+-- 1 for source, 2 for target.
+abbrev pub sideNumber : Side → ℕ
+sideNumber Source = 1
+sideNumber Target = 2
+
+-- Of two tables the refused one is named.
+abbrev pub pairRefusal : PairVerdict → Option Refusal
+pairRefusal pair.Accepted = none
+pairRefusal (pair.Refused side fault) = some (naming (sideNumber side) (faultRefusal fault))
+
+-- The place, where there is one.
+abbrev pub placeOption : Place → Option ℕ
+placeOption (At k) = some k
+placeOption Nowhere = none

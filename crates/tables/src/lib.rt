@@ -1,10 +1,9 @@
 // The four questions about a table: an order and cells, of any content. The first "no" is the answer, with the cell or the triple that is said with it.
 ghost use mathlib.Core.Path.{_≡_};
-ghost use mathlib.Core.List.{[], _∷_};
 ghost use mathlib.Core.Option.{Option·map};
 ghost use Rattle.semigroups.specs.Tables.{Element, Filled, product, badCell, badTriple};
-ghost use Rattle.semigroups.specs.Questions.{no, cellsRefusal, tableRefusal};
-ghost use Rattle.tables.specs.Answers.{verdictRefusal};
+ghost use Rattle.semigroups.specs.Questions.{no, cellsRefusal, tableRefusal, tablesRefusal};
+ghost use Rattle.tables.specs.Answers.{verdictRefusal, placeOption, pairRefusal};
 
 // Why a table is refused: questions 1 to 4, with the first cell, counted from 1, or the first triple.
 pub enum Fault {
@@ -19,6 +18,23 @@ pub enum Verdict {
     Refused(Fault),
 }
 
+// Which of two tables.
+pub enum Side {
+    Source,
+    Target,
+}
+
+pub enum PairVerdict {
+    Accepted,
+    Refused(Side, Fault),
+}
+
+// Where something stands, counted from 1.
+pub enum Place {
+    At(usize),
+    Nowhere,
+}
+
 // The product i·j.
 pub fn times(cells: &[u8], n: usize, i: usize, j: usize) -> usize
     requires { ⌜ Filled n (now cells) ⌝ ∗ ⌜ Element n i ⌝ ∗ ⌜ Element n j ⌝ }
@@ -28,22 +44,22 @@ pub fn times(cells: &[u8], n: usize, i: usize, j: usize) -> usize
     cells[(i - 1) * n + (j - 1)] as usize
 }
 
-// Question 3: every cell is 1 to n.
-fn in_range(cells: &[u8], n: usize) -> Verdict
-    ensures answer { λ r. ⌜ verdictRefusal r ≡ Option·map (λ k. no 3 (k ∷ [])) (badCell n (now (cells .entry))) ⌝ }
+// The first cell that is not 1 to n, counted from 1.
+pub fn outside(cells: &[u8], n: usize) -> Place
+    ensures answer { λ r. ⌜ placeOption r ≡ badCell n (now (cells .entry)) ⌝ }
 {
     let mut place: usize = 1;
     while place <= cells.len() {
         let cell = cells[place - 1] as usize;
         if cell < 1 {
-            return Verdict::Refused(Fault::Cell(place));
+            return Place::At(place);
         }
         if n < cell {
-            return Verdict::Refused(Fault::Cell(place));
+            return Place::At(place);
         }
         place += 1;
     }
-    Verdict::Accepted
+    Place::Nowhere
 }
 
 // Question 4: (i·j)·k = i·(j·k) for every triple.
@@ -86,7 +102,10 @@ pub fn check_cells(cells: &[u8], n: usize) -> Verdict
     if cells.len() != n * n {
         return Verdict::Refused(Fault::Size);
     }
-    in_range(cells, n)
+    match outside(cells, n) {
+        Place::At(cell) => Verdict::Refused(Fault::Cell(cell)),
+        Place::Nowhere => Verdict::Accepted,
+    }
 }
 
 // Questions 1 to 4: order, size, cells, associativity.
@@ -97,4 +116,19 @@ pub fn check(cells: &[u8], n: usize) -> Verdict
         Verdict::Refused(fault) => Verdict::Refused(fault),
         Verdict::Accepted => associative(cells, n),
     }
+}
+
+// Questions 1 to 4 of the source, then of the target.
+pub fn check_pair(source: &[u8], m: usize, target: &[u8], n: usize) -> PairVerdict
+    ensures answer { λ r. ⌜ pairRefusal r ≡ tablesRefusal m (now (source .entry)) n (now (target .entry)) ⌝ }
+{
+    let first = check(source, m);
+    if let Verdict::Refused(fault) = first {
+        return PairVerdict::Refused(Side::Source, fault);
+    }
+    let second = check(target, n);
+    if let Verdict::Refused(fault) = second {
+        return PairVerdict::Refused(Side::Target, fault);
+    }
+    PairVerdict::Accepted
 }

@@ -1,7 +1,8 @@
 -- `check_cells` meets its contract: one law for each way out. Assumes nothing.
-use mathlib.Core.Path.{sym, _∙_}
+use mathlib.Core.Path.{sym, ap, _∙_}
 use native.Mathlib.Omega.{arith}
 use borrow.Author.Needs.{needs}
+use Rattle.tables.specs.Answers.{placeOption}
 use Rattle.tables.proofs.Questions.{square-small, order-low, order-high, wrong-size, right-size}
 use Rattle.tables.proofs.check_cells.Statement.{statement}
 use Rattle.tables.proofs.check_cells.Tie as tie
@@ -18,14 +19,38 @@ mul-if3 c = omega (arith, square-small _ (c .if2 .left))
 returns-3 : tie.Need-returns-3
 returns-3 c = sym (wrong-size _ _ (c .before .before .if1 .left) (c .before .if2 .left) (c .if3 .taken))
 
-in-range-requires : tie.Need-in-range-requires
-in-range-requires c κs = search needs
+outside-requires : tie.Need-outside-requires
+outside-requires c κs = search needs
+
+enum-known-cell : tie.Need-enum-known-cell
+enum-known-cell c = search needs
+
+enum-told : tie.Need-enum-told
+enum-told c = search needs
 
 returns-4 : tie.Need-returns-4
 returns-4 c =
-    let h = c .before in
-    c .in-range .ensures ∙ sym (right-size _ _ (h .before .before .if1 .left) (h .before .if2 .left) (h .if3 .left))
+    let k = c .before in
+    let r = k .before .before in
+    let h = r .before in
+    sym (right-size _ _ (h .before .before .if1 .left) (h .before .if2 .left) (h .if3 .left) _ (sym (r .outside .ensures) ∙ ap placeOption (k .cell .given .1)))
+
+returns-5 : tie.Need-returns-5
+returns-5 c =
+    let r = c .before .before in
+    let h = r .before in
+    sym (right-size _ _ (h .before .before .if1 .left) (h .before .if2 .left) (h .if3 .left) _ (sym (r .outside .ensures) ∙ ap placeOption (c .enum-told .given .1)))
 
 pub check-cells-spec : {M : Type 1} → statement M
 check-cells-spec =
-    tie.close (tie.spec returns returns-2 mul-if3 returns-3 in-range-requires returns-4)
+    tie.close
+    (tie.spec
+    returns
+    returns-2
+    mul-if3
+    returns-3
+    outside-requires
+    enum-known-cell
+    enum-told
+    returns-4
+    returns-5)

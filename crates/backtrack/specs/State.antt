@@ -1,0 +1,59 @@
+-- What the contracts of the search say of its state, a partial map, and of what a search answers.
+-- Past its length a partial map's images are undecided, and nothing asks for them.
+-- Assumes nothing.
+use mathlib.Core.Path.{_≡_}
+use mathlib.Core.Bool.{Bool, true, false, cond, _&&_}
+use mathlib.Core.Option.{Option, none, some}
+use mathlib.Core.List.{List, [], _∷_}
+use Prim.Native.Nat.{ℕ, suc, _≤_}
+use lib.ListN.{length, getD, take}
+use Rattle.semigroups.specs.Lists.{elements, all, member}
+use Rattle.semigroups.specs.Tables.{Product, Filled}
+use Rattle.semigroups.specs.Scratch.{scratchSize}
+use Rattle.semigroups.specs.Maps.{Ask, first, next}
+use Rattle.semigroups.specs.Search.{passes, Placed}
+use Rattle.backtrack.specs.Marks.{imageProduct, asks, agreeOn, cross, Reads}
+use Rattle.backtrack.specs.declared.Partial.{Partial}
+use Rattle.backtrack.specs.declared.Tested.{Tested}
+
+-- The list placed so far.
+abbrev pub prefix : Partial → List ℕ
+prefix p = take (p .len) (p .image)
+
+-- The images of the first `len` elements, and which target elements they use.
+pub record Placing (n : ℕ) (image used : List ℕ) (len : ℕ) : Type 0 where
+  pub long : length image ≡ 120
+  pub wide : length used ≡ 121
+  pub fit : len ≤ 120
+  pub placed : Placed n (take len image)
+  pub uses : (y : ℕ) → y ≤ 120 → getD used y 0 ≡ cond (member y (take len image)) 1 0
+
+-- The marks say what the pairs of the first k elements ask, and the first j of the pairs with element k + 1.
+pub record Tracks (s t : Product) (f : List ℕ) (k j : ℕ) (forced owner : List ℕ) : Type 0 where
+  pub long : length forced ≡ 121
+  pub wide : length owner ≡ 121
+  pub asked : Reads forced (λ c y. agreeOn s (imageProduct t f) k c y && all (λ i. cross (asks s (imageProduct t f) c y) (suc k) i) (elements j))
+  pub reserved : Reads owner (λ y c. agreeOn (imageProduct t f) s k y c && all (λ i. cross (asks (imageProduct t f) s y c) (suc k) i) (elements j))
+
+-- A partial map says of its list what it should.
+pub record Holds (s : Product) (n : ℕ) (t : Product) (p : Partial) : Type 0 where
+  pub placing : Placing n (p .image) (p .used) (p .len)
+  pub tracks : Tracks s t (prefix p) (p .len) 0 (p .forced) (p .owner)
+
+-- The map that a search found.
+abbrev pub foundMap : Tested → Option (List ℕ)
+foundMap r = cond (r .ok) (some (prefix (r .map))) none
+
+-- The search is bound by a list as long as what is placed equals its beginning.
+abbrev pub asked : Bool → List ℕ → Ask
+asked true after = next after
+asked false after = first
+
+-- What holds where the search goes on from a partial map.
+pub record Reached (s : Product) (m : ℕ) (t : Product) (n : ℕ) (scratch after : List ℕ) (tight : Bool) (p : Partial) : Type 0 where
+  pub holds : Holds s n t p
+  pub within : p .len ≤ m
+  pub passed : passes s t (prefix p) ≡ true
+  pub space : scratchSize m n ≤ length scratch
+  pub bound : length after ≡ m
+  pub same : tight ≡ true → take (p .len) after ≡ prefix p

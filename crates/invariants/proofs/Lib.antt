@@ -1,0 +1,5 @@
+pub mod Lists
+pub mod Counts
+pub mod PerElement
+pub mod Powers
+pub mod Questions

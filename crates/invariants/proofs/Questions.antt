@@ -1,0 +1,50 @@
+-- The questions about an element: what each way out of them answers, and what is known where none failed. Assumes nothing.
+use mathlib.Core.Path.{_≡_, sym, ap, _∙_}
+use mathlib.Core.List.{List, []}
+use mathlib.Core.Option.{Option, none, some, orElse}
+use Prim.Native.Nat.{ℕ, _≤_, _<_}
+use borrow.Author.Tests.{le-leb, lt-leb}
+use Rattle.semigroups.specs.Tables.{Element, isElement, Filled}
+use Rattle.semigroups.specs.Questions.{Refusal, no, ask, firstNo, tableRefusal, elementRefusal}
+use Rattle.semigroups.proofs.Lists.{is-element}
+use Rattle.semigroups.proofs.Tables.{orElse-none, ask-passed, accepted}
+use Rattle.invariants.specs.Answers.{Report, refused, given, report}
+
+-- A table with no failed question is filled.
+pub table-filled : (n : ℕ) (cells : List ℕ) → tableRefusal n cells ≡ none → Filled n cells
+table-filled n cells e = let t = accepted n cells e in record { order = (t .from-one, t .to-limit); size = t .size; in-range = t .in-range }
+
+module _ (n : ℕ) (cells : List ℕ) (a : ℕ) where
+  pub table-refused : (r : Refusal) → tableRefusal n cells ≡ some r → elementRefusal n cells a ≡ some r
+  unfolding elementRefusal firstNo orElse
+  table-refused r e = rw e
+
+  module _ (e : tableRefusal n cells ≡ none) where
+    pub element-low : a < 1 → elementRefusal n cells a ≡ some (no 7 [])
+    unfolding elementRefusal firstNo orElse isElement
+    element-low h = rw (e, lt-leb 1 a h)
+
+    pub element-high : 1 ≤ a → n < a → elementRefusal n cells a ≡ some (no 7 [])
+    unfolding elementRefusal firstNo orElse isElement
+    element-high l h = rw (e, le-leb 1 a l, lt-leb a n h)
+
+    pub element-passes : 1 ≤ a → a ≤ n → elementRefusal n cells a ≡ none
+    unfolding elementRefusal firstNo orElse isElement
+    element-passes l h = rw (e, le-leb 1 a l, le-leb a n h)
+
+  -- Where no question failed, the cells fill a table and a is one of its elements.
+  pub asked : elementRefusal n cells a ≡ none → Filled n cells × Element n a
+  unfolding elementRefusal firstNo
+  asked e =
+      let p = orElse-none (tableRefusal n cells) (orElse (ask (isElement n a) (no 7 [])) none) e in
+      let q = orElse-none (ask (isElement n a) (no 7 [])) none (p .1) in
+      (table-filled n cells (p .0), is-element n a (ask-passed (isElement n a) (no 7 []) (q .0)))
+
+-- ---- what a call says
+
+module _ {A : Type 0} (q : Option Refusal) (value : A) where
+  pub report-refused : (r : Refusal) → q ≡ some r → refused r ≡ report q value
+  report-refused r e = sym (ap (λ (o : Option Refusal). report o value) e)
+
+  pub report-given : (v : A) → q ≡ none → v ≡ value → given v ≡ report q value
+  report-given v e same = ap {B = Report A} given same ∙ sym (ap (λ (o : Option Refusal). report o value) e)

@@ -1,0 +1,50 @@
+-- `index_period` meets its contract: a failed question is the answer; where none failed, the table is filled and a is an element of it. Assumes nothing.
+use mathlib.Core.Path.{sym, ap, _∙_}
+use denote.Ref.{now}
+use Rattle.semigroups.specs.Tables.{product}
+use Rattle.semigroups.specs.Questions.{elementRefusal}
+use Rattle.semigroups.specs.Invariants.{indexPeriod}
+use Rattle.invariants.specs.Answers.{elementFaultRefusal, elementVerdictRefusal}
+use Rattle.invariants.proofs.Questions.{asked, report-refused, report-given}
+use borrow.Author.Needs.{needs}
+use Rattle.invariants.proofs.index_period.Statement.{statement}
+use Rattle.invariants.proofs.index_period.Tie as tie
+
+check-element-requires : tie.Need-check-element-requires
+check-element-requires c κs = search needs
+
+enum-known-fault : tie.Need-enum-known-fault
+enum-known-fault c = search needs
+
+enum-told : tie.Need-enum-told
+enum-told c = search needs
+
+index-period-of-requires : tie.Need-index-period-of-requires
+index-period-of-requires c κs = asked _ _ _ (sym (c .before .before .check-element .ensures) ∙ ap elementVerdictRefusal (c .enum-told .given .1))
+
+returns : tie.Need-returns
+returns c =
+    let v = c .before in
+    let a = v .before .before .before .before .args in
+    let cells = now (a .cells) in
+    report-refused (elementRefusal (a .n) cells (a .a)) (indexPeriod (a .n) (product (a .n) cells) (a .a)) (elementFaultRefusal (v .fault .given .0 .0))
+    (sym (v .before .before .check-element .ensures) ∙ ap elementVerdictRefusal (v .fault .given .1))
+
+returns-2 : tie.Need-returns-2
+returns-2 c =
+    let v = c .before in
+    let a = v .before .before .before .before .args in
+    let cells = now (a .cells) in
+    report-given (elementRefusal (a .n) cells (a .a)) (indexPeriod (a .n) (product (a .n) cells) (a .a)) _
+    (sym (v .before .before .check-element .ensures) ∙ ap elementVerdictRefusal (v .enum-told .given .1)) (c .index-period-of .ensures)
+
+pub index-period-spec : {M : Type 1} → statement M
+index-period-spec =
+    tie.close
+    (tie.spec
+    check-element-requires
+    enum-known-fault
+    enum-told
+    index-period-of-requires
+    returns
+    returns-2)

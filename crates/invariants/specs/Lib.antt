@@ -1,0 +1,3 @@
+pub mod Counts
+pub mod PerElement
+pub mod Answers

@@ -1,0 +1,260 @@
+// Invariants of the elements of a table (arXiv 1603.06204, sections 3 and 4), which 01 calls their marks: index and period, and the profile.
+// `index_period` and `profile` answer for one element of any cells, order and element, behind the questions about them.
+// `all_index_periods` and `all_profiles` answer for every element of cells that fill a table.
+ghost use mathlib.Core.Path.{_≡_};
+ghost use Prim.Native.Nat.{_≤_};
+ghost use Rattle.semigroups.specs.Tables.{product, Element, Filled};
+ghost use Rattle.semigroups.specs.Questions.{elementRefusal};
+ghost use Rattle.semigroups.specs.Invariants.{index, period, indexPeriod, frequency, diagonalFrequency, rowFrequency, columnFrequency, profile};
+ghost use Rattle.invariants.specs.Answers.{elementVerdictRefusal, report, indexPeriodValue, indexPeriodReport, profileValue, profileReport};
+ghost use Rattle.invariants.specs.PerElement.{perElement};
+ghost use Rattle.invariants.specs.Counts.{every, occurrences, Reached};
+use tables::Fault;
+use tables::Verdict;
+
+// ---- the questions
+
+// Why an element is refused: its table's fault, or question 7.
+pub enum ElementFault {
+    Table(Fault),
+    NotElement,
+}
+
+pub enum ElementVerdict {
+    Accepted,
+    Refused(ElementFault),
+}
+
+// The table's four questions, then 7: is the element 1 to n?
+pub fn check_element(cells: &[u8], n: usize, a: usize) -> ElementVerdict
+    ensures answer { λ r. ⌜ elementVerdictRefusal r ≡ elementRefusal n (now (cells .entry)) a ⌝ }
+{
+    let table = tables::check(cells, n);
+    if let Verdict::Refused(fault) = table {
+        return ElementVerdict::Refused(ElementFault::Table(fault));
+    }
+    if a < 1 {
+        return ElementVerdict::Refused(ElementFault::NotElement);
+    }
+    if n < a {
+        return ElementVerdict::Refused(ElementFault::NotElement);
+    }
+    ElementVerdict::Accepted
+}
+
+// ---- index and period
+
+pub struct IndexPeriod {
+    pub index: usize,
+    pub period: usize,
+}
+
+pub enum IndexPeriodAnswer {
+    Value(IndexPeriod),
+    Refused(ElementFault),
+}
+
+// The powers of a are walked until one was met before; `met` holds the exponent at which each element was met first, or 0.
+fn index_period_of(cells: &[u8], n: usize, a: usize) -> IndexPeriod
+    requires { ⌜ Filled n (now cells) ⌝ ∗ ⌜ Element n a ⌝ }
+    ensures answer { λ r. ⌜ indexPeriodValue r ≡ indexPeriod n (product n (now (cells .entry))) a ⌝ }
+{
+    let mut met = [0u8; 121];
+    let mut power = a;
+    let mut k: usize = 1;
+    while met[power] == 0 {
+        met[power] = k as u8;
+        power = tables::times(cells, n, power, a);
+        k += 1;
+    }
+    let index = met[power] as usize;
+    let period = k - index;
+    IndexPeriod { index, period }
+}
+
+// The index and the period of element a; or the first question that fails.
+pub fn index_period(cells: &[u8], n: usize, a: usize) -> IndexPeriodAnswer
+    ensures answer { λ r. ⌜ indexPeriodReport r ≡ report (elementRefusal n (now (cells .entry)) a) (indexPeriod n (product n (now (cells .entry))) a) ⌝ }
+{
+    match check_element(cells, n, a) {
+        ElementVerdict::Refused(fault) => IndexPeriodAnswer::Refused(fault),
+        ElementVerdict::Accepted => IndexPeriodAnswer::Value(index_period_of(cells, n, a)),
+    }
+}
+
+// Element a's index and period stand at place a - 1; places past the last element hold 0.
+pub struct IndexPeriods {
+    pub index: [u8; 120],
+    pub period: [u8; 120],
+}
+
+// The index and the period of every element.
+pub fn all_index_periods(cells: &[u8], n: usize) -> IndexPeriods
+    requires { ⌜ Filled n (now cells) ⌝ }
+    ensures index { λ r. ⌜ r .index ≡ perElement n (index n (product n (now (cells .entry)))) ⌝ }
+    ensures period { λ r. ⌜ r .period ≡ perElement n (period n (product n (now (cells .entry)))) ⌝ }
+{
+    let mut index = [0u8; 120];
+    let mut period = [0u8; 120];
+    let mut a: usize = 1;
+    while a <= n {
+        let powers = index_period_of(cells, n, a);
+        index[a - 1] = powers.index as u8;
+        period[a - 1] = powers.period as u8;
+        a += 1;
+    }
+    IndexPeriods { index, period }
+}
+
+// ---- frequencies
+
+// How often a stands among k cells, the first and then each that is `step` further on.
+fn count(cells: &[u8], k: usize, step: usize, a: usize) -> usize
+    requires { ⌜ Reached k step (now cells) ⌝ }
+    ensures answer { λ r. ⌜ r ≡ occurrences a (every step k (now (cells .entry))) ⌝ }
+{
+    let mut found: usize = 0;
+    let mut i: usize = 0;
+    while i < k {
+        if cells[i * step] as usize == a {
+            found += 1;
+        }
+        i += 1;
+    }
+    found
+}
+
+// The same for every element in one pass.
+fn tally(cells: &[u8], n: usize, k: usize, step: usize) -> [u16; 120]
+    requires { ⌜ Filled n (now cells) ⌝ ∗ ⌜ Reached k step (now cells) ⌝ ∗ ⌜ k ≤ 14400 ⌝ }
+    ensures answer { λ r. ⌜ r ≡ perElement n (λ a. occurrences a (every step k (now (cells .entry)))) ⌝ }
+{
+    let mut found = [0u16; 120];
+    let mut i: usize = 0;
+    while i < k {
+        let x = cells[i * step] as usize;
+        found[x - 1] += 1;
+        i += 1;
+    }
+    found
+}
+
+// How often a stands in row a: the n cells that start at (a - 1) × n.
+fn row_frequency(cells: &[u8], n: usize, a: usize) -> usize
+    requires { ⌜ Filled n (now cells) ⌝ ∗ ⌜ Element n a ⌝ }
+    ensures answer { λ r. ⌜ r ≡ rowFrequency n (product n (now (cells .entry))) a ⌝ }
+{
+    let at = (a - 1) * n;
+    count(&cells[at..], n, 1, a)
+}
+
+// How often a stands in column a: n cells, n apart.
+fn column_frequency(cells: &[u8], n: usize, a: usize) -> usize
+    requires { ⌜ Filled n (now cells) ⌝ ∗ ⌜ Element n a ⌝ }
+    ensures answer { λ r. ⌜ r ≡ columnFrequency n (product n (now (cells .entry))) a ⌝ }
+{
+    let at = a - 1;
+    count(&cells[at..], n, n, a)
+}
+
+// Element a's row and column frequency stand at place a - 1; places past the last element hold 0.
+struct LineFrequencies {
+    row: [u8; 120],
+    column: [u8; 120],
+}
+
+fn line_frequencies(cells: &[u8], n: usize) -> LineFrequencies
+    requires { ⌜ Filled n (now cells) ⌝ }
+    ensures row { λ r. ⌜ r .row ≡ perElement n (rowFrequency n (product n (now (cells .entry)))) ⌝ }
+    ensures column { λ r. ⌜ r .column ≡ perElement n (columnFrequency n (product n (now (cells .entry)))) ⌝ }
+{
+    let mut row = [0u8; 120];
+    let mut column = [0u8; 120];
+    let mut a: usize = 1;
+    while a <= n {
+        row[a - 1] = row_frequency(cells, n, a) as u8;
+        column[a - 1] = column_frequency(cells, n, a) as u8;
+        a += 1;
+    }
+    LineFrequencies { row, column }
+}
+
+// ---- the profile
+
+// The six numbers of a profile (definition 4.1).
+pub struct ElementProfile {
+    pub index: usize,
+    pub period: usize,
+    pub frequency: usize,
+    pub diagonal: usize,
+    pub row: usize,
+    pub column: usize,
+}
+
+pub enum ProfileAnswer {
+    Value(ElementProfile),
+    Refused(ElementFault),
+}
+
+fn profile_of(cells: &[u8], n: usize, a: usize) -> ElementProfile
+    requires { ⌜ Filled n (now cells) ⌝ ∗ ⌜ Element n a ⌝ }
+    ensures answer { λ r. ⌜ profileValue r ≡ profile n (product n (now (cells .entry))) a ⌝ }
+{
+    let powers = index_period_of(cells, n, a);
+    ElementProfile {
+        index: powers.index,
+        period: powers.period,
+        frequency: count(cells, cells.len(), 1, a),
+        diagonal: count(cells, n, n + 1, a),
+        row: row_frequency(cells, n, a),
+        column: column_frequency(cells, n, a),
+    }
+}
+
+// The profile of element a; or the first question that fails.
+pub fn profile(cells: &[u8], n: usize, a: usize) -> ProfileAnswer
+    ensures answer { λ r. ⌜ profileReport r ≡ report (elementRefusal n (now (cells .entry)) a) (profile n (product n (now (cells .entry))) a) ⌝ }
+{
+    match check_element(cells, n, a) {
+        ElementVerdict::Refused(fault) => ProfileAnswer::Refused(fault),
+        ElementVerdict::Accepted => ProfileAnswer::Value(profile_of(cells, n, a)),
+    }
+}
+
+// Each number of element a's profile stands at place a - 1; places past the last element hold 0.
+pub struct Profiles {
+    pub index: [u8; 120],
+    pub period: [u8; 120],
+    pub frequency: [u16; 120],
+    pub diagonal: [u16; 120],
+    pub row: [u8; 120],
+    pub column: [u8; 120],
+}
+
+// The profile of every element.
+pub fn all_profiles(cells: &[u8], n: usize) -> Profiles
+    requires { ⌜ Filled n (now cells) ⌝ }
+    ensures index { λ r. ⌜ r .index ≡ perElement n (index n (product n (now (cells .entry)))) ⌝ }
+    ensures period { λ r. ⌜ r .period ≡ perElement n (period n (product n (now (cells .entry)))) ⌝ }
+    ensures frequency { λ r. ⌜ r .frequency ≡ perElement n (frequency n (product n (now (cells .entry)))) ⌝ }
+    ensures diagonal { λ r. ⌜ r .diagonal ≡ perElement n (diagonalFrequency n (product n (now (cells .entry)))) ⌝ }
+    ensures row { λ r. ⌜ r .row ≡ perElement n (rowFrequency n (product n (now (cells .entry)))) ⌝ }
+    ensures column { λ r. ⌜ r .column ≡ perElement n (columnFrequency n (product n (now (cells .entry)))) ⌝ }
+{
+    let powers = all_index_periods(cells, n);
+    let index = powers.index;
+    let period = powers.period;
+    let frequency = tally(cells, n, cells.len(), 1);
+    let diagonal = tally(cells, n, n, n + 1);
+    let lines = line_frequencies(cells, n);
+    let row = lines.row;
+    let column = lines.column;
+    Profiles {
+        index,
+        period,
+        frequency,
+        diagonal,
+        row,
+        column,
+    }
+}

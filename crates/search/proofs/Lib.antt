@@ -1,0 +1,3 @@
+pub mod Calls
+pub mod Answering
+pub mod Demand3

@@ -1,0 +1,36 @@
+-- What a search's answer means (01, "The questions"): what is said, and for each refusal the number, the side and the values.
+-- Assumes nothing.
+use mathlib.Core.Bool.{Bool, true, false}
+use mathlib.Core.List.{[]}
+use Prim.Native.Nat.{ℕ}
+use lib.Dec.{eqb, leb}
+use Rattle.semigroups.specs.Questions.{Refusal, no, naming}
+use Rattle.semigroups.specs.Maps as maps
+use Rattle.semigroups.specs.Walks as said
+use Rattle.tables.specs.Answers.{faultRefusal, sideNumber}
+use Rattle.search.specs.Calls.{Request, theFirst, theNext}
+use Rattle.search.specs.declared.Kind.{Kind}
+use Rattle.search.specs.declared.Kind.the-variants.{Embeddings, Isomorphisms}
+use Rattle.search.specs.declared.SearchAnswer.{SearchAnswer}
+use Rattle.search.specs.declared.SearchAnswer.the-variants.{Found, Nothing, Refused, MapLength, ScratchLength}
+
+-- 1 to 4 name their side and carry the cell or the triple; 5 and 6 name none and carry nothing.
+abbrev pub answerSays : SearchAnswer → said.Said Refusal
+answerSays Found = said.found
+answerSays Nothing = said.nothing
+answerSays (Refused side fault) = said.refused (naming (sideNumber side) (faultRefusal fault))
+answerSays MapLength = said.refused (no 5 [])
+answerSays ScratchLength = said.refused (no 6 [])
+
+abbrev pub kindOf : Kind → maps.Kind
+kindOf Embeddings = maps.embeddings
+kindOf Isomorphisms = maps.isomorphisms
+
+abbrev pub requestOf : Bool → Request
+requestOf true = theNext
+requestOf false = theFirst
+
+-- Whether tables of orders m and n can have a map of the kind: m is at most n for embeddings, and equal for isomorphisms (01, "Maps").
+abbrev pub orderFits : maps.Kind → ℕ → ℕ → Bool
+orderFits maps.embeddings m n = leb m n
+orderFits maps.isomorphisms m n = eqb m n

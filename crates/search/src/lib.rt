@@ -1,0 +1,195 @@
+// The first embedding or isomorphism of a source table in a target table, and the next one after the bytes of the map buffer. The caller lends the
+// cells, the orders and both buffers; anything may be handed over. A refusal changes no lent byte, and "nothing" changes no byte of the map.
+ghost use mathlib.Core.Path.{_≡_};
+ghost use Prim.Native.Nat.{_≤_};
+ghost use lib.ListN.{length, take};
+ghost use Rattle.semigroups.specs.Tables.{product, Accepted};
+ghost use Rattle.semigroups.specs.Scratch.{scratchSize, scratchAfter};
+ghost use Rattle.semigroups.specs.Maps.{embeddings, isomorphisms};
+ghost use Rattle.semigroups.specs.Candidates.{candidate};
+ghost use Rattle.search.specs.Calls.{theFirst, theNext, lend, answerOf, scratchOf, answered, call};
+ghost use Rattle.search.specs.Answers.{answerSays, kindOf, requestOf, orderFits};
+use tables::Fault;
+use tables::PairVerdict;
+use tables::Side;
+
+// The kinds of maps that a search is asked for.
+pub enum Kind {
+    Embeddings,
+    Isomorphisms,
+}
+
+// The map is found; there is none; or the earliest failed question: one of a table's four with the table's side, 5, or 6.
+pub enum SearchAnswer {
+    Found,
+    Nothing,
+    Refused(Side, Fault),
+    MapLength,
+    ScratchLength,
+}
+
+// Whether tables of orders m and n can have a map of the kind.
+fn order_fits(kind: Kind, m: usize, n: usize) -> bool
+    ensures answer { λ r. ⌜ r ≡ orderFits (kindOf kind) m n ⌝ }
+{
+    match kind {
+        Kind::Embeddings => m <= n,
+        Kind::Isomorphisms => m == n,
+    }
+}
+
+// Marks the candidates of the kind in scratch.
+fn fill(kind: Kind, source: &[u8], m: usize, target: &[u8], n: usize, scratch: &mut [u8])
+    requires { ⌜ Accepted m (now source) × Accepted n (now target) ⌝ }
+    requires { ⌜ scratchSize m n ≤ length (now scratch) ⌝ }
+    ensures scratch { λ _. ⌜ now (scratch .exit) ≡ scratchAfter m n (candidate (kindOf kind) m (product m (now (source .entry))) n (product n (now (target .entry)))) (now (scratch .entry)) ⌝ }
+{
+    match kind {
+        Kind::Embeddings => candidates::fill_embeddings(source, m, target, n, scratch),
+        Kind::Isomorphisms => candidates::fill_isomorphisms(source, m, target, n, scratch),
+    }
+}
+
+// Writes the images of the m elements.
+fn write_map(map: &mut [u8], image: &[u8; 120], m: usize)
+    requires { ⌜ (length (now map) ≡ m) × (m ≤ 120) ⌝ }
+    ensures map { λ _. ⌜ now (map .exit) ≡ take m (now (image .entry)) ⌝ }
+{
+    let mut i: usize = 0;
+    while i < m {
+        map[i] = image[i];
+        i += 1;
+    }
+}
+
+// The search behind the questions: the first map of the kind, or with `next` the first that is later than the bytes of `map`.
+fn answer(
+    kind: Kind,
+    next: bool,
+    source: &[u8],
+    m: usize,
+    target: &[u8],
+    n: usize,
+    map: &mut [u8],
+    scratch: &mut [u8],
+) -> SearchAnswer
+    requires { ⌜ Accepted m (now source) × Accepted n (now target) ⌝ }
+    requires { ⌜ (length (now map) ≡ m) × (scratchSize m n ≤ length (now scratch)) ⌝ }
+    ensures answer { λ r. ⌜ answerSays r ≡ answered (answerOf (kindOf kind) (requestOf next) (lend (now (source .entry)) m (now (target .entry)) n (now (map .entry)) (now (scratch .entry)))) (now (map .entry)) (now (scratch .entry)) .says ⌝ }
+    ensures map { λ _. ⌜ now (map .exit) ≡ answered (answerOf (kindOf kind) (requestOf next) (lend (now (source .entry)) m (now (target .entry)) n (now (map .entry)) (now (scratch .entry)))) (now (map .entry)) (now (scratch .entry)) .map ⌝ }
+    ensures scratch { λ _. ⌜ now (scratch .exit) ≡ scratchOf (kindOf kind) (requestOf next) (lend (now (source .entry)) m (now (target .entry)) n (now (map .entry)) (now (scratch .entry))) ⌝ }
+{
+    fill(kind, source, m, target, n, scratch);
+    if !order_fits(kind, m, n) {
+        return SearchAnswer::Nothing;
+    }
+    let result = backtrack::find(source, m, target, n, &*scratch, &*map, next);
+    if !result.ok {
+        return SearchAnswer::Nothing;
+    }
+    let found = result.map;
+    let image = found.image;
+    write_map(map, &image, m);
+    SearchAnswer::Found
+}
+
+// A search: the questions about the two tables and the two buffers, then the answer.
+fn search(
+    kind: Kind,
+    next: bool,
+    source: &[u8],
+    m: usize,
+    target: &[u8],
+    n: usize,
+    map: &mut [u8],
+    scratch: &mut [u8],
+) -> SearchAnswer
+    ensures answer { λ r. ⌜ answerSays r ≡ call (kindOf kind) (requestOf next) (lend (now (source .entry)) m (now (target .entry)) n (now (map .entry)) (now (scratch .entry))) .says ⌝ }
+    ensures map { λ _. ⌜ now (map .exit) ≡ call (kindOf kind) (requestOf next) (lend (now (source .entry)) m (now (target .entry)) n (now (map .entry)) (now (scratch .entry))) .map ⌝ }
+    ensures scratch { λ _. ⌜ now (scratch .exit) ≡ call (kindOf kind) (requestOf next) (lend (now (source .entry)) m (now (target .entry)) n (now (map .entry)) (now (scratch .entry))) .scratch ⌝ }
+{
+    let verdict = tables::check_pair(source, m, target, n);
+    if let PairVerdict::Refused(side, fault) = verdict {
+        return SearchAnswer::Refused(side, fault);
+    }
+    if map.len() != m {
+        return SearchAnswer::MapLength;
+    }
+    if scratch.len() < candidates::scratch_size(m, n) {
+        return SearchAnswer::ScratchLength;
+    }
+    answer(kind, next, source, m, target, n, map, scratch)
+}
+
+// The earliest embedding of the source in the target, written to `map`; or nothing; or the earliest question that fails.
+pub fn first_embedding(
+    source: &[u8],
+    m: usize,
+    target: &[u8],
+    n: usize,
+    map: &mut [u8],
+    scratch: &mut [u8],
+) -> SearchAnswer
+    ensures answer { λ r. ⌜ answerSays r ≡ call embeddings theFirst (lend (now (source .entry)) m (now (target .entry)) n (now (map .entry)) (now (scratch .entry))) .says ⌝ }
+    ensures map { λ _. ⌜ now (map .exit) ≡ call embeddings theFirst (lend (now (source .entry)) m (now (target .entry)) n (now (map .entry)) (now (scratch .entry))) .map ⌝ }
+    ensures scratch { λ _. ⌜ now (scratch .exit) ≡ call embeddings theFirst (lend (now (source .entry)) m (now (target .entry)) n (now (map .entry)) (now (scratch .entry))) .scratch ⌝ }
+{
+    search(Kind::Embeddings, false, source, m, target, n, map, scratch)
+}
+
+// The earliest embedding that is later than the bytes of `map`, written to `map`; or nothing; or the earliest question that fails.
+pub fn next_embedding(
+    source: &[u8],
+    m: usize,
+    target: &[u8],
+    n: usize,
+    map: &mut [u8],
+    scratch: &mut [u8],
+) -> SearchAnswer
+    ensures answer { λ r. ⌜ answerSays r ≡ call embeddings theNext (lend (now (source .entry)) m (now (target .entry)) n (now (map .entry)) (now (scratch .entry))) .says ⌝ }
+    ensures map { λ _. ⌜ now (map .exit) ≡ call embeddings theNext (lend (now (source .entry)) m (now (target .entry)) n (now (map .entry)) (now (scratch .entry))) .map ⌝ }
+    ensures scratch { λ _. ⌜ now (scratch .exit) ≡ call embeddings theNext (lend (now (source .entry)) m (now (target .entry)) n (now (map .entry)) (now (scratch .entry))) .scratch ⌝ }
+{
+    search(Kind::Embeddings, true, source, m, target, n, map, scratch)
+}
+
+// The earliest isomorphism of the source onto the target, written to `map`; or nothing; or the earliest question that fails.
+pub fn first_isomorphism(
+    source: &[u8],
+    m: usize,
+    target: &[u8],
+    n: usize,
+    map: &mut [u8],
+    scratch: &mut [u8],
+) -> SearchAnswer
+    ensures answer { λ r. ⌜ answerSays r ≡ call isomorphisms theFirst (lend (now (source .entry)) m (now (target .entry)) n (now (map .entry)) (now (scratch .entry))) .says ⌝ }
+    ensures map { λ _. ⌜ now (map .exit) ≡ call isomorphisms theFirst (lend (now (source .entry)) m (now (target .entry)) n (now (map .entry)) (now (scratch .entry))) .map ⌝ }
+    ensures scratch { λ _. ⌜ now (scratch .exit) ≡ call isomorphisms theFirst (lend (now (source .entry)) m (now (target .entry)) n (now (map .entry)) (now (scratch .entry))) .scratch ⌝ }
+{
+    search(
+        Kind::Isomorphisms,
+        false,
+        source,
+        m,
+        target,
+        n,
+        map,
+        scratch,
+    )
+}
+
+// The earliest isomorphism that is later than the bytes of `map`, written to `map`; or nothing; or the earliest question that fails.
+pub fn next_isomorphism(
+    source: &[u8],
+    m: usize,
+    target: &[u8],
+    n: usize,
+    map: &mut [u8],
+    scratch: &mut [u8],
+) -> SearchAnswer
+    ensures answer { λ r. ⌜ answerSays r ≡ call isomorphisms theNext (lend (now (source .entry)) m (now (target .entry)) n (now (map .entry)) (now (scratch .entry))) .says ⌝ }
+    ensures map { λ _. ⌜ now (map .exit) ≡ call isomorphisms theNext (lend (now (source .entry)) m (now (target .entry)) n (now (map .entry)) (now (scratch .entry))) .map ⌝ }
+    ensures scratch { λ _. ⌜ now (scratch .exit) ≡ call isomorphisms theNext (lend (now (source .entry)) m (now (target .entry)) n (now (map .entry)) (now (scratch .entry))) .scratch ⌝ }
+{
+    search(Kind::Isomorphisms, true, source, m, target, n, map, scratch)
+}
