@@ -7,10 +7,11 @@ use Prim.Native.Nat.{ℕ}
 use native.Mathlib.Omega.{arith}
 use denote.Ref.{now}
 use borrow.Author.Needs.{needs}
+use Rattle.tables.proofs.Questions.{square-small}
 use Rattle.csv.specs.Calls.{gives}
 use Rattle.csv.specs.Questions.{bytesRefusal, endRefusal, gridRefusal}
 use Rattle.text.specs.Answers.{judgedRefusal}
-use Rattle.csv.proofs.Loading.{too-short, too-long, bad-byte, bad-end, bad-grid, bad-order, bad-room, loads, load-refused, load-given, grid-passed, cells-length, square-small}
+use Rattle.csv.proofs.Loading.{too-short, too-long, bad-byte, bad-end, bad-grid, bad-order, bad-room, loads, load-refused, load-given, grid-passed, cells-length}
 use Rattle.text.proofs.load.Statement.{statement}
 use Rattle.text.proofs.load.Tie as tie
 
