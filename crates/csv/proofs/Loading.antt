@@ -18,7 +18,8 @@ use Rattle.semigroups.proofs.Tables.{orElse-none, ask-passed}
 use Rattle.csv.specs.Records.{rows}
 use Rattle.csv.specs.Tables.{fieldsOf, orderOf, cellsOf}
 use Rattle.csv.specs.Questions.{longest, bytesRefusal, endRefusal, fieldsRefusal, isSquare, squareRefusal, gridRefusal, loadRefusal}
-use Rattle.csv.specs.Calls.{refused, gives, overwritten, loadAnswer, cellsAfter}
+use Rattle.semigroups.specs.Calls.{refused, gives, overwritten}
+use Rattle.csv.specs.Calls.{loadAnswer, cellsAfter}
 
 -- ---- a square
 

@@ -11,7 +11,8 @@ ghost use Rattle.csv.specs.Decimals.{digits, value, numeral};
 ghost use Rattle.csv.specs.Records.{lineText};
 ghost use Rattle.csv.specs.Tables.{fieldsOf, orderOf, cellsOf, rowFields, tableText};
 ghost use Rattle.csv.specs.Questions.{bytesRefusal, endRefusal, fieldRefusal, fieldsRefusal, gridRefusal};
-ghost use Rattle.csv.specs.Calls.{overwritten, loadAnswer, cellsAfter, saveAnswer, textAfter};
+ghost use Rattle.semigroups.specs.Calls.{overwritten};
+ghost use Rattle.csv.specs.Calls.{loadAnswer, cellsAfter, saveAnswer, textAfter};
 ghost use Rattle.text.specs.Answers.{judgedRefusal, loadedAnswer, savedAnswer};
 
 // Why a text is refused: questions 20 to 26, 1 and 27. 21 carries the place of the byte, from 0.
