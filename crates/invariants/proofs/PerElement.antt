@@ -35,10 +35,10 @@ per-element-same n v w h = ap (λ (l : List ℕ). l ++ replicate (120 - n) 0) (m
 
 -- ---- filled place by place
 
-fill-start : (w : ℕ → ℕ) → replicate 120 0 ≡ perElement 0 w
+pub fill-start : (w : ℕ → ℕ) → replicate 120 0 ≡ perElement 0 w
 fill-start w = unfold perElement elements range in refl
 
-fill-step : (w : ℕ → ℕ) (a v : ℕ) → 1 ≤ a → a ≤ 120 → v ≡ w a → set (perElement (a - 1) w) (a - 1) v ≡ perElement (a + 1 - 1) w
+pub fill-step : (w : ℕ → ℕ) (a v : ℕ) → 1 ≤ a → a ≤ 120 → v ≡ w a → set (perElement (a - 1) w) (a - 1) v ≡ perElement (a + 1 - 1) w
 unfolding perElement elements
 fill-step w a v lo hi e =
     ap (λ (k : ℕ). set (before ++ replicate k 0) (a - 1) v) (let z : 120 - (a - 1) ≡ suc (120 - a) = omega arith in z)

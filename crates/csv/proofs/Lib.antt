@@ -1,0 +1,17 @@
+pub mod Every
+pub mod Records
+pub mod Bytes
+pub mod Rows
+pub mod Decimals
+pub mod Fields
+pub mod Scan
+pub mod Reading
+pub mod Judging
+pub mod Writing
+pub mod Filling
+pub mod Loading
+pub mod Tables
+pub mod Saving
+pub mod Accepted
+pub mod RoundTrips
+pub mod Examples
