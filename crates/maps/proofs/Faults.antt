@@ -4,18 +4,17 @@ use mathlib.Core.Bool.{Bool, true, false, _&&_, not}
 use mathlib.Core.List.{List, [], _∷_}
 use mathlib.Core.Option.{Option, none, some, orElse}
 use Prim.Native.Nat.{ℕ, _-_, _≤_, _<_}
-use native.Mathlib.Omega.{arith}
 use borrow.Author.Tests.{eq-eqb, ne-eqb, lt-ltb, le-ltb}
 use lib.Dec.{eqb, ltb}
 use lib.ListN.{length, getD}
 use Rattle.semigroups.specs.Lists.{elements, at, find, lists}
 use Rattle.semigroups.specs.Tables.{Product, Element, IsList, isElement, badCell, product}
 use Rattle.semigroups.specs.Questions.{Refusal, no, firstNo, tablesRefusal, checkRefusal}
-use Rattle.semigroups.specs.MapCheck.{Checked, holds, outside, equalImages, wrongProduct, unless, firstOutside, firstEqual, firstWrong, checkMap}
+use Rattle.semigroups.specs.MapCheck.{holds, outside, equalImages, wrongProduct, unless, firstOutside, firstEqual, firstWrong, checkMap}
 use Rattle.semigroups.proofs.Booleans.{not-of-true, not-of-false}
 use Rattle.semigroups.proofs.NoRepeats.{mem-place}
 use Rattle.semigroups.proofs.Tables.{cells-in-range}
-use Rattle.maps.specs.Answers.{Report, refused, checked, reportOf, mapCheck}
+use Rattle.maps.specs.Answers.{refused, checked, mapCheck}
 
 -- ---- the tests of pairs
 

@@ -2,9 +2,8 @@
 -- transformations" and "The questions"). Assumes nothing.
 use mathlib.Core.List.{List, [], _++_}
 use mathlib.Core.Option.{Option, none, some}
-use mathlib.Core.Path.{_≡_}
 use Prim.Native.Nat.{ℕ, _*_}
-use lib.ListN.{length, take, drop}
+use lib.ListN.{length, drop, replicate}
 use Rattle.semigroups.specs.Lists.{at}
 use Rattle.semigroups.specs.Tables.{grid}
 use Rattle.semigroups.specs.Questions.{Refusal, no}
@@ -41,10 +40,6 @@ answerReport Degree = refused (no 8 [])
 answerReport Cells = refused (no 9 [])
 answerReport (Order n) = order n
 
--- The image lists of all transformations of d points, one after another.
-unfoldable pub imageLists : ℕ → List ℕ
-imageLists d = grid (transformationOrder d) d (λ k x. at (transformation d k) x)
-
--- The list l begins with them.
-abbrev pub Listed : ℕ → List ℕ → Type 0
-Listed d l = take (transformationOrder d * d) l ≡ imageLists d
+-- The image lists of all transformations of d points, one after another, in an array of 81 bytes; later bytes are 0.
+unfoldable pub imageBytes : ℕ → List ℕ
+imageBytes d = grid (transformationOrder d) d (λ k x. at (transformation d k) x) ++ drop (transformationOrder d * d) (replicate 81 0)
