@@ -2,6 +2,7 @@
 -- Assumes nothing.
 use mathlib.Core.List.{[], _∷_}
 use mathlib.Core.Option.{Option, none, some}
+use Prim.Native.Nat.{ℕ}
 use Rattle.semigroups.specs.Questions.{Refusal, no}
 use Rattle.tables.specs.Answers.{faultRefusal as tableRefusal}
 use Rattle.semigroups.specs.Calls.{Answer, refused, gives}
