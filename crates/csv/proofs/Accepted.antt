@@ -13,7 +13,7 @@ use lib.Seq.{take-all}
 use borrow.Author.Tests.{eq-eqb, eqb-true}
 use Rattle.semigroups.specs.Lists.{sum, all}
 use Rattle.semigroups.specs.Tables.{Element, Filled}
-use Rattle.semigroups.specs.Questions.{no, firstNo}
+use Rattle.semigroups.specs.Questions.{firstNo}
 use Rattle.semigroups.proofs.Booleans.{both, and-left, and-right}
 use Rattle.csv.specs.Decimals.{numeral, value}
 use Rattle.csv.specs.Records.{rows, rowsText}

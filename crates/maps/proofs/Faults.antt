@@ -10,11 +10,12 @@ use lib.ListN.{length, getD}
 use Rattle.semigroups.specs.Lists.{elements, at, find, lists}
 use Rattle.semigroups.specs.Tables.{Product, Element, IsList, isElement, badCell, product}
 use Rattle.semigroups.specs.Questions.{Refusal, no, firstNo, tablesRefusal, checkRefusal}
+use Rattle.semigroups.specs.Calls.{refused, gives}
 use Rattle.semigroups.specs.MapCheck.{holds, outside, equalImages, wrongProduct, unless, firstOutside, firstEqual, firstWrong, checkMap}
 use Rattle.semigroups.proofs.Booleans.{not-of-true, not-of-false}
 use Rattle.semigroups.proofs.NoRepeats.{mem-place}
 use Rattle.semigroups.proofs.Tables.{cells-in-range}
-use Rattle.maps.specs.Answers.{refused, checked, mapCheck}
+use Rattle.maps.specs.Answers.{mapCheck}
 
 -- ---- the tests of pairs
 
@@ -101,6 +102,6 @@ module _ (m : ℕ) (source : List ℕ) (n : ℕ) (target f : List ℕ) where
   unfolding mapCheck checkRefusal firstNo orElse
   call-length e h = rw (e, ne-eqb (length f) m h)
 
-  pub call-checked : tablesRefusal m source n target ≡ none → length f ≡ m → mapCheck m source n target f ≡ checked (checkMap m (product m source) n (product n target) f)
+  pub call-checked : tablesRefusal m source n target ≡ none → length f ≡ m → mapCheck m source n target f ≡ gives (checkMap m (product m source) n (product n target) f)
   unfolding mapCheck checkRefusal firstNo orElse
   call-checked e h = rw (e, eq-eqb (length f) m h)
