@@ -1,0 +1,152 @@
+-- The field of digits at a place of a text, and questions 22 to 25.
+-- Assumes nothing.
+use mathlib.Core.Path.{_≡_, refl, ap, sym, _∙_}
+use mathlib.Core.Bool.{Bool, true, false, _&&_, not, cond, and-false}
+use mathlib.Core.List.{List, [], _∷_, map}
+use mathlib.Core.Option.{Option, none, some, orElse}
+use Prim.Native.Nat.{ℕ, zero, suc, _+_, _-_, _*_, _^_, _≤_, _<_}
+use native.Mathlib.Nat.{pow-suc, pow-le-pow-right}
+use native.Mathlib.Numerals.{add-one}
+use native.Mathlib.Omega.{arith}
+use lib.Dec.{eqb, leb}
+use lib.ListN.{length, getD, drop, drop-of-length-le, List·getD-eq-default}
+use lib.Seq.{drop-cons}
+use borrow.Author.Tests.{leb-true, leb-false, le-leb, lt-leb, eqb-false, ne-eqb, not-true}
+use Rattle.semigroups.specs.Tables.{isElement}
+use Rattle.semigroups.specs.Questions.{Refusal, no, ask, firstNo}
+use Rattle.semigroups.proofs.Booleans.{and-left, and-right}
+use Rattle.semigroups.proofs.Tables.{orElse-none, ask-passed}
+use Rattle.csv.specs.Decimals.{isDigit, digits, valueFrom, value}
+use Rattle.csv.specs.Records.{isBreak}
+use Rattle.csv.specs.Questions.{breakAt, endRefusal, fieldRefusal, fieldsRefusal}
+
+-- ---- the digits at a place
+
+pub is-digit : (b : ℕ) → 48 ≤ b → b ≤ 57 → isDigit b ≡ true
+unfolding isDigit
+is-digit b l u = simp (le-leb 48 b l, le-leb b 57 u)
+
+pub below-digit : (b : ℕ) → b < 48 → isDigit b ≡ false
+unfolding isDigit
+below-digit b l = simp (lt-leb 48 b l)
+
+pub above-digit : (b : ℕ) → 57 < b → isDigit b ≡ false
+unfolding isDigit
+above-digit b u = simp (lt-leb b 57 u, and-false)
+
+module _ (t : List ℕ) (i : ℕ) where
+  pub digits-past : length t ≤ i → digits (drop i t) ≡ []
+  unfolding digits
+  digits-past h = rw (drop-of-length-le t h)
+
+  pub digits-none : i < length t → isDigit (getD t i 0) ≡ false → digits (drop i t) ≡ []
+  unfolding digits
+  digits-none h e = rw (drop-cons t i 0 h) (simp e)
+
+  pub digits-more : i < length t → isDigit (getD t i 0) ≡ true → digits (drop i t) ≡ getD t i 0 ∷ digits (drop (i + 1) t)
+  unfolding digits
+  digits-more h e = rw (drop-cons t i 0 h, add-one) (simp e)
+
+  -- Where some digits are left, a digit stands.
+  pub digit-here : 1 ≤ length (digits (drop i t)) → (i < length t) × (isDigit (getD t i 0) ≡ true)
+  digit-here h = go (leb (length t) i) refl
+    where
+      inside : i < length t → (d : Bool) → isDigit (getD t i 0) ≡ d → (i < length t) × (isDigit (getD t i 0) ≡ true)
+      inside l true e = (l, e)
+      inside l false e = let w : ⊥ = omega (arith, ap length (digits-none l e)) in absurd w
+
+      go : (p : Bool) → leb (length t) i ≡ p → (i < length t) × (isDigit (getD t i 0) ≡ true)
+      go true e = let w : ⊥ = omega (arith, ap length (digits-past (leb-true (length t) i e))) in absurd w
+      go false e = inside (leb-false (length t) i e) (isDigit (getD t i 0)) refl
+
+  pub digits-first : 1 ≤ length (digits (drop i t)) → getD (digits (drop i t)) 0 0 ≡ getD t i 0
+  digits-first h = let d = digit-here h in rw (digits-more (d .0) (d .1))
+
+-- A list with no entry.
+pub empty : (l : List ℕ) → length l ≤ 0 → l ≡ []
+empty [] h = refl
+empty (b ∷ l) h = let w : ⊥ = omega arith in absurd w
+
+-- A number of k digits is below 10 to the k.
+pub bound-more : (v d k : ℕ) → v < 10 ^ k → d ≤ 9 → v * 10 + d < 10 ^ (k + 1)
+bound-more v d k h g = rw add-one (omega (arith, pow-suc 10 k))
+
+pub bound-two : (k : ℕ) → k ≤ 2 → 10 ^ k ≤ 100
+bound-two k h = pow-le-pow-right {n = 10} (omega arith) h
+
+-- ---- question 22
+
+pub end-short : (t : List ℕ) → length t < 2 → some (no 22 []) ≡ endRefusal t
+unfolding endRefusal breakAt isBreak
+end-short t h =
+    let e : length t - 2 ≡ 0 = omega arith in
+    simp (e, List·getD-eq-default t 0 {n = 1} (omega arith), and-false)
+
+pub end-no-cr : (t : List ℕ) → (getD t (length t - 2) 0 ≡ 13 → ⊥) → some (no 22 []) ≡ endRefusal t
+unfolding endRefusal breakAt isBreak
+end-no-cr t h = simp (ne-eqb _ _ h)
+
+last-place : (t : List ℕ) → 2 ≤ length t → suc (length t - 2) ≡ length t - 1
+last-place t h = omega arith
+
+pub end-no-lf : (t : List ℕ) → 2 ≤ length t → (getD t (length t - 1) 0 ≡ 10 → ⊥) → some (no 22 []) ≡ endRefusal t
+unfolding endRefusal breakAt isBreak
+end-no-lf t l h = simp (last-place t l, ne-eqb _ _ h, and-false)
+
+pub end-passes : (t : List ℕ) → 2 ≤ length t → getD t (length t - 2) 0 ≡ 13 → getD t (length t - 1) 0 ≡ 10 → none ≡ endRefusal t
+unfolding endRefusal breakAt isBreak
+end-passes t l h g = simp (last-place t l, h, g)
+
+-- ---- questions 23 to 25
+
+module _ (f : List ℕ) where
+  pub field-empty : length f < 1 → some (no 23 []) ≡ fieldRefusal f
+  unfolding fieldRefusal firstNo isElement orElse
+  field-empty h = simp (lt-leb _ _ h)
+
+  pub field-long : 3 < length f → some (no 23 []) ≡ fieldRefusal f
+  unfolding fieldRefusal firstNo isElement orElse
+  field-long h = simp (lt-leb _ _ h, and-false)
+
+  module _ (one : 1 ≤ length f) (three : length f ≤ 3) where
+    pub field-zero : getD f 0 0 ≡ 48 → some (no 24 []) ≡ fieldRefusal f
+    unfolding fieldRefusal firstNo isElement orElse
+    field-zero h = simp (le-leb _ _ one, le-leb _ _ three, h)
+
+    pub field-large : (getD f 0 0 ≡ 48 → ⊥) → 120 < value f → some (no 25 []) ≡ fieldRefusal f
+    unfolding fieldRefusal firstNo isElement orElse
+    field-large h g = simp (le-leb _ _ one, le-leb _ _ three, ne-eqb _ _ h, lt-leb _ _ g)
+
+    pub field-passes : (getD f 0 0 ≡ 48 → ⊥) → value f ≤ 120 → none ≡ fieldRefusal f
+    unfolding fieldRefusal firstNo isElement orElse
+    field-passes h g = simp (le-leb _ _ one, le-leb _ _ three, ne-eqb _ _ h, le-leb _ _ g)
+
+-- ---- a field that passes
+
+-- What 23, 24 and 25 show of a field.
+pub record Number (f : List ℕ) : Type 0 where
+  pub some-byte : 1 ≤ length f
+  pub short : length f ≤ 3
+  pub leading : getD f 0 0 ≡ 48 → ⊥
+  pub small : value f ≤ 120
+
+pub field-passed : (f : List ℕ) → fieldRefusal f ≡ none → Number f
+unfolding fieldRefusal firstNo isElement
+field-passed f h =
+    let size = ask (leb 1 (length f) && leb (length f) 3) (no 23 []) in
+    let zero-first = ask (not (eqb (getD f 0 0) 48)) (no 24 []) in
+    let large = ask (leb (value f) 120) (no 25 []) in
+    let a = orElse-none size (orElse zero-first (orElse large none)) h in
+    let b = orElse-none zero-first (orElse large none) (a .1) in
+    let c = orElse-none large none (b .1) in
+    let s = ask-passed (leb 1 (length f) && leb (length f) 3) (no 23 []) (a .0) in
+    record {
+      some-byte = leb-true 1 (length f) (and-left (leb 1 (length f)) (leb (length f) 3) s);
+      short = leb-true (length f) 3 (and-right (leb 1 (length f)) (leb (length f) 3) s);
+      leading = eqb-false (getD f 0 0) 48 (not-true (eqb (getD f 0 0) 48) (ask-passed (not (eqb (getD f 0 0) 48)) (no 24 []) (b .0)));
+      small = leb-true (value f) 120 (ask-passed (leb (value f) 120) (no 25 []) (c .0));
+    }
+
+pub fields-passed : (f : List ℕ) (fs : List (List ℕ)) → fieldsRefusal (f ∷ fs) ≡ none → (fieldRefusal f ≡ none) × (fieldsRefusal fs ≡ none)
+unfolding fieldsRefusal firstNo
+fields-passed f fs h = orElse-none (fieldRefusal f) (fieldsRefusal fs) h

@@ -1,0 +1,17 @@
+pub mod Every
+pub mod Records
+pub mod Bytes
+pub mod Rows
+pub mod Decimals
+pub mod Scan
+pub mod Fields
+pub mod Reading
+pub mod Judging
+pub mod Buffers
+pub mod Filling
+pub mod Loading
+pub mod Writing
+pub mod Saving
+pub mod Tables
+pub mod Accepted
+pub mod RoundTrips

@@ -1,0 +1,169 @@
+-- The text of a table row by row and field by field: what is left to write.
+-- Assumes nothing.
+use mathlib.Core.Path.{_≡_, refl, ap, sym, _∙_}
+use mathlib.Core.List.{List, [], _∷_, _++_, map, flatMap, append-assoc, append-nil}
+use mathlib.Core.Option.{none, some, orElse}
+use Prim.Native.Nat.{ℕ, zero, suc, _+_, _-_, _≤_, _<_}
+use native.Mathlib.Numerals.{add-one}
+use native.Mathlib.Omega.{arith}
+use borrow.Author.Tests.{le-leb, lt-leb}
+use lib.ListN.{length, set, length-append}
+use lib.Seq.{sets}
+use Rattle.semigroups.specs.Lists.{range, elements}
+use Rattle.semigroups.specs.Tables.{product}
+use Rattle.semigroups.specs.Questions.{Refusal, no, firstNo, cellsRefusal}
+use Rattle.csv.specs.Decimals.{numeral}
+use Rattle.csv.specs.Records.{recordText, lineText, rowsText}
+use Rattle.csv.specs.Tables.{rowFields, tableText}
+use Rattle.csv.specs.Questions.{saveRefusal}
+use Rattle.csv.specs.Calls.{refused, gives, overwritten, saveAnswer, textAfter}
+use Rattle.csv.proofs.Writing.{Writing, write-first, write-next, write-last, sets-overwritten}
+
+elements-first : (n : ℕ) → 1 ≤ n → elements n ≡ 1 ∷ range 2 (n + 1 - 2)
+unfolding elements range
+elements-first n h =
+    let e : n ≡ suc (n + 1 - 2) = omega arith in
+    ap (range 1) e
+
+module _ (n : ℕ) (cells : List ℕ) where
+  -- ---- a row
+
+  module _ (i : ℕ) where
+    -- The fields of row i from field j on, each with its comma, and the line break.
+    unfoldable pub fieldsLeft : ℕ → List ℕ
+    fieldsLeft j = flatMap (λ f. 44 ∷ f) (map (λ k. numeral (product n cells i k)) (range j (n + 1 - j))) ++ 13 ∷ 10 ∷ []
+
+    pub row-first : 1 ≤ n → lineText (rowFields n cells i) ≡ numeral (product n cells i 1) ++ fieldsLeft 2
+    unfolding lineText recordText rowFields fieldsLeft
+    row-first h =
+        rw (elements-first n h)
+        (append-assoc (numeral (product n cells i 1)) (flatMap (λ f. 44 ∷ f) (map (λ k. numeral (product n cells i k)) (range 2 (n + 1 - 2)))) (13 ∷ 10 ∷ []))
+
+    pub row-step : (j : ℕ) → j ≤ n → fieldsLeft j ≡ (44 ∷ numeral (product n cells i j)) ++ fieldsLeft (j + 1)
+    unfolding fieldsLeft flatMap range
+    row-step j h =
+        let e : n + 1 - j ≡ suc (n + 1 - suc j) = omega arith in
+        rw (add-one j, e)
+        (append-assoc (44 ∷ numeral (product n cells i j)) (flatMap (λ f. 44 ∷ f) (map (λ k. numeral (product n cells i k)) (range (suc j) (n + 1 - suc j)))) (13 ∷ 10 ∷ []))
+
+    pub row-end : (j : ℕ) → n < j → fieldsLeft j ≡ 13 ∷ 10 ∷ []
+    unfolding fieldsLeft flatMap range
+    row-end j h =
+        let e : n + 1 - j ≡ 0 = omega arith in
+        rw e
+
+    -- Room for the first field, for a comma and field j, for the line break.
+    pub room-first : (at room x : ℕ) → x ≡ product n cells i 1 → 1 ≤ n → at + length (lineText (rowFields n cells i)) ≤ room → at + length (numeral x) ≤ room
+    room-first at room x e h r = rw e (omega (arith, simp length-append at (ap length (row-first h))))
+
+    pub room-next : (j at room x : ℕ) → x ≡ product n cells i j → j ≤ n → at + length (fieldsLeft j) ≤ room → at + 1 + length (numeral x) ≤ room
+    room-next j at room x e h r = rw e (omega (arith, simp length-append at (ap length (row-step j h))))
+
+    pub room-comma : (j at room : ℕ) → j ≤ n → at + length (fieldsLeft j) ≤ room → at + 1 ≤ room
+    room-comma j at room h r = let k = room-next j at room (product n cells i j) refl h r in omega arith
+
+    pub room-last : (j at room : ℕ) → n < j → at + length (fieldsLeft j) ≤ room → at + 2 ≤ room
+    room-last j at room h r = omega (arith, ap length (row-end j h))
+
+  -- ---- the rows
+
+  -- The text of the rows from row i on.
+  unfoldable pub rowsLeft : ℕ → List ℕ
+  rowsLeft i = rowsText (map (rowFields n cells) (range i (n + 1 - i)))
+
+  pub rows-first : tableText n cells ≡ rowsLeft 1
+  unfolding tableText rowsLeft elements
+  rows-first =
+      let e : n + 1 - 1 ≡ n = omega arith in
+      rw e
+
+  pub rows-step : (i : ℕ) → i ≤ n → rowsLeft i ≡ lineText (rowFields n cells i) ++ rowsLeft (i + 1)
+  unfolding rowsLeft rowsText flatMap range
+  rows-step i h =
+      let e : n + 1 - i ≡ suc (n + 1 - suc i) = omega arith in
+      rw (add-one i, e)
+
+  pub rows-end : (i : ℕ) → n < i → rowsLeft i ≡ []
+  unfolding rowsLeft rowsText flatMap range
+  rows-end i h =
+      let e : n + 1 - i ≡ 0 = omega arith in
+      rw e
+
+-- ---- a row is written: its first field, the fields behind it, the line break
+
+module _ (n : ℕ) (cells : List ℕ) (i : ℕ) where
+  pub row-begun : (before : List ℕ) (start x : ℕ) {first : List ℕ} {behind : ℕ} → 1 ≤ n → x ≡ product n cells i 1
+      → first ≡ sets before start (numeral x) → behind ≡ start + length (numeral x)
+      → Writing before start (lineText (rowFields n cells i)) (fieldsLeft n cells i 2) first behind
+  row-begun before start x one e placed next =
+      rw (placed, next, e)
+      (write-next (write-first before start (lineText (rowFields n cells i))) (numeral (product n cells i 1)) (fieldsLeft n cells i 2) (row-first n cells i one))
+
+  -- A comma and field j.
+  pub row-more : {first text : List ℕ} {behind at : ℕ} (j x : ℕ) {later : List ℕ} {next : ℕ} → j ≤ n → x ≡ product n cells i j
+      → Writing first behind (fieldsLeft n cells i 2) (fieldsLeft n cells i j) text at
+      → later ≡ sets (set text at 44) (at + 1) (numeral x) → next ≡ at + 1 + length (numeral x)
+      → Writing first behind (fieldsLeft n cells i 2) (fieldsLeft n cells i (j + 1)) later next
+  row-more {at = at} j x h e w placed next =
+      let p = numeral (product n cells i j) in
+      let m : at + 1 + length p ≡ at + suc (length p) = omega arith in
+      rw (placed, next, e, m, add-one at) (write-next w (44 ∷ p) (fieldsLeft n cells i (j + 1)) (row-step n cells i j h))
+
+  -- The line break is left.
+  pub row-done : {before first text : List ℕ} {start behind at : ℕ} (j : ℕ) → n < j
+      → Writing before start (lineText (rowFields n cells i)) (fieldsLeft n cells i 2) first behind
+      → Writing first behind (fieldsLeft n cells i 2) (fieldsLeft n cells i j) text at
+      → (at + 2 ≡ start + length (lineText (rowFields n cells i))) × (set (set text at 13) (at + 1) 10 ≡ sets before start (lineText (rowFields n cells i)))
+  row-done {at = at} j h b w =
+      let all = write-last (write-next w (13 ∷ 10 ∷ []) [] (row-end n cells i j h)) refl in
+      let whole = write-last (write-next b (fieldsLeft n cells i 2) [] (sym (append-nil (fieldsLeft n cells i 2)))) refl in
+      (all .1 ∙ whole .1, rw (add-one at) (all .0 ∙ whole .0))
+
+-- ---- the rows are written
+
+module _ (n : ℕ) (cells : List ℕ) where
+  pub rows-begun : (before : List ℕ) → Writing before 0 (tableText n cells) (rowsLeft n cells 1) before 0
+  rows-begun before = rw (← rows-first n cells) (write-first before 0 (tableText n cells))
+
+  pub rows-room : (i at room : ℕ) → i ≤ n → at + length (rowsLeft n cells i) ≤ room → at + length (lineText (rowFields n cells i)) ≤ room
+  rows-room i at room h r = omega (arith, simp length-append at (ap length (rows-step n cells i h)))
+
+  pub rows-more : {before text : List ℕ} {at : ℕ} (i : ℕ) {later : List ℕ} {next : ℕ} → i ≤ n
+      → Writing before 0 (tableText n cells) (rowsLeft n cells i) text at
+      → later ≡ sets text at (lineText (rowFields n cells i)) → next ≡ at + length (lineText (rowFields n cells i))
+      → Writing before 0 (tableText n cells) (rowsLeft n cells (i + 1)) later next
+  rows-more i h w placed next = rw (placed, next) (write-next w (lineText (rowFields n cells i)) (rowsLeft n cells (i + 1)) (rows-step n cells i h))
+
+  pub rows-done : {before text : List ℕ} {at : ℕ} (i : ℕ) → n < i → length (tableText n cells) ≤ length before
+      → Writing before 0 (tableText n cells) (rowsLeft n cells i) text at
+      → (at ≡ length (tableText n cells)) × (text ≡ overwritten (tableText n cells) before)
+  rows-done {before} i h r w =
+      let all = write-last w (rows-end n cells i h) in
+      let z : 0 + length (tableText n cells) ≡ length (tableText n cells) = omega arith in
+      (all .1 ∙ z, all .0 ∙ sets-overwritten before (tableText n cells) r)
+
+-- ---- the call
+
+module _ (n : ℕ) (cells text : List ℕ) where
+  save-refused : {r : Refusal} → saveRefusal n cells (length text) ≡ some r → (refused r ≡ saveAnswer n cells text) × (text ≡ textAfter n cells text)
+  unfolding saveAnswer textAfter
+  save-refused h = (rw h, rw h)
+
+  -- 1, 2 or 3 refuses; 28 refuses; or the text is written.
+  pub bad-table : {r : Refusal} → cellsRefusal n cells ≡ some r → (refused r ≡ saveAnswer n cells text) × (text ≡ textAfter n cells text)
+  unfolding saveRefusal firstNo orElse
+  bad-table h = save-refused (simp h)
+
+  module _ (table : cellsRefusal n cells ≡ none) where
+    pub bad-room : length text < length (tableText n cells) → (refused (no 28 []) ≡ saveAnswer n cells text) × (text ≡ textAfter n cells text)
+    unfolding saveRefusal firstNo orElse
+    bad-room h = save-refused (simp (table, lt-leb _ _ h))
+
+    pub saves : length (tableText n cells) ≤ length text → saveRefusal n cells (length text) ≡ none
+    unfolding saveRefusal firstNo orElse
+    saves h = simp (table, le-leb _ _ h)
+
+    pub save-given : length (tableText n cells) ≤ length text
+        → (gives (length (tableText n cells)) ≡ saveAnswer n cells text) × (overwritten (tableText n cells) text ≡ textAfter n cells text)
+    unfolding saveAnswer textAfter
+    save-given h = (rw (saves h), rw (saves h))

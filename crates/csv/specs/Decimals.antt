@@ -1,0 +1,33 @@
+-- Decimal numbers as bytes: digits are the bytes 48 to 57, the first digit counts most (01, "Text": decimal cells).
+-- Assumes nothing.
+use mathlib.Core.Bool.{Bool, true, false, _&&_, cond}
+use mathlib.Core.List.{List, [], _∷_, _++_}
+use Prim.Native.Nat.{ℕ, zero, suc, _+_, _-_, _*_, _/_, _%_}
+use lib.Dec.{leb, ltb}
+
+-- Whether a byte is a digit.
+unfoldable pub isDigit : ℕ → Bool
+isDigit b = leb 48 b && leb b 57
+
+-- The digits that a list of bytes begins with.
+unfoldable pub digits : List ℕ → List ℕ
+digits [] = []
+digits (b ∷ t) = let r = digits t in cond (isDigit b) (b ∷ r) []
+
+-- The number that digits go on to where those before them make v.
+unfoldable pub valueFrom : ℕ → List ℕ → ℕ
+valueFrom v [] = v
+valueFrom v (b ∷ f) = valueFrom (v * 10 + (b - 48)) f
+
+-- The number that a field of digits stands for. A field of other bytes, which no accepted text has, gets a number too.
+unfoldable pub value : List ℕ → ℕ
+value f = valueFrom 0 f
+
+-- The last d decimal digits of k with no leading 0: where k has at most d digits, its decimal number.
+unfoldable pub numeralWithin : ℕ → ℕ → List ℕ
+numeralWithin zero k = []
+numeralWithin (suc d) k = let r = numeralWithin d (k / 10) in cond (ltb k 10) [] r ++ (48 + k % 10) ∷ []
+
+-- The decimal number of a cell, with no leading 0. A cell is a byte, so three digits are enough.
+unfoldable pub numeral : ℕ → List ℕ
+numeral k = numeralWithin 3 k

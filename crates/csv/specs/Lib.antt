@@ -1,0 +1,6 @@
+pub mod Decimals
+pub mod Records
+pub mod Tables
+pub mod Questions
+pub mod Calls
+pub mod Rounds

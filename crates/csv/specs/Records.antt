@@ -1,0 +1,53 @@
+-- Text as records and fields (RFC 4180, section 2): each record stands on its own line, closed by a line break, CR LF, the bytes 13 and 10;
+-- its fields stand between commas, byte 44. Two directions: the records and fields of a text, and the text of records and fields.
+-- Stricter than RFC 4180 by 01, "Text": there is no header and no quoted field. That the last record is closed too is question 22 and not part
+-- of what the records of a text are.
+-- Assumes nothing.
+use mathlib.Core.Bool.{Bool, true, false, _&&_, cond}
+use mathlib.Core.List.{List, [], _∷_, _++_, map, flatMap}
+use Prim.Native.Nat.{ℕ}
+use lib.Dec.{eqb}
+
+-- Whether two bytes in a row are a line break.
+unfoldable pub isBreak : ℕ → ℕ → Bool
+isBreak b c = eqb b 13 && eqb c 10
+
+-- The first of the lists with one more entry in front; where there is no list, a list of that entry.
+unfoldable pub onto : ℕ → List (List ℕ) → List (List ℕ)
+onto b [] = (b ∷ []) ∷ []
+onto b (l ∷ ls) = (b ∷ l) ∷ ls
+
+-- ---- from a text
+
+-- The records of a text, without their line breaks. Bytes after the last line break are a record too.
+unfoldable pub records : List ℕ → List (List ℕ)
+records [] = []
+records (b ∷ []) = (b ∷ []) ∷ []
+records (b ∷ c ∷ t) =
+    let closed = records t in
+    let open-record = records (c ∷ t) in
+    cond (isBreak b c) ([] ∷ closed) (onto b open-record)
+
+-- The fields of a record. A record with no byte is one field with no byte.
+unfoldable pub fields : List ℕ → List (List ℕ)
+fields [] = [] ∷ []
+fields (b ∷ r) = let rest = fields r in cond (eqb b 44) ([] ∷ rest) (onto b rest)
+
+-- The fields of each record of a text.
+unfoldable pub rows : List ℕ → List (List (List ℕ))
+rows t = map fields (records t)
+
+-- ---- to a text
+
+-- The text of a record, without its line break: its fields with a comma between two. A record has a field; of none the text is empty.
+unfoldable pub recordText : List (List ℕ) → List ℕ
+recordText [] = []
+recordText (f ∷ fs) = f ++ flatMap (λ g. 44 ∷ g) fs
+
+-- The text of a record with its line break.
+unfoldable pub lineText : List (List ℕ) → List ℕ
+lineText r = recordText r ++ 13 ∷ 10 ∷ []
+
+-- The text of records, each closed by a line break, the last one too (01, "Text").
+unfoldable pub rowsText : List (List (List ℕ)) → List ℕ
+rowsText rs = flatMap lineText rs

@@ -1,0 +1,40 @@
+-- What each case of the answers means: 01's number of the question, and what is said with it.
+-- Assumes nothing.
+use mathlib.Core.List.{List, [], _∷_}
+use mathlib.Core.Option.{Option, none, some}
+use Rattle.semigroups.specs.Questions.{Refusal, no}
+use Rattle.tables.specs.Answers.{faultRefusal as tableRefusal}
+use Rattle.csv.specs.Calls.{Answer, refused, gives}
+use Rattle.text.specs.declared.TextFault.{TextFault}
+use Rattle.text.specs.declared.TextFault.the-variants.{Length, Byte, End, FieldLength, LeadingZero, FieldValue, Shape, Order, Room}
+use Rattle.text.specs.declared.Judged.{Judged}
+use Rattle.text.specs.declared.Judged.the-variants.{Passed, Failed}
+use Rattle.text.specs.declared.Loaded.{Loaded}
+use Rattle.text.specs.declared.Loaded.the-variants.{Order as LoadedOrder, Refused as LoadRefused}
+use Rattle.text.specs.declared.Saved.{Saved}
+use Rattle.text.specs.declared.Saved.the-variants.{Length as SavedLength, Refused as SaveRefused, Room as SavedRoom}
+
+abbrev pub faultRefusal : TextFault → Refusal
+faultRefusal Length = no 20 []
+faultRefusal (Byte place) = no 21 (place ∷ [])
+faultRefusal End = no 22 []
+faultRefusal FieldLength = no 23 []
+faultRefusal LeadingZero = no 24 []
+faultRefusal FieldValue = no 25 []
+faultRefusal Shape = no 26 []
+faultRefusal Order = no 1 []
+faultRefusal Room = no 27 []
+
+-- Of a part of the questions: none fails, or this one.
+abbrev pub judgedRefusal : Judged → Option Refusal
+judgedRefusal Passed = none
+judgedRefusal (Failed f) = some (faultRefusal f)
+
+abbrev pub loadedAnswer : Loaded → Answer
+loadedAnswer (LoadedOrder n) = gives n
+loadedAnswer (LoadRefused f) = refused (faultRefusal f)
+
+abbrev pub savedAnswer : Saved → Answer
+savedAnswer (SavedLength k) = gives k
+savedAnswer (SaveRefused f) = refused (tableRefusal f)
+savedAnswer SavedRoom = refused (no 28 [])

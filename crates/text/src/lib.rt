@@ -1,0 +1,362 @@
+// Cayley tables as RFC 4180 text: a record for each row, a decimal field for each cell, each record closed by CR LF.
+// `load` asks questions 20 to 27 and 1 of a text, `save` asks 1, 2, 3 and 28; a refusal changes no byte.
+ghost use mathlib.Core.Path.{_≡_};
+ghost use mathlib.Core.Option.{none};
+ghost use Prim.Native.Nat.{_+_, _≤_, _<_};
+ghost use lib.ListN.{length, drop};
+ghost use lib.Seq.{sets};
+ghost use Rattle.semigroups.specs.Tables.{Element, Filled};
+ghost use Rattle.csv.specs.Decimals.{digits, value, numeral};
+ghost use Rattle.csv.specs.Records.{lineText};
+ghost use Rattle.csv.specs.Tables.{fieldsOf, orderOf, cellsOf, rowFields, tableText};
+ghost use Rattle.csv.specs.Questions.{bytesRefusal, endRefusal, fieldRefusal, fieldsRefusal, gridRefusal};
+ghost use Rattle.csv.specs.Calls.{overwritten, loadAnswer, cellsAfter, saveAnswer, textAfter};
+ghost use Rattle.text.specs.Answers.{judgedRefusal, loadedAnswer, savedAnswer};
+
+// Why a text is refused.
+pub enum TextFault {
+    Length,
+    // The place of the byte, from 0.
+    Byte(usize),
+    End,
+    FieldLength,
+    LeadingZero,
+    FieldValue,
+    Shape,
+    Order,
+    Room,
+}
+
+// What loading answers: the order, or the earliest failed question.
+pub enum Loaded {
+    Order(usize),
+    Refused(TextFault),
+}
+
+// What saving answers: the length of the text; or the first of questions 1 to 3 that fails; or that the buffer is short of the whole length.
+pub enum Saved {
+    Length(usize),
+    Refused(tables::Fault),
+    Room,
+}
+
+// Whether some of the questions about a text pass.
+pub enum Judged {
+    Passed,
+    Failed(TextFault),
+}
+
+// Question 21: is every byte a digit, a comma, or part of a CR LF pair?
+fn judge_bytes(text: &[u8]) -> Judged
+    ensures answer { λ r. ⌜ judgedRefusal r ≡ bytesRefusal (now (text .entry)) ⌝ }
+{
+    let mut i: usize = 0;
+    while i < text.len() {
+        let b = text[i];
+        match b {
+            48..=57 => {
+                i += 1;
+            }
+            44 => {
+                i += 1;
+            }
+            13 => {
+                if text.len() - i < 2 {
+                    return Judged::Failed(TextFault::Byte(i));
+                }
+                if text[i + 1] != 10 {
+                    return Judged::Failed(TextFault::Byte(i));
+                }
+                i += 2;
+            }
+            _ => {
+                return Judged::Failed(TextFault::Byte(i));
+            }
+        }
+    }
+    Judged::Passed
+}
+
+// Question 22: does the text end in CR LF?
+fn judge_end(text: &[u8]) -> Judged
+    ensures answer { λ r. ⌜ judgedRefusal r ≡ endRefusal (now (text .entry)) ⌝ }
+{
+    let n = text.len();
+    if n < 2 {
+        return Judged::Failed(TextFault::End);
+    }
+    if text[n - 2] != 13 {
+        return Judged::Failed(TextFault::End);
+    }
+    if text[n - 1] != 10 {
+        return Judged::Failed(TextFault::End);
+    }
+    Judged::Passed
+}
+
+// The place behind the digits that stand from `at` on.
+fn digits_end(text: &[u8], at: usize) -> usize
+    requires { ⌜ at ≤ length (now text) ⌝ }
+    ensures answer { λ r. ⌜ r ≡ at + length (digits (drop at (now (text .entry)))) ⌝ }
+{
+    let mut i = at;
+    while i < text.len() {
+        let b = text[i];
+        if b < 48 {
+            return i;
+        }
+        if 57 < b {
+            return i;
+        }
+        i += 1;
+    }
+    i
+}
+
+// The number that the digits from `at` to `end` stand for: at most three of them.
+fn read_number(text: &[u8], at: usize, end: usize) -> usize
+    requires inside { ⌜ at ≤ length (now text) ⌝ }
+    requires whole { ⌜ end ≡ at + length (digits (drop at (now text))) ⌝ }
+    requires short { ⌜ length (digits (drop at (now text))) ≤ 3 ⌝ }
+    ensures answer { λ r. ⌜ r ≡ value (digits (drop at (now (text .entry)))) ⌝ }
+{
+    let mut v: usize = 0;
+    let mut i = at;
+    while i < end {
+        v = v * 10 + (text[i] - 48) as usize;
+        i += 1;
+    }
+    v
+}
+
+// Questions 23, 24 and 25 about the field of digits from `at` to `end`.
+fn judge_field(text: &[u8], at: usize, end: usize) -> Judged
+    requires inside { ⌜ at ≤ length (now text) ⌝ }
+    requires whole { ⌜ end ≡ at + length (digits (drop at (now text))) ⌝ }
+    ensures answer { λ r. ⌜ judgedRefusal r ≡ fieldRefusal (digits (drop at (now (text .entry)))) ⌝ }
+{
+    if end - at < 1 {
+        return Judged::Failed(TextFault::FieldLength);
+    }
+    if 3 < end - at {
+        return Judged::Failed(TextFault::FieldLength);
+    }
+    if text[at] == 48 {
+        return Judged::Failed(TextFault::LeadingZero);
+    }
+    if 120 < read_number(text, at, end) {
+        return Judged::Failed(TextFault::FieldValue);
+    }
+    Judged::Passed
+}
+
+// The number of fields of the first record.
+fn columns(text: &[u8]) -> usize
+    requires bytes { ⌜ bytesRefusal (now text) ≡ none ⌝ }
+    requires end { ⌜ endRefusal (now text) ≡ none ⌝ }
+    ensures answer { λ r. ⌜ r ≡ orderOf (now (text .entry)) ⌝ }
+{
+    let mut n: usize = 1;
+    let mut end = digits_end(text, 0);
+    while text[end] == 44 {
+        n += 1;
+        end = digits_end(text, end + 1);
+    }
+    n
+}
+
+// Questions 23 to 25 about each field; then, where they pass, 26: are there n records, each with n fields?
+fn judge_fields(text: &[u8], n: usize) -> Judged
+    requires bytes { ⌜ bytesRefusal (now text) ≡ none ⌝ }
+    requires end { ⌜ endRefusal (now text) ≡ none ⌝ }
+    ensures answer { λ r. ⌜ judgedRefusal r ≡ gridRefusal n (now (text .entry)) ⌝ }
+{
+    let mut at: usize = 0;
+    let mut row: usize = 0;
+    let mut column: usize = 0;
+    let mut square = true;
+    while at < text.len() {
+        let end = digits_end(text, at);
+        let field = judge_field(text, at, end);
+        if let Judged::Failed(f) = field {
+            return Judged::Failed(f);
+        }
+        column += 1;
+        if text[end] == 44 {
+            at = end + 1;
+        } else {
+            if column != n {
+                square = false;
+            }
+            column = 0;
+            row += 1;
+            at = end + 2;
+        }
+    }
+    if !square {
+        return Judged::Failed(TextFault::Shape);
+    }
+    if row != n {
+        return Judged::Failed(TextFault::Shape);
+    }
+    Judged::Passed
+}
+
+// Writes the number of each field to `cells`, in reading order.
+fn fill(text: &[u8], cells: &mut [u8])
+    requires bytes { ⌜ bytesRefusal (now text) ≡ none ⌝ }
+    requires end { ⌜ endRefusal (now text) ≡ none ⌝ }
+    requires numbers { ⌜ fieldsRefusal (fieldsOf (now text)) ≡ none ⌝ }
+    requires room { ⌜ length (cellsOf (now text)) ≤ length (now cells) ⌝ }
+    ensures cells { λ _. ⌜ now (cells .exit) ≡ overwritten (cellsOf (now (text .entry))) (now (cells .entry)) ⌝ }
+{
+    let mut at: usize = 0;
+    let mut k: usize = 0;
+    while at < text.len() {
+        let end = digits_end(text, at);
+        cells[k] = read_number(text, at, end) as u8;
+        k += 1;
+        if text[end] == 44 {
+            at = end + 1;
+        } else {
+            at = end + 2;
+        }
+    }
+}
+
+// Loads the table that `text` holds: answers its order and writes its cells, row by row, to the start of `cells`; or answers the earliest
+// question that fails, and writes nothing.
+pub fn load(text: &[u8], cells: &mut [u8]) -> Loaded
+    ensures answer { λ r. ⌜ loadedAnswer r ≡ loadAnswer (now (text .entry)) (now (cells .entry)) ⌝ }
+    ensures cells { λ _. ⌜ now (cells .exit) ≡ cellsAfter (now (text .entry)) (now (cells .entry)) ⌝ }
+{
+    if text.len() < 1 {
+        return Loaded::Refused(TextFault::Length);
+    }
+    if 57720 < text.len() {
+        return Loaded::Refused(TextFault::Length);
+    }
+    let bytes = judge_bytes(text);
+    if let Judged::Failed(f) = bytes {
+        return Loaded::Refused(f);
+    }
+    let end = judge_end(text);
+    if let Judged::Failed(f) = end {
+        return Loaded::Refused(f);
+    }
+    let n = columns(text);
+    let fields = judge_fields(text, n);
+    if let Judged::Failed(f) = fields {
+        return Loaded::Refused(f);
+    }
+    if 120 < n {
+        return Loaded::Refused(TextFault::Order);
+    }
+    if cells.len() < n * n {
+        return Loaded::Refused(TextFault::Room);
+    }
+    fill(text, cells);
+    Loaded::Order(n)
+}
+
+// How many digits the decimal number of x has.
+fn digit_count(x: usize) -> usize
+    requires { ⌜ x < 1000 ⌝ }
+    ensures answer { λ r. ⌜ r ≡ length (numeral x) ⌝ }
+{
+    if x < 10 {
+        return 1;
+    }
+    if x < 100 {
+        return 2;
+    }
+    3
+}
+
+// The length of the text of a table: each cell is followed by a comma or a CR, each row by an LF.
+fn text_length(cells: &[u8], n: usize) -> usize
+    requires { ⌜ Filled n (now cells) ⌝ }
+    ensures answer { λ r. ⌜ r ≡ length (tableText n (now (cells .entry))) ⌝ }
+{
+    let mut total = n;
+    let mut k: usize = 0;
+    while k < cells.len() {
+        total += digit_count(cells[k] as usize) + 1;
+        k += 1;
+    }
+    total
+}
+
+// Writes the decimal number of x at `at`. Answers the place behind it.
+fn put_number(text: &mut [u8], at: usize, x: usize) -> usize
+    requires small { ⌜ x < 1000 ⌝ }
+    requires room { ⌜ at + length (numeral x) ≤ length (now text) ⌝ }
+    ensures answer { λ r. ⌜ r ≡ at + length (numeral x) ⌝ }
+    ensures text { λ _. ⌜ now (text .exit) ≡ sets (now (text .entry)) at (numeral x) ⌝ }
+{
+    if x < 10 {
+        text[at] = (48 + x) as u8;
+        return at + 1;
+    }
+    if x < 100 {
+        text[at] = (48 + x / 10) as u8;
+        text[at + 1] = (48 + x % 10) as u8;
+        return at + 2;
+    }
+    text[at] = (48 + x / 100) as u8;
+    text[at + 1] = (48 + x / 10 % 10) as u8;
+    text[at + 2] = (48 + x % 10) as u8;
+    at + 3
+}
+
+// Writes row i of a table at `start`, with its line break. Answers the place behind it.
+fn put_row(cells: &[u8], n: usize, i: usize, text: &mut [u8], start: usize) -> usize
+    requires table { ⌜ Filled n (now cells) ⌝ }
+    requires row { ⌜ Element n i ⌝ }
+    requires room { ⌜ start + length (lineText (rowFields n (now cells) i)) ≤ length (now text) ⌝ }
+    ensures answer { λ r. ⌜ r ≡ start + length (lineText (rowFields n (now (cells .entry)) i)) ⌝ }
+    ensures text { λ _. ⌜ now (text .exit) ≡ sets (now (text .entry)) start (lineText (rowFields n (now (cells .entry)) i)) ⌝ }
+{
+    let mut at = put_number(text, start, tables::times(cells, n, i, 1));
+    let mut j: usize = 2;
+    while j <= n {
+        text[at] = 44;
+        at = put_number(text, at + 1, tables::times(cells, n, i, j));
+        j += 1;
+    }
+    text[at] = 13;
+    text[at + 1] = 10;
+    at + 2
+}
+
+// Writes the text of a table to the start of `text`. Answers its length.
+fn put_rows(cells: &[u8], n: usize, text: &mut [u8]) -> usize
+    requires table { ⌜ Filled n (now cells) ⌝ }
+    requires room { ⌜ length (tableText n (now cells)) ≤ length (now text) ⌝ }
+    ensures answer { λ r. ⌜ r ≡ length (tableText n (now (cells .entry))) ⌝ }
+    ensures text { λ _. ⌜ now (text .exit) ≡ overwritten (tableText n (now (cells .entry))) (now (text .entry)) ⌝ }
+{
+    let mut at: usize = 0;
+    let mut i: usize = 1;
+    while i <= n {
+        at = put_row(cells, n, i, text, at);
+        i += 1;
+    }
+    at
+}
+
+// Saves the table of this order with these cells: writes its text to the start of `text` and answers its length; or answers the earliest
+// question that fails, and writes nothing.
+pub fn save(cells: &[u8], order: usize, text: &mut [u8]) -> Saved
+    ensures answer { λ r. ⌜ savedAnswer r ≡ saveAnswer order (now (cells .entry)) (now (text .entry)) ⌝ }
+    ensures text { λ _. ⌜ now (text .exit) ≡ textAfter order (now (cells .entry)) (now (text .entry)) ⌝ }
+{
+    let verdict = tables::check_cells(cells, order);
+    if let tables::Verdict::Refused(f) = verdict {
+        return Saved::Refused(f);
+    }
+    if text.len() < text_length(cells, order) {
+        return Saved::Room;
+    }
+    Saved::Length(put_rows(cells, order, text))
+}
