@@ -1,9 +1,18 @@
 // Candidates and their marks in the scratch buffer. This crate alone knows where a mark stands and how many bytes the marks take.
+// What is compared of an element is packed into one number, its key, once for each element; a pair of elements is then one comparison.
 ghost use mathlib.Core.Path.{_≡_};
-ghost use Prim.Native.Nat.{_≤_};
+ghost use Prim.Native.Nat.{_≤_, _<_};
 ghost use lib.ListN.{length};
-ghost use Rattle.semigroups.specs.Tables.{Element};
-ghost use Rattle.semigroups.specs.Scratch.{scratchSize, marked};
+ghost use Rattle.semigroups.specs.Tables.{product, Element, Filled};
+ghost use Rattle.semigroups.specs.Invariants.{indexPeriod, profile};
+ghost use Rattle.semigroups.specs.Maps.{embeddings, isomorphisms};
+ghost use Rattle.semigroups.specs.Candidates.{candidate};
+ghost use Rattle.semigroups.specs.Scratch.{scratchSize, marked, scratchAfter};
+ghost use Rattle.invariants.specs.PerElement.{perElement};
+ghost use Rattle.candidates.specs.Marks.{pairNumber, withMark};
+ghost use Rattle.candidates.specs.Keys.{indexPeriodKey, profileKey, sameKey};
+
+// ---- marks
 
 // How many bytes the marks of m source and n target elements take.
 pub fn scratch_size(m: usize, n: usize) -> usize
@@ -13,6 +22,14 @@ pub fn scratch_size(m: usize, n: usize) -> usize
     m * n
 }
 
+// The number of the pair of source element i and target element j of n, counted from 0.
+fn pair_number(n: usize, i: usize, j: usize) -> usize
+    requires { ⌜ Element 120 i × Element n j × (n ≤ 120) ⌝ }
+    ensures answer { λ r. ⌜ r ≡ pairNumber n i j ⌝ }
+{
+    (i - 1) * n + (j - 1)
+}
+
 // Whether target element j of n is marked as a candidate for source element i.
 pub fn marked(scratch: &[u8], n: usize, i: usize, j: usize) -> bool
     requires { ⌜ Element 120 i ⌝ }
@@ -20,5 +37,110 @@ pub fn marked(scratch: &[u8], n: usize, i: usize, j: usize) -> bool
     requires { ⌜ scratchSize i n ≤ length (now scratch) ⌝ }
     ensures answer { λ r. ⌜ r ≡ marked n (now (scratch .entry)) i j ⌝ }
 {
-    scratch[(i - 1) * n + (j - 1)] == 1
+    scratch[pair_number(n, i, j)] == 1
+}
+
+// Marks target element j of n as a candidate for source element i, or as none.
+fn mark(scratch: &mut [u8], n: usize, i: usize, j: usize, candidate: bool)
+    requires { ⌜ Element 120 i × Element n j × (n ≤ 120) ⌝ }
+    requires { ⌜ scratchSize i n ≤ length (now scratch) ⌝ }
+    ensures scratch { λ _. ⌜ now (scratch .exit) ≡ withMark n (now (scratch .entry)) i j candidate ⌝ }
+{
+    scratch[pair_number(n, i, j)] = candidate as u8;
+}
+
+// ---- keys
+
+fn index_period_key(index: u8, period: u8) -> u64
+    ensures answer { λ r. ⌜ r ≡ indexPeriodKey (record { index = index; period = period }) ⌝ }
+{
+    (index as u64) * 256 + (period as u64)
+}
+
+fn profile_key(index: u8, period: u8, frequency: u16, diagonal: u16, row: u8, column: u8) -> u64
+    requires { ⌜ diagonal < 256 ⌝ }
+    ensures answer { λ r. ⌜ r ≡ profileKey (record { index = index; period = period; frequency = frequency; diagonal = diagonal; row = row; column = column }) ⌝ }
+{
+    let powers = index_period_key(index, period);
+    (((powers * 65536 + (frequency as u64)) * 256 + (diagonal as u64)) * 256 + (row as u64)) * 256
+        + (column as u64)
+}
+
+// The index-period key of every element; element a's stands at place a - 1.
+fn index_period_keys(cells: &[u8], n: usize) -> [u64; 120]
+    requires { ⌜ Filled n (now cells) ⌝ }
+    ensures answer { λ r. ⌜ r ≡ perElement n (λ a. indexPeriodKey (indexPeriod n (product n (now (cells .entry))) a)) ⌝ }
+{
+    let powers = invariants::all_index_periods(cells, n);
+    let mut keys = [0u64; 120];
+    let mut k: usize = 0;
+    while k < n {
+        keys[k] = index_period_key(powers.index[k], powers.period[k]);
+        k += 1;
+    }
+    keys
+}
+
+// The profile key of every element; element a's stands at place a - 1.
+fn profile_keys(cells: &[u8], n: usize) -> [u64; 120]
+    requires { ⌜ Filled n (now cells) ⌝ }
+    ensures answer { λ r. ⌜ r ≡ perElement n (λ a. profileKey (profile n (product n (now (cells .entry))) a)) ⌝ }
+{
+    let profiles = invariants::all_profiles(cells, n);
+    let mut keys = [0u64; 120];
+    let mut k: usize = 0;
+    while k < n {
+        keys[k] = profile_key(
+            profiles.index[k],
+            profiles.period[k],
+            profiles.frequency[k],
+            profiles.diagonal[k],
+            profiles.row[k],
+            profiles.column[k],
+        );
+        k += 1;
+    }
+    keys
+}
+
+// ---- filling
+
+// Marks the pairs of elements that have the same key.
+fn fill(source: &[u64; 120], m: usize, target: &[u64; 120], n: usize, scratch: &mut [u8])
+    requires { ⌜ (m ≤ 120) × (n ≤ 120) ⌝ }
+    requires { ⌜ scratchSize m n ≤ length (now scratch) ⌝ }
+    ensures scratch { λ _. ⌜ now (scratch .exit) ≡ scratchAfter m n (sameKey (now (source .entry)) (now (target .entry))) (now (scratch .entry)) ⌝ }
+{
+    let mut i: usize = 1;
+    while i <= m {
+        let key = source[i - 1];
+        let mut j: usize = 1;
+        while j <= n {
+            mark(scratch, n, i, j, key == target[j - 1]);
+            j += 1;
+        }
+        i += 1;
+    }
+}
+
+// The candidates for embeddings: equal index-period.
+pub fn fill_embeddings(source: &[u8], m: usize, target: &[u8], n: usize, scratch: &mut [u8])
+    requires { ⌜ Filled m (now source) × Filled n (now target) ⌝ }
+    requires { ⌜ scratchSize m n ≤ length (now scratch) ⌝ }
+    ensures scratch { λ _. ⌜ now (scratch .exit) ≡ scratchAfter m n (candidate embeddings m (product m (now (source .entry))) n (product n (now (target .entry)))) (now (scratch .entry)) ⌝ }
+{
+    let source_keys = index_period_keys(source, m);
+    let target_keys = index_period_keys(target, n);
+    fill(&source_keys, m, &target_keys, n, scratch);
+}
+
+// The candidates for isomorphisms: equal profile.
+pub fn fill_isomorphisms(source: &[u8], m: usize, target: &[u8], n: usize, scratch: &mut [u8])
+    requires { ⌜ Filled m (now source) × Filled n (now target) ⌝ }
+    requires { ⌜ scratchSize m n ≤ length (now scratch) ⌝ }
+    ensures scratch { λ _. ⌜ now (scratch .exit) ≡ scratchAfter m n (candidate isomorphisms m (product m (now (source .entry))) n (product n (now (target .entry)))) (now (scratch .entry)) ⌝ }
+{
+    let source_keys = profile_keys(source, m);
+    let target_keys = profile_keys(target, n);
+    fill(&source_keys, m, &target_keys, n, scratch);
 }

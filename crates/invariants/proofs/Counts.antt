@@ -2,9 +2,9 @@
 -- Assumes nothing.
 use mathlib.Core.Path.{_≡_, refl, sym, ap, ap₂, _∙_}
 use mathlib.Core.Bool.{Bool, cond}
-use mathlib.Core.List.{List, [], _∷_, _++_, map}
-use Prim.Native.Nat.{ℕ, zero, suc, _+_, _-_, _*_, _≤_, _<_}
-use native.Mathlib.Nat.{suc-mul, mul-le-mul, mul-le-mul-right, mul-suc}
+use mathlib.Core.List.{List, [], _∷_, map}
+use Prim.Native.Nat.{ℕ, suc, _+_, _-_, _*_, _≤_, _<_}
+use native.Mathlib.Nat.{suc-mul, mul-le-mul-right, mul-suc}
 use native.Mathlib.Numerals.{add-one}
 use native.Mathlib.Omega.{arith}
 use borrow.Author.Tests.{eq-eqb, ne-eqb}
@@ -17,22 +17,11 @@ use Rattle.semigroups.specs.Invariants.{frequency, diagonalFrequency, rowFreque
 use Rattle.semigroups.proofs.Lists.{length-range, length-elements, getD-range, getD-map}
 use Rattle.semigroups.proofs.Sums.{sum-append, count-map, count-at-most}
 use Rattle.semigroups.proofs.Frequencies.{frequency-cells}
+use Rattle.tables.proofs.Questions.{square-small}
+use Rattle.invariants.proofs.Lists.{map-range-snoc, map-shift}
 use Rattle.invariants.specs.Counts.{every, occurrences, Reached}
 
 -- ---- one cell more
-
-range-snoc : (i k : ℕ) → range i (suc k) ≡ range i k ++ (i + k) ∷ []
-unfolding range
-range-snoc i zero = ap {B = List ℕ} (λ (x : ℕ). x ∷ []) (let z : i ≡ i + 0 = omega arith in z)
-range-snoc i (suc k) = ap {B = List ℕ} (λ (l : List ℕ). i ∷ l) (range-snoc (suc i) k ∙ ap {B = List ℕ} (λ (x : ℕ). range (suc i) k ++ x ∷ []) (let z : suc i + k ≡ i + suc k = omega arith in z))
-
-map-append : {A B : Type 0} (g : A → B) (l r : List A) → map g (l ++ r) ≡ map g l ++ map g r
-map-append g [] r = refl
-map-append {A} {B} g (x ∷ l) r = ap {B = List B} (λ (m : List B). g x ∷ m) (map-append g l r)
-
--- The values at one number more.
-pub map-range-snoc : (w : ℕ → ℕ) (i k : ℕ) → map w (range i (suc k)) ≡ map w (range i k) ++ w (i + k) ∷ []
-map-range-snoc w i k = ap (map w) (range-snoc i k) ∙ map-append w (range i k) ((i + k) ∷ [])
 
 module _ (a step : ℕ) (cells : List ℕ) where
   pub none-yet : occurrences a (every step 0 cells) ≡ 0
@@ -65,12 +54,6 @@ module _ (a step : ℕ) (cells : List ℕ) where
       omega (arith, length-map (range 0 k) (λ i. getD cells (i * step) 0), length-range 0 k)
 
 -- ---- the cells of a row, a column, the diagonal, the table
-
-map-shift : (v w : ℕ → ℕ) (i k : ℕ) → ((j : ℕ) → i ≤ j → j < i + k → v j ≡ w (suc j)) → map v (range i k) ≡ map w (range (suc i) k)
-unfolding range
-map-shift v w i zero h = refl
-map-shift v w i (suc k) h =
-    ap₂ {C = List ℕ} (λ (x : ℕ) (l : List ℕ). x ∷ l) (h i (omega arith) (omega arith)) (map-shift v w (suc i) k (λ j lo hi. h j (omega arith) (omega arith)))
 
 -- Cells a step apart that are the values of w at the elements are counted as those.
 counted : (a step k : ℕ) (cells : List ℕ) (w : ℕ → ℕ) → ((i : ℕ) → i < k → getD cells (i * step) 0 ≡ w (suc i)) → occurrences a (every step k cells) ≡ count (λ i. eqb (w i) a) (elements k)
@@ -124,31 +107,28 @@ module _ (n : ℕ) (cells : List ℕ) where
 
 -- ---- that these cells are there
 
-square-at-most : (n : ℕ) → n ≤ 120 → n * n ≤ 14400
-square-at-most n h = mul-le-mul h h
-
 module _ (n : ℕ) (cells : List ℕ) (t : Filled n cells) where
   pub cells-at-most : length cells ≤ 14400
-  cells-at-most = let e = t .size in omega (arith, square-at-most n (t .order .1))
+  cells-at-most = let e = t .size in omega (arith, square-small n (t .order .1))
 
-  rows-below : (i : ℕ) → i < n → i * n + n ≤ n * n
-  rows-below i h = let le : suc i * n ≤ n * n = mul-le-mul-right n h in omega (arith, suc-mul i n)
+  -- A row of n cells lies within the table.
+  row-below : (i : ℕ) → i < n → i * n + n ≤ length cells
+  row-below i h = let le : suc i * n ≤ n * n = mul-le-mul-right n h in let e = t .size in omega (arith, suc-mul i n)
 
-  -- Row a starts within the table and ends there.
   pub row-within : (a : ℕ) → Element n a → (a - 1) * n + n ≤ length cells
-  row-within a h = let e = t .size in omega (arith, rows-below (a - 1) (omega arith))
+  row-within a h = row-below (a - 1) (omega arith)
 
   pub row-reached : (a : ℕ) → Element n a → Reached n 1 (drop ((a - 1) * n) cells)
   row-reached a h i u = let e = length-drop ((a - 1) * n) cells in omega (arith, row-within a h)
 
   pub column-within : (a : ℕ) → Element n a → a - 1 < length cells
-  column-within a h = let e = t .size in let r = rows-below 0 (omega arith) in omega arith
+  column-within a h = let r = row-below 0 (omega arith) in omega arith
 
   pub column-reached : (a : ℕ) → Element n a → Reached n n (drop (a - 1) cells)
-  column-reached a h i u = let e = t .size in let d = length-drop (a - 1) cells in omega (arith, rows-below i u)
+  column-reached a h i u = let d = length-drop (a - 1) cells in omega (arith, row-below i u)
 
   pub diagonal-reached : Reached n (n + 1) cells
-  diagonal-reached i u = let e = t .size in let d = ap (λ (j : ℕ). i * j) (add-one n) ∙ mul-suc i n in omega (arith, rows-below i u)
+  diagonal-reached i u = let d = ap (λ (j : ℕ). i * j) (add-one n) ∙ mul-suc i n in omega (arith, row-below i u)
 
   pub table-reached : Reached (length cells) 1 cells
   table-reached i u = omega arith

@@ -1,4 +1,5 @@
-pub mod Powers
+pub mod Lists
 pub mod Counts
 pub mod PerElement
+pub mod Powers
 pub mod Questions

@@ -1,7 +1,7 @@
 -- Arrays that hold a value for each element and zeros behind: filled place by place, and raised by one at a place. Assumes nothing.
 use mathlib.Core.Path.{_≡_, refl, sym, ap, ap₂, _∙_}
 use mathlib.Core.Logic.{⊎-elim}
-use mathlib.Core.List.{List, [], _∷_, _++_, map, append-assoc, List·Memᴰ, List·Memᴰ·head, List·Memᴰ·tail}
+use mathlib.Core.List.{List, [], _∷_, _++_, map, append-assoc}
 use Prim.Native.Nat.{ℕ, suc, _+_, _-_, _≤_, _<_}
 use native.Mathlib.Omega.{arith}
 use lib.ListN.{length, getD, set, replicate, length-map, length-append, length-replicate, length-set, replicate-append-replicate, List·getD-append}
@@ -11,7 +11,7 @@ use Rattle.semigroups.specs.Tables.{Element}
 use Rattle.semigroups.proofs.Booleans.{equal-or-not}
 use Rattle.semigroups.proofs.Lists.{length-elements, getD-map, getD-range, mem-elements}
 use Rattle.invariants.specs.PerElement.{perElement}
-use Rattle.invariants.proofs.Counts.{map-range-snoc}
+use Rattle.invariants.proofs.Lists.{map-range-snoc, map-same, map-zeros}
 
 width : (n : ℕ) (w : ℕ → ℕ) → length (map w (elements n)) ≡ n
 width n w = length-map (elements n) w ∙ length-elements n
@@ -28,10 +28,6 @@ value n w a h = getD-map w (elements n) 0 (a - 1) (let e = length-elements n in 
 pub per-element-at : (n : ℕ) (w : ℕ → ℕ) (a : ℕ) → Element n a → getD (perElement n w) (a - 1) 0 ≡ w a
 unfolding perElement
 per-element-at n w a h = List·getD-append (map w (elements n)) (replicate (120 - n) 0) 0 (a - 1) (let e = width n w in omega arith) ∙ value n w a h
-
-map-same : (v w : ℕ → ℕ) (l : List ℕ) → ((x : ℕ) → List·Memᴰ x l → v x ≡ w x) → map v l ≡ map w l
-map-same v w [] h = refl
-map-same v w (x ∷ l) h = ap₂ {C = List ℕ} (λ (y : ℕ) (m : List ℕ). y ∷ m) (h x (List·Memᴰ·head refl)) (map-same v w l (λ y m. h y (List·Memᴰ·tail m)))
 
 pub per-element-same : (n : ℕ) (v w : ℕ → ℕ) → ((a : ℕ) → Element n a → v a ≡ w a) → perElement n v ≡ perElement n w
 unfolding perElement
@@ -58,11 +54,36 @@ fill-step w a v lo hi e =
         ap {B = List ℕ} (λ (x : ℕ). before ++ x ∷ []) (e ∙ ap w (let z : a ≡ 1 + (a - 1) = omega arith in z)) ∙ sym (map-range-snoc w 1 (a - 1))
         ∙ ap (λ (k : ℕ). map w (elements k)) (let z : suc (a - 1) ≡ a + 1 - 1 = omega arith in z)
 
--- ---- raised by one
+-- Two arrays that hold the values of v and of w at the elements before a.
+pub record Filling (n : ℕ) (v w : ℕ → ℕ) (a : ℕ) (f g : List ℕ) : Type 0 where
+  pub from-one : 1 ≤ a
+  pub to-end : a ≤ n + 1
+  pub first : f ≡ perElement (a - 1) v
+  pub second : g ≡ perElement (a - 1) w
 
-map-zeros : (w : ℕ → ℕ) (l : List ℕ) → ((x : ℕ) → w x ≡ 0) → map w l ≡ replicate (length l) 0
-map-zeros w [] h = refl
-map-zeros w (x ∷ l) h = ap₂ {C = List ℕ} (λ (y : ℕ) (m : List ℕ). y ∷ m) (h x) (map-zeros w l h)
+module _ (n : ℕ) (v w : ℕ → ℕ) where
+  pub filling-start : Filling n v w 1 (replicate 120 0) (replicate 120 0)
+  filling-start = record { from-one = omega arith; to-end = omega arith; first = fill-start v; second = fill-start w }
+
+  module _ (a : ℕ) (f g : List ℕ) (i : Filling n v w a f g) where
+    -- The values of element a.
+    pub filling-step : n ≤ 120 → a ≤ n → (x y : ℕ) → x ≡ v a → y ≡ w a → Filling n v w (a + 1) (set f (a - 1) x) (set g (a - 1) y)
+    filling-step limit h x y p q =
+        let lo = i .from-one in
+        record {
+          from-one = omega arith;
+          to-end = omega arith;
+          first = ap (λ (l : List ℕ). set l (a - 1) x) (i .first) ∙ fill-step v a x lo (omega arith) p;
+          second = ap (λ (l : List ℕ). set l (a - 1) y) (i .second) ∙ fill-step w a y lo (omega arith) q;
+        }
+
+    pub filling-end : n < a → (f ≡ perElement n v) × (g ≡ perElement n w)
+    filling-end h =
+        let up = i .to-end in
+        let last : a - 1 ≡ n = omega arith in
+        (i .first ∙ ap (λ (k : ℕ). perElement k v) last, i .second ∙ ap (λ (k : ℕ). perElement k w) last)
+
+-- ---- raised by one
 
 pub zero-start : (n : ℕ) (w : ℕ → ℕ) → n ≤ 120 → ((x : ℕ) → w x ≡ 0) → replicate 120 0 ≡ perElement n w
 unfolding perElement

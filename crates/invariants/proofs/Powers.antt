@@ -1,13 +1,14 @@
 -- Walking the powers of an element with a note of when each was met first: the first power that was met before gives index and period, and the walk
 -- is over after n steps at most. Assumes nothing.
-use mathlib.Core.Path.{_≡_, refl, sym, ap, _∙_, subst}
+use mathlib.Core.Path.{_≡_, sym, ap, _∙_, subst}
 use mathlib.Core.Logic.{⊎-elim}
 use mathlib.Core.List.{List}
-use Prim.Native.Nat.{ℕ, zero, suc, _+_, _-_, _≤_, _<_}
+use Prim.Native.Nat.{ℕ, _+_, _-_, _≤_, _<_}
 use native.Mathlib.Numerals.{add-one}
 use native.Mathlib.Omega.{arith}
 use lib.ListN.{length, getD, set, replicate, length-set, length-replicate}
 use lib.Seq.{getD-set-same, getD-set-other}
+use Rattle.invariants.proofs.Lists.{getD-zeros}
 use Rattle.semigroups.specs.Tables.{Product, Element, Closed}
 use Rattle.semigroups.specs.Invariants.{power, index, period}
 use Rattle.semigroups.proofs.Booleans.{equal-or-not, at-most-or-above}
@@ -26,11 +27,6 @@ pub record Walked (n : ℕ) (s : Product) (a : ℕ) (met : List ℕ) (x k : ℕ)
   pub element : Element n x
   pub reached : x ≡ power s a k
   pub noted : Noted s a k met
-
-getD-zeros : (n x : ℕ) → _≡_ {A = ℕ} (getD (replicate n 0) x 0) 0
-getD-zeros zero x = refl
-getD-zeros (suc n) zero = refl
-getD-zeros (suc n) (suc x) = getD-zeros n x
 
 pub walk-start : (n : ℕ) (s : Product) (a : ℕ) → Element n a → Walked n s a (replicate 121 0) a 1
 walk-start n s a h =
@@ -72,41 +68,49 @@ module _ (n : ℕ) (s : Product) (a : ℕ) (c : Closed n s) (ha : Element n a) (
           (λ (q : p + r ≡ k → ⊥). apart p (p + r) e2 (omega arith) (omega arith) (sym again)) (equal-or-not (p + r) k)
 
   -- One step further.
-  pub walk-step : n ≤ 120 → getD met x 0 ≡ 0 → (y : ℕ) → y ≡ s x a → Walked n s a (set met x k) y (k + 1)
-  walk-step limit fresh y e =
-      let size = w .size in
-      let lo = w .from-one in
-      let short = walk-short fresh in
-      let in-range = w .element in
-      let same : getD (set met x k) x 0 ≡ k = getD-set-same met x k 0 (omega arith) in
-      let next : y ≡ power s a (k + 1) = e ∙ ap (λ (v : ℕ). s v a) (w .reached) ∙ sym (power-next s a k lo) ∙ ap (power s a) (sym (add-one k)) in
-      let each : (i : ℕ) → 1 ≤ i → i < k + 1 → getD (set met x k) (power s a i) 0 ≡ i =
-      (λ i lo hi.
-      ⊎-elim
-      (λ (q : i ≡ k). ap (λ (v : ℕ). getD (set met x k) v 0) (ap (power s a) q ∙ sym (w .reached)) ∙ same ∙ sym q)
-      (λ (q : i ≡ k → ⊥).
-      let before = w .noted .each i lo (omega arith) in
-      let other : power s a i ≡ x → ⊥ = (λ r. let z = ap (λ (v : ℕ). getD met v 0) r in let y : ⊥ = omega arith in y) in
-      getD-set-other met x (power s a i) k 0 other ∙ before) (equal-or-not i k)) in
-      let only : (v : ℕ) → (getD (set met x k) v 0 ≡ 0 → ⊥) → (getD (set met x k) v 0 < k + 1) × (power s a (getD (set met x k) v 0) ≡ v) =
-      (λ v ne.
-      ⊎-elim
-      (λ (q : v ≡ x).
-      let here : getD (set met x k) v 0 ≡ k = ap (λ (u : ℕ). getD (set met x k) u 0) q ∙ same in
-      (let z : getD (set met x k) v 0 < k + 1 = omega arith in z, ap (power s a) here ∙ sym (w .reached) ∙ sym q))
-      (λ (q : v ≡ x → ⊥).
-      let other = getD-set-other met x v k 0 q in
-      let r = w .noted .only v (λ z. ne (other ∙ z)) in
-      let r0 = r .0 in
-      (let z : getD (set met x k) v 0 < k + 1 = omega arith in z, ap (power s a) other ∙ r .1)) (equal-or-not v x)) in
-      record {
-        size = length-set met x k ∙ size;
-        from-one = omega arith;
-        to-end = omega arith;
-        element = subst (Element n) (sym next) (power-element s a n c ha (k + 1));
-        reached = next;
-        noted = record { each = each; only = only };
-      }
+  module _ (limit : n ≤ 120) (fresh : getD met x 0 ≡ 0) where
+    noted-here : getD (set met x k) x 0 ≡ k
+    noted-here = let size = w .size in let e = w .element in getD-set-same met x k 0 (omega arith)
+
+    each-next : (i : ℕ) → 1 ≤ i → i < k + 1 → getD (set met x k) (power s a i) 0 ≡ i
+    each-next i lo hi = ⊎-elim here before (equal-or-not i k)
+      where
+        here : i ≡ k → getD (set met x k) (power s a i) 0 ≡ i
+        here q = ap (λ (v : ℕ). getD (set met x k) v 0) (ap (power s a) q ∙ sym (w .reached)) ∙ noted-here ∙ sym q
+
+        before : (i ≡ k → ⊥) → getD (set met x k) (power s a i) 0 ≡ i
+        before q =
+            let old = w .noted .each i lo (omega arith) in
+            let other : power s a i ≡ x → ⊥ = (λ r. let same = ap (λ (v : ℕ). getD met v 0) r in let z : ⊥ = omega arith in z) in
+            getD-set-other met x (power s a i) k 0 other ∙ old
+
+    only-next : (v : ℕ) → (getD (set met x k) v 0 ≡ 0 → ⊥) → (getD (set met x k) v 0 < k + 1) × (power s a (getD (set met x k) v 0) ≡ v)
+    only-next v ne = ⊎-elim here before (equal-or-not v x)
+      where
+        here : v ≡ x → (getD (set met x k) v 0 < k + 1) × (power s a (getD (set met x k) v 0) ≡ v)
+        here q =
+            let e : getD (set met x k) v 0 ≡ k = ap (λ (u : ℕ). getD (set met x k) u 0) q ∙ noted-here in
+            (let z : getD (set met x k) v 0 < k + 1 = omega arith in z, ap (power s a) e ∙ sym (w .reached) ∙ sym q)
+
+        before : (v ≡ x → ⊥) → (getD (set met x k) v 0 < k + 1) × (power s a (getD (set met x k) v 0) ≡ v)
+        before q =
+            let e = getD-set-other met x v k 0 q in
+            let old = w .noted .only v (λ z. ne (e ∙ z)) in
+            let below = old .0 in
+            (let z : getD (set met x k) v 0 < k + 1 = omega arith in z, ap (power s a) e ∙ old .1)
+
+    pub walk-step : (y : ℕ) → y ≡ s x a → Walked n s a (set met x k) y (k + 1)
+    walk-step y e =
+        let short = walk-short fresh in
+        let next : y ≡ power s a (k + 1) = e ∙ ap (λ (v : ℕ). s v a) (w .reached) ∙ sym (power-next s a k (w .from-one)) ∙ ap (power s a) (sym (add-one k)) in
+        record {
+          size = length-set met x k ∙ w .size;
+          from-one = omega arith;
+          to-end = omega arith;
+          element = subst (Element n) (sym next) (power-element s a n c ha (k + 1));
+          reached = next;
+          noted = record { each = each-next; only = only-next };
+        }
 
   -- A power that was met before: where, and how far back.
   pub walk-end : (getD met x 0 ≡ 0 → ⊥) → (1 ≤ getD met x 0) × (getD met x 0 < k) × (getD met x 0 ≡ index n s a) × (k - getD met x 0 ≡ period n s a)

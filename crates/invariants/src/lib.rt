@@ -67,11 +67,9 @@ fn index_period_of(cells: &[u8], n: usize, a: usize) -> IndexPeriod
         power = tables::times(cells, n, power, a);
         k += 1;
     }
-    let first = met[power] as usize;
-    IndexPeriod {
-        index: first,
-        period: k - first,
-    }
+    let index = met[power] as usize;
+    let period = k - index;
+    IndexPeriod { index, period }
 }
 
 // The index and the period of element a; or the first question that fails.

@@ -106,15 +106,22 @@ module _ (n : ℕ) (s t : Product) (f : List ℕ) (F : Embedding n s n t f) wher
     pub profile-kept : Closed n t → profile n t (at f a) ≡ profile n s a
     unfolding profile
     profile-kept d =
-        let e0 = index-kept n s n t f F c a h d in
-        let e1 = period-kept n s n t f F c a h d in
-        let e2 = frequency-kept in
-        let e3 = diagonal-frequency-kept in
-        let e4 = row-frequency-kept in
-        let e5 = column-frequency-kept in
+        let e1 = index-kept n s n t f F c a h d in
+        let e2 = period-kept n s n t f F c a h d in
+        let e3 = frequency-kept in
+        let e4 = diagonal-frequency-kept in
+        let e5 = row-frequency-kept in
+        let e6 = column-frequency-kept in
         cc
 
 -- ---- the comparison
+
+-- Profiles are equal by their numbers.
+pub profile-equal : (x y : Profile) → x .index ≡ y .index → x .period ≡ y .period → x .frequency ≡ y .frequency → x .diagonal ≡ y .diagonal → x .row ≡ y .row → x .column ≡ y .column → x ≡ y
+profile-equal x y e1 e2 e3 e4 e5 e6 =
+    let fields : _≡_ {A = Profile} (record { index = x .index; period = x .period; frequency = x .frequency; diagonal = x .diagonal; row = x .row; column = x .column })
+    (record { index = y .index; period = y .period; frequency = y .frequency; diagonal = y .diagonal; row = y .row; column = y .column }) = cc in
+    fields
 
 pub same-profile : (x y : Profile) → sameProfile x y ≡ true → x ≡ y
 unfolding sameProfile
@@ -135,8 +142,7 @@ same-profile x y e =
     let e4 : x .diagonal ≡ y .diagonal = eqb-true (x .diagonal) (y .diagonal) (and-left b4 (b5 && b6) r3) in
     let e5 : x .row ≡ y .row = eqb-true (x .row) (y .row) (and-left b5 b6 r4) in
     let e6 : x .column ≡ y .column = eqb-true (x .column) (y .column) (and-right b5 b6 r4) in
-    let fields : _≡_ {A = Profile} (record { index = x .index; period = x .period; frequency = x .frequency; diagonal = x .diagonal; row = x .row; column = x .column }) (record { index = y .index; period = y .period; frequency = y .frequency; diagonal = y .diagonal; row = y .row; column = y .column }) = cc in
-    fields
+    profile-equal x y e1 e2 e3 e4 e5 e6
 
 pub profile-same : (x y : Profile) → x ≡ y → sameProfile x y ≡ true
 unfolding sameProfile

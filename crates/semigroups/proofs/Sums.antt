@@ -1,17 +1,17 @@
--- Laws of sums and counts over a list, and of what is left of them from a place on, by which a loop adds them up. Assumes nothing.
+-- Laws of sums and counts over a list. Assumes nothing.
+-- ---- how often a number stands in a list
+-- A number that stands in a list with no entry twice stands there once.
 use mathlib.Core.Path.{_≡_, refl, sym, ap, ap₂, _∙_}
 use mathlib.Core.Bool.{Bool, true, false, cond}
 use mathlib.Core.Logic.{_⊎_, inl, inr}
 use mathlib.Core.List.{List, [], _∷_, _++_, map, flatMap, List·Memᴰ, List·Memᴰ·head, List·Memᴰ·tail, List·Memᴰ·not-nil, List·Memᴰ·cases-cons}
-use Prim.Native.Nat.{ℕ, suc, _+_, _-_, _*_, _≤_, _<_, zero-le}
-use native.Mathlib.Nat.{suc-mul, zero-mul, add-sub-cancel}
-use native.Mathlib.Numerals.{add-one}
+use Prim.Native.Nat.{ℕ, suc, _+_, _-_, _*_, _≤_, zero-le}
+use native.Mathlib.Nat.{suc-mul, zero-mul}
 use native.Mathlib.Omega.{arith}
 use borrow.Author.Tests.{eq-eqb, ne-eqb}
 use lib.Dec.{eqb}
-use lib.ListN.{length, getD, drop}
-use lib.Seq.{drop-cons}
-use Rattle.semigroups.specs.Lists.{range, elements, sum, count, NoRepeats}
+use lib.ListN.{length}
+use Rattle.semigroups.specs.Lists.{elements, sum, count, NoRepeats}
 use Rattle.semigroups.specs.Tables.{Element}
 use Rattle.semigroups.proofs.Booleans.{equal-or-not}
 use Rattle.semigroups.proofs.Lists.{elements-mem}
@@ -75,9 +75,6 @@ module _ {A B : Type 0} where
   sum-swap w [] r = sym (sum-zeros r)
   sum-swap w (x ∷ l) r = ap (λ (b : ℕ). sum (w x) r + b) (sum-swap w l r) ∙ sym (sum-add (w x) (λ y. sum (λ z. w z y) l) r)
 
--- ---- how often a number stands in a list
-
--- A number that stands in a list with no entry twice stands there once.
 pub count-once : (x : ℕ) (l : List ℕ) → NoRepeats l → List·Memᴰ x l → count (eqb x) l ≡ 1
 unfolding count sum
 count-once x [] u m = absurd (List·Memᴰ·not-nil m)
@@ -93,29 +90,3 @@ count-once x (y ∷ l) u m = go (equal-or-not x y) (λ k. count-once x l (u .1) 
 
 pub count-element : (n x : ℕ) → Element n x → count (eqb x) (elements n) ≡ 1
 count-element n x h = count-once x (elements n) (elements-no-repeats n) (elements-mem n x h)
-
--- ---- what is left of a sum
-
--- The sum of w over i, .., n.
-unfoldable pub sumFrom : (ℕ → ℕ) → ℕ → ℕ → ℕ
-sumFrom w n i = sum w (range i (n + 1 - i))
-
-module _ (w : ℕ → ℕ) (n : ℕ) where
-  pub sum-start : sum w (elements n) ≡ sumFrom w n 1
-  unfolding sumFrom elements
-  sum-start = ap (λ (k : ℕ). sum w (range 1 k)) (sym (add-sub-cancel n 1))
-
-  pub sum-step : (i : ℕ) → i ≤ n → sumFrom w n i ≡ w i + sumFrom w n (i + 1)
-  unfolding sumFrom sum range
-  sum-step i h =
-      let e : n + 1 - i ≡ suc (n + 1 - (i + 1)) = omega arith in
-      ap (λ (k : ℕ). sum w (range i k)) e ∙ ap (λ (y : ℕ). w i + sum w (range y (n + 1 - (i + 1)))) (sym (add-one i))
-
-  pub sum-end : (i : ℕ) → n < i → sumFrom w n i ≡ 0
-  unfolding sumFrom sum range
-  sum-end i h = ap (λ (k : ℕ). sum w (range i k)) (let e : n + 1 - i ≡ 0 = omega arith in e)
-
--- The same over the entries of a list from place i on.
-pub sum-drop : {A : Type 0} (w : A → ℕ) (d : A) (l : List A) (i : ℕ) → i < length l → sum w (drop i l) ≡ w (getD l i d) + sum w (drop (i + 1) l)
-unfolding sum
-sum-drop w d l i h = ap (sum w) (drop-cons l i d h) ∙ ap (λ (k : ℕ). w (getD l i d) + sum w (drop k l)) (sym (add-one i))

@@ -8,9 +8,9 @@ use native.Mathlib.Nat.{mul-le-mul}
 use borrow.Author.Tests.{le-leb, lt-leb, eq-eqb, ne-eqb}
 use lib.ListN.{length, getD}
 use Rattle.semigroups.specs.Lists.{elements, at}
-use Rattle.semigroups.specs.Tables.{product, Element, isElement, associates, badCell, badTriple, Filled}
-use Rattle.semigroups.specs.Questions.{Refusal, no, firstNo, cellsRefusal, tableRefusal, tablesRefusal, naming}
-use Rattle.semigroups.proofs.Tables.{place-below, product-element}
+use Rattle.semigroups.specs.Tables.{product, Element, isElement, associates, badCell, badTriple, Filled, Accepted}
+use Rattle.semigroups.specs.Questions.{Refusal, no, firstNo, cellsRefusal, tableRefusal, tablesRefusal, naming, onSide}
+use Rattle.semigroups.proofs.Tables.{place-below, orElse-none, map-none, accepted}
 use Rattle.semigroups.proofs.Completions.{find-firstOf, firstFrom, first-start, first-skip, first-hit, first-end}
 use Rattle.semigroups.proofs.Booleans.{not-of-true, not-of-false}
 use Rattle.tables.proofs.Remaining.{orElse-nothing, remaining, begin, enter, pass, hit, leave}
@@ -102,6 +102,11 @@ module _ (n : ℕ) (cells : List ℕ) where
       hit fails n (i ∷ j ∷ []) k (fromPair i (j + 1)) h
       (not-of-false (associates (product n cells) i j k) (ne-eqb (product n cells (product n cells i j) k) (product n cells i (product n cells j k)) e))
 
+  -- What is compared for the triple i, j, k is its two products.
+  pub compared : (i j k ij jk left right : ℕ) → ij ≡ product n cells i j → jk ≡ product n cells j k → left ≡ product n cells ij k → right ≡ product n cells i jk
+      → (left ≡ product n cells (product n cells i j) k) × (right ≡ product n cells i (product n cells j k))
+  compared i j k ij jk left right e1 e2 e3 e4 = (e3 ∙ ap (λ (x : ℕ). product n cells x k) e1, e4 ∙ ap (product n cells i) e2)
+
   pub triple-leave : (i j k : ℕ) → n < k → fromTriple i j k ≡ fromPair i (j + 1)
   unfolding fromTriple
   triple-leave i j k h = leave fails n 0 (i ∷ j ∷ []) k (fromPair i (j + 1)) h
@@ -140,6 +145,9 @@ module _ (n : ℕ) (cells : List ℕ) where
   unfolding tableRefusal firstNo orElse
   cells-pass e = rw e (orElse-nothing (Option·map (λ l. no 4 l) (badTriple n (product n cells))))
 
+pub accepted-filled : (n : ℕ) (cells : List ℕ) → Accepted n cells → Filled n cells
+accepted-filled n cells a = record { order = (a .from-one, a .to-limit); size = a .size; in-range = a .in-range }
+
 -- ---- the questions about two tables
 
 module _ (m : ℕ) (source : List ℕ) (n : ℕ) (target : List ℕ) where
@@ -154,3 +162,12 @@ module _ (m : ℕ) (source : List ℕ) (n : ℕ) (target : List ℕ) where
   pub both-pass : tableRefusal m source ≡ none → tableRefusal n target ≡ none → tablesRefusal m source n target ≡ none
   unfolding tablesRefusal firstNo orElse
   both-pass e g = rw (e, g)
+
+  pub tables-accepted : tablesRefusal m source n target ≡ none → Accepted m source × Accepted n target
+  unfolding tablesRefusal firstNo
+  tables-accepted e =
+      let first = onSide 1 (tableRefusal m source) in
+      let second = onSide 2 (tableRefusal n target) in
+      let p = orElse-none first (orElse second none) e in
+      let q = orElse-none second none (p .1) in
+      (accepted m source (map-none (naming 1) (tableRefusal m source) (p .0)), accepted n target (map-none (naming 2) (tableRefusal n target) (q .0)))

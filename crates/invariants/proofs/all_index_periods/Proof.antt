@@ -2,21 +2,18 @@
 -- Assumes nothing.
 use native.Mathlib.Omega.{arith}
 use denote.Ref.{now}
-use Prim.Native.Nat.{ℕ, _+_, _-_, _≤_}
-use mathlib.Core.Path.{_≡_, ap, _∙_}
-use mathlib.Core.List.{List}
-use lib.ListN.{set}
-use Rattle.semigroups.specs.Tables.{Product, product, Element}
+use Prim.Native.Nat.{_+_, _-_, _≤_}
+use mathlib.Core.Path.{_≡_, ap}
+use Rattle.semigroups.specs.Tables.{Product, product, Element, Closed}
 use Rattle.semigroups.specs.Invariants as marks
 use Rattle.semigroups.proofs.Tables.{product-element}
-use Rattle.invariants.specs.PerElement.{perElement}
 use Rattle.invariants.proofs.Powers.{index-at-most, period-at-most}
-use Rattle.invariants.proofs.PerElement.{fill-start, fill-step}
+use Rattle.invariants.proofs.PerElement.{Filling, filling-start, filling-step, filling-end}
 use Rattle.invariants.proofs.all_index_periods.Statement.{statement}
 use Rattle.invariants.proofs.all_index_periods.Tie as tie
 
 abbrev Inv-loop : tie.InvT-loop
-Inv-loop cells n index₀ period₀ a₀ index period a = (1 ≤ a) × (a ≤ n + 1) × (index ≡ perElement (a - 1) (marks.index n (product n cells))) × (period ≡ perElement (a - 1) (marks.period n (product n cells)))
+Inv-loop cells n index₀ period₀ a₀ index period a = Filling n (marks.index n (product n cells)) (marks.period n (product n cells)) a index period
 
 abbrev μ-loop : tie.MeasureT-loop
 μ-loop cells n index₀ period₀ a₀ index period a = n + 1 - a
@@ -36,7 +33,10 @@ module _ (c : tie.After-index-period-of Inv-loop μ-loop) where
   limit = start .pre .order .1
 
   element : Element (start .args .n) (head .loop .a)
-  element = (head .loop .inv .0, c .before .loop-test .taken)
+  element = (head .loop .inv .from-one, c .before .loop-test .taken)
+
+  closed : Closed (start .args .n) table
+  closed = product-element (start .args .n) (now (start .args .cells)) (start .pre .size) (start .pre .in-range)
 
   index-is : c .index-period-of .result .index ≡ marks.index (start .args .n) table (head .loop .a)
   unfolding marks.indexPeriod
@@ -49,17 +49,16 @@ module _ (c : tie.After-index-period-of Inv-loop μ-loop) where
 loop-holds : tie.Need-loop-holds Inv-loop μ-loop
 loop-holds c =
     let a = c .before .args in
-    (omega arith, omega arith, fill-start (marks.index (a .n) (product (a .n) (now (a .cells)))), fill-start (marks.period (a .n) (product (a .n) (now (a .cells)))))
+    let table = product (a .n) (now (a .cells)) in
+    filling-start (a .n) (marks.index (a .n) table) (marks.period (a .n) table)
 
 index-period-of-requires : tie.Need-index-period-of-requires Inv-loop μ-loop
-index-period-of-requires c κs = (c .before .before .before .pre, (c .before .loop .inv .0, c .loop-test .taken))
+index-period-of-requires c κs = (c .before .before .before .pre, (c .before .loop .inv .from-one, c .loop-test .taken))
 
 cast-index : tie.Need-cast-index Inv-loop μ-loop
 cast-index c =
     let b = c .before in
-    let s = start b in
-    let e = element b in
-    omega (arith, limit b, index-is b, index-at-most (s .args .n) (table b) (head b .loop .a) (product-element (s .args .n) (now (s .args .cells)) (s .pre .size) (s .pre .in-range)) e)
+    omega (arith, limit b, index-is b, index-at-most (start b .args .n) (table b) (head b .loop .a) (closed b) (element b))
 
 sub-index : tie.Need-sub-index Inv-loop μ-loop
 sub-index c = element (c .before) .0
@@ -70,9 +69,7 @@ array-write-index c = let e = element (c .before) in omega (arith, limit (c .bef
 cast-period : tie.Need-cast-period Inv-loop μ-loop
 cast-period c =
     let b = c .before .before in
-    let s = start b in
-    let e = element b in
-    omega (arith, limit b, period-is b, period-at-most (s .args .n) (table b) (head b .loop .a) (product-element (s .args .n) (now (s .args .cells)) (s .pre .size) (s .pre .in-range)) e)
+    omega (arith, limit b, period-is b, period-at-most (start b .args .n) (table b) (head b .loop .a) (closed b) (element b))
 
 sub-period : tie.Need-sub-period Inv-loop μ-loop
 sub-period c = element (c .before .before) .0
@@ -89,25 +86,17 @@ loop-less c = let e = element (c .before .before) in omega arith
 loop-again : tie.Need-loop-again Inv-loop μ-loop
 loop-again c =
     let b = c .before .before in
-    let s = start b in
+    let n = start b .args .n in
     let l = head b .loop in
     let r = b .index-period-of .result in
-    let e = element b in
-    let a-limit : l .a ≤ 120 = omega (arith, limit b) in (
-      omega arith,
-      omega arith,
-      ap (λ (f : List ℕ). set f (l .a - 1) (r .index)) (l .inv .2) ∙ fill-step (marks.index (s .args .n) (table b)) (l .a) (r .index) (e .0) a-limit (index-is b),
-      ap (λ (f : List ℕ). set f (l .a - 1) (r .period)) (l .inv .3) ∙ fill-step (marks.period (s .args .n) (table b)) (l .a) (r .period) (e .0) a-limit (period-is b),
-    )
+    filling-step n (marks.index n (table b)) (marks.period n (table b)) (l .a) (l .index) (l .period) (l .inv) (limit b) (element b .1) (r .index) (r .period) (index-is b) (period-is b)
 
 returns : tie.Need-returns Inv-loop μ-loop
 returns c =
     let l = c .before .loop in
     let a = c .before .before .before .args in
-    let last : l .a - 1 ≡ a .n = omega arith in (
-      l .inv .2 ∙ ap (λ (k : ℕ). perElement k (marks.index (a .n) (product (a .n) (now (a .cells))))) last,
-      l .inv .3 ∙ ap (λ (k : ℕ). perElement k (marks.period (a .n) (product (a .n) (now (a .cells))))) last,
-    )
+    let table = product (a .n) (now (a .cells)) in
+    filling-end (a .n) (marks.index (a .n) table) (marks.period (a .n) table) (l .a) (l .index) (l .period) (l .inv) (c .loop-test .left)
 
 pub all-index-periods-spec : {M : Type 1} → statement M
 all-index-periods-spec =

@@ -67,18 +67,18 @@ loop-again c =
     walk-step (s .args .n) (table h) (s .args .a) (closed h) (s .pre .1) (h .loop .met) (h .loop .power) (h .loop .k) (h .loop .inv) (s .pre .0 .order .1) (t .loop-test .taken)
     (c .times .result) (c .times .ensures .0)
 
-array-read-first : tie.Need-array-read-first Inv-loop μ-loop
-array-read-first c = let w = c .before .loop .inv .element in let l = c .before .before .before .pre .0 .order .1 in omega arith
+array-read-index : tie.Need-array-read-index Inv-loop μ-loop
+array-read-index c = let w = c .before .loop .inv .element in let l = c .before .before .before .pre .0 .order .1 in omega arith
 
-cast-first : tie.Need-cast-first Inv-loop μ-loop
-cast-first c =
+cast-index : tie.Need-cast-index Inv-loop μ-loop
+cast-index c =
     let f = found (c .before) (c .loop-test .left) in
     let f1 = f .1 in
     let l = c .before .before .before .pre .0 .order .1 in
     let e = c .before .loop .inv .to-end in omega arith
 
-sub-t17 : tie.Need-sub-t17 Inv-loop μ-loop
-sub-t17 c = let f = found (c .before) (c .loop-test .left) in let f1 = f .1 in omega arith
+sub-period : tie.Need-sub-period Inv-loop μ-loop
+sub-period c = let f = found (c .before) (c .loop-test .left) in let f1 = f .1 in omega arith
 
 returns : tie.Need-returns Inv-loop μ-loop
 unfolding indexPeriod
@@ -100,7 +100,7 @@ index-period-of-spec =
     add-k
     loop-less
     loop-again
-    array-read-first
-    cast-first
-    sub-t17
+    array-read-index
+    cast-index
+    sub-period
     returns)

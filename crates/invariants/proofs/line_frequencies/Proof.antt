@@ -2,20 +2,16 @@
 -- Assumes nothing.
 use native.Mathlib.Omega.{arith}
 use denote.Ref.{now}
-use Prim.Native.Nat.{ℕ, _+_, _-_, _≤_}
-use mathlib.Core.Path.{_≡_, ap, _∙_}
-use mathlib.Core.List.{List}
-use lib.ListN.{set}
+use Prim.Native.Nat.{_+_, _-_, _≤_}
 use Rattle.semigroups.specs.Tables.{product, Element}
 use Rattle.semigroups.specs.Invariants.{rowFrequency, columnFrequency}
-use Rattle.invariants.specs.PerElement.{perElement}
 use Rattle.invariants.proofs.Counts.{row-at-most, column-at-most}
-use Rattle.invariants.proofs.PerElement.{fill-start, fill-step}
+use Rattle.invariants.proofs.PerElement.{Filling, filling-start, filling-step, filling-end}
 use Rattle.invariants.proofs.line_frequencies.Statement.{statement}
 use Rattle.invariants.proofs.line_frequencies.Tie as tie
 
 abbrev Inv-loop : tie.InvT-loop
-Inv-loop cells n row₀ column₀ a₀ row column a = (1 ≤ a) × (a ≤ n + 1) × (row ≡ perElement (a - 1) (rowFrequency n (product n cells))) × (column ≡ perElement (a - 1) (columnFrequency n (product n cells)))
+Inv-loop cells n row₀ column₀ a₀ row column a = Filling n (rowFrequency n (product n cells)) (columnFrequency n (product n cells)) a row column
 
 abbrev μ-loop : tie.MeasureT-loop
 μ-loop cells n row₀ column₀ a₀ row column a = n + 1 - a
@@ -29,12 +25,13 @@ module _ (t : tie.In-loop Inv-loop μ-loop) where
   limit = start .pre .order .1
 
   element : Element (start .args .n) (t .before .loop .a)
-  element = (t .before .loop .inv .0, t .loop-test .taken)
+  element = (t .before .loop .inv .from-one, t .loop-test .taken)
 
 loop-holds : tie.Need-loop-holds Inv-loop μ-loop
 loop-holds c =
     let a = c .before .args in
-    (omega arith, omega arith, fill-start (rowFrequency (a .n) (product (a .n) (now (a .cells)))), fill-start (columnFrequency (a .n) (product (a .n) (now (a .cells)))))
+    let table = product (a .n) (now (a .cells)) in
+    filling-start (a .n) (rowFrequency (a .n) table) (columnFrequency (a .n) table)
 
 row-frequency-requires : tie.Need-row-frequency-requires Inv-loop μ-loop
 row-frequency-requires c κs = (start c .pre, element c)
@@ -75,27 +72,19 @@ loop-less c = let e = element (c .before .before) in omega arith
 loop-again : tie.Need-loop-again Inv-loop μ-loop
 loop-again c =
     let t = c .before .before in
+    let n = start t .args .n in
+    let table = product n (now (start t .args .cells)) in
     let l = t .before .loop in
-    let a = start t .args in
-    let table = product (a .n) (now (a .cells)) in
-    let e = element t in
-    let a-limit : l .a ≤ 120 = omega (arith, limit t) in (
-      omega arith,
-      omega arith,
-      ap (λ (f : List ℕ). set f (l .a - 1) (c .before .row-frequency .result)) (l .inv .2)
-          ∙ fill-step (rowFrequency (a .n) table) (l .a) (c .before .row-frequency .result) (e .0) a-limit (c .before .row-frequency .ensures),
-      ap (λ (f : List ℕ). set f (l .a - 1) (c .column-frequency .result)) (l .inv .3)
-          ∙ fill-step (columnFrequency (a .n) table) (l .a) (c .column-frequency .result) (e .0) a-limit (c .column-frequency .ensures),
-    )
+    let row = c .before .row-frequency in
+    let column = c .column-frequency in
+    filling-step n (rowFrequency n table) (columnFrequency n table) (l .a) (l .row) (l .column) (l .inv) (limit t) (element t .1) (row .result) (column .result) (row .ensures) (column .ensures)
 
 returns : tie.Need-returns Inv-loop μ-loop
 returns c =
     let l = c .before .loop in
     let a = c .before .before .before .args in
-    let last : l .a - 1 ≡ a .n = omega arith in (
-      l .inv .2 ∙ ap (λ (k : ℕ). perElement k (rowFrequency (a .n) (product (a .n) (now (a .cells))))) last,
-      l .inv .3 ∙ ap (λ (k : ℕ). perElement k (columnFrequency (a .n) (product (a .n) (now (a .cells))))) last,
-    )
+    let table = product (a .n) (now (a .cells)) in
+    filling-end (a .n) (rowFrequency (a .n) table) (columnFrequency (a .n) table) (l .a) (l .row) (l .column) (l .inv) (c .loop-test .left)
 
 pub line-frequencies-spec : {M : Type 1} → statement M
 line-frequencies-spec =

@@ -3,6 +3,7 @@ use denote.Ref.{now}
 use mathlib.Core.Path.{_≡_, ap, _∙_}
 use Rattle.semigroups.specs.Tables.{product}
 use Rattle.semigroups.specs.Invariants as marks
+use Rattle.semigroups.proofs.Frequencies.{profile-equal}
 use Rattle.invariants.proofs.Counts.{diagonal-reached, table-counted, diagonal-counted}
 use borrow.Author.Needs.{needs}
 use Rattle.invariants.proofs.profile_of.Statement.{statement}
@@ -39,7 +40,7 @@ returns c =
     let e4 : c .before .before .count2 .result ≡ marks.diagonalFrequency (a .n) table (a .a) = c .before .before .count2 .ensures ∙ diagonal-counted (a .n) (now (a .cells)) (a .a) in
     let e5 : c .before .row-frequency .result ≡ marks.rowFrequency (a .n) table (a .a) = c .before .row-frequency .ensures in
     let e6 : c .column-frequency .result ≡ marks.columnFrequency (a .n) table (a .a) = c .column-frequency .ensures in
-    cc
+    profile-equal _ (marks.profile (a .n) table (a .a)) e1 e2 e3 e4 e5 e6
 
 pub profile-of-spec : {M : Type 1} → statement M
 profile-of-spec =

@@ -10,7 +10,7 @@ use Rattle.semigroups.specs.Questions.{Refusal, no}
 use Rattle.semigroups.specs.Tables.{product, badTriple}
 use Rattle.tables.specs.Answers.{verdictRefusal}
 use Rattle.tables.specs.declared.Verdict.the-variants.{Accepted}
-use Rattle.tables.proofs.Questions.{fromFirst, fromPair, fromTriple, triples-begin, first-enter, pair-enter, triple-pass, triple-hit, triple-leave, pair-leave, triples-end}
+use Rattle.tables.proofs.Questions.{fromFirst, fromPair, fromTriple, triples-begin, first-enter, pair-enter, triple-pass, triple-hit, compared, triple-leave, pair-leave, triples-end}
 use Rattle.tables.proofs.associative.Statement.{statement}
 use Rattle.tables.proofs.associative.Tie as tie
 
@@ -73,7 +73,8 @@ loop2-again : tie.Need-loop2-again Inv-loop2 μ-loop2 Inv-loop μ-loop Inv-tripl
 loop2-again c =
     let h = c .before .before .before .before in
     let v = h .before .loop2 .inv in
-    (omega arith, v .1, v .2 ∙ triple-pass _ _ _ _ _ (h .loop2-test .taken) (cc))
+    let w = compared _ _ _ _ _ _ _ _ _ (h .before .before .times .ensures .0) (c .before .before .before .times2 .ensures .0) (c .before .before .times3 .ensures .0) (c .before .times4 .ensures .0) in
+    (omega arith, v .1, v .2 ∙ triple-pass _ _ _ _ _ (h .loop2-test .taken) (sym (w .0) ∙ c .if1 .left ∙ w .1))
 
 add-j : tie.Need-add-j Inv-loop2 μ-loop2 Inv-loop μ-loop Inv-triples μ-triples
 add-j c = omega arith
@@ -105,7 +106,9 @@ returns c =
 returns-2 : tie.Need-returns-2 Inv-loop2 μ-loop2 Inv-loop μ-loop Inv-triples μ-triples
 returns-2 c =
     let h = c .before .before .before .before in
-    sym (ap refusal (h .before .loop2 .inv .2 ∙ triple-hit _ _ _ _ _ (h .loop2-test .taken) (λ e. c .if1 .taken (cc))))
+    let v = h .before .loop2 .inv in
+    let w = compared _ _ _ _ _ _ _ _ _ (h .before .before .times .ensures .0) (c .before .before .before .times2 .ensures .0) (c .before .before .times3 .ensures .0) (c .before .times4 .ensures .0) in
+    sym (ap refusal (v .2 ∙ triple-hit _ _ _ _ _ (h .loop2-test .taken) (λ e. c .if1 .taken (w .0 ∙ e ∙ sym (w .1)))))
 
 pub associative-spec : {M : Type 1} → statement M
 associative-spec =

@@ -1,0 +1,115 @@
+// The map check: whether m bytes are an embedding of one table in another, or their earliest fault. Tables and bytes may have any content: the first
+// failed question refuses them.
+use tables::Fault;
+use tables::PairVerdict;
+use tables::Place;
+use tables::Side;
+ghost use mathlib.Core.Path.{_≡_};
+ghost use Prim.Native.Nat.{ℕ};
+ghost use lib.ListN.{length};
+ghost use Rattle.semigroups.specs.Lists.{at};
+ghost use Rattle.semigroups.specs.Tables.{Product, Element, Filled, IsList, product};
+ghost use Rattle.semigroups.specs.MapCheck.{firstEqual, firstWrong, checkMap};
+ghost use Rattle.maps.specs.Answers.{checked, mapCheck, answerReport, pairOption};
+
+pub enum MapAnswer {
+    // Questions 1 to 4 of a table, and question 5.
+    Refused(Side, Fault),
+    MapLength,
+    // The map is an embedding.
+    Holds,
+    // The first element whose image is not one of the target.
+    Outside(usize),
+    // The earliest pair with equal images.
+    EqualImages(usize, usize),
+    // The earliest pair whose product fails.
+    WrongProduct(usize, usize),
+}
+
+// A pair of elements, where there is one.
+enum Pair {
+    At(usize, usize),
+    Nowhere,
+}
+
+// The image of element i.
+fn image(map: &[u8], i: usize) -> usize
+    requires { ⌜ Element (length (now map)) i ⌝ }
+    ensures answer { λ r. ⌜ r ≡ at (now (map .entry)) i ⌝ }
+{
+    map[i - 1] as usize
+}
+
+// The earliest pair i < j with equal images. The tables do not matter.
+fn equal_images(map: &[u8]) -> Pair
+    ensures answer { λ r. ⌜ ((s : Product) (n : ℕ) (t : Product) → pairOption r ≡ firstEqual (length (now (map .entry))) s n t (now (map .entry))) ⌝ }
+{
+    let mut i: usize = 1;
+    while i <= map.len() {
+        let first = image(map, i);
+        let mut j: usize = i + 1;
+        while j <= map.len() {
+            if first == image(map, j) {
+                return Pair::At(i, j);
+            }
+            j += 1;
+        }
+        i += 1;
+    }
+    Pair::Nowhere
+}
+
+// The earliest pair i, j for which the image of i·j is not the image of i times the image of j.
+fn wrong_product(source: &[u8], m: usize, target: &[u8], n: usize, map: &[u8]) -> Pair
+    requires { ⌜ Filled m (now source) ⌝ ∗ ⌜ Filled n (now target) ⌝ ∗ ⌜ IsList m n (now map) ⌝ }
+    ensures answer { λ r. ⌜ pairOption r ≡ firstWrong m (product m (now (source .entry))) n (product n (now (target .entry))) (now (map .entry)) ⌝ }
+{
+    let mut i: usize = 1;
+    while i <= m {
+        let first = image(map, i);
+        let mut j: usize = 1;
+        while j <= m {
+            let ij = tables::times(source, m, i, j);
+            let second = image(map, j);
+            if image(map, ij) != tables::times(target, n, first, second) {
+                return Pair::At(i, j);
+            }
+            j += 1;
+        }
+        i += 1;
+    }
+    Pair::Nowhere
+}
+
+// What the check says of m bytes: an image outside the target, equal images, a wrong product, in this order.
+fn examine(source: &[u8], m: usize, target: &[u8], n: usize, map: &[u8]) -> MapAnswer
+    requires { ⌜ Filled m (now source) ⌝ ∗ ⌜ Filled n (now target) ⌝ ∗ ⌜ length (now map) ≡ m ⌝ }
+    ensures answer { λ r. ⌜ answerReport r ≡ checked (checkMap m (product m (now (source .entry))) n (product n (now (target .entry))) (now (map .entry))) ⌝ }
+{
+    let place = tables::outside(map, n);
+    if let Place::At(i) = place {
+        return MapAnswer::Outside(i);
+    }
+    let equal = equal_images(map);
+    if let Pair::At(i, j) = equal {
+        return MapAnswer::EqualImages(i, j);
+    }
+    match wrong_product(source, m, target, n, map) {
+        Pair::At(i, j) => MapAnswer::WrongProduct(i, j),
+        Pair::Nowhere => MapAnswer::Holds,
+    }
+}
+
+// Whether the map is an embedding of the source, of order m, in the target, of order n.
+pub fn check(source: &[u8], m: usize, target: &[u8], n: usize, map: &[u8]) -> MapAnswer
+    ensures answer { λ r. ⌜ answerReport r ≡ mapCheck m (now (source .entry)) n (now (target .entry)) (now (map .entry)) ⌝ }
+{
+    let verdict = tables::check_pair(source, m, target, n);
+    if let PairVerdict::Refused(side, fault) = verdict {
+        return MapAnswer::Refused(side, fault);
+    }
+    if map.len() != m {
+        return MapAnswer::MapLength;
+    }
+    examine(source, m, target, n, map)
+}
