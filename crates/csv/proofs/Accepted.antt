@@ -1,23 +1,23 @@
 -- The text of a table passes every question and gives the table back; a text that passes every question is the text of its table.
 -- Assumes nothing.
 use mathlib.Core.Path.{_≡_, refl, ap, ap₂, sym, _∙_}
-use mathlib.Core.Bool.{Bool, true, false, _&&_}
+use mathlib.Core.Bool.{true}
 use mathlib.Core.List.{List, [], _∷_, _++_, map, flatMap, flatten}
-use mathlib.Core.Option.{none, some, orElse}
-use Prim.Native.Nat.{ℕ, zero, suc, _+_, _-_, _*_, _≤_, _<_}
+use mathlib.Core.Option.{none, orElse}
+use Prim.Native.Nat.{ℕ, zero, suc, _+_, _*_, _≤_, _<_}
 use native.Mathlib.Omega.{arith}
-use lib.Dec.{eqb, leb}
-use lib.ListN.{length, getD, take, length-map}
-use lib.Seq.{take-all, length-take-le}
+use lib.Dec.{eqb}
+use lib.ListN.{length, getD, length-map}
+use lib.Seq.{take-all}
 use borrow.Author.Tests.{eq-eqb, eqb-true}
-use Rattle.semigroups.specs.Lists.{elements, sum, all}
+use Rattle.semigroups.specs.Lists.{sum, all}
 use Rattle.semigroups.specs.Tables.{Element, Filled}
-use Rattle.semigroups.specs.Questions.{Refusal, no, ask, firstNo}
+use Rattle.semigroups.specs.Questions.{no, firstNo}
 use Rattle.semigroups.proofs.Booleans.{both, and-left, and-right}
 use Rattle.csv.specs.Decimals.{numeral, value}
 use Rattle.csv.specs.Records.{rows, rowsText}
-use Rattle.csv.specs.Tables.{fieldsOf, orderOf, cellsOf, rowFields, tableText}
-use Rattle.csv.specs.Questions.{bytesRefusal, endRefusal, fieldRefusal, fieldsRefusal, isSquare, squareRefusal, gridRefusal, loadRefusal}
+use Rattle.csv.specs.Tables.{fieldsOf, orderOf, cellsOf, tableText}
+use Rattle.csv.specs.Questions.{fieldRefusal, fieldsRefusal, isSquare, squareRefusal, gridRefusal, loadRefusal}
 use Rattle.csv.proofs.Every.{Every, every-append}
 use Rattle.csv.proofs.Bytes.{clean, clean-other, other-clean, no-other, closed, closed-some, ends-passes}
 use Rattle.csv.proofs.Scan.{none-refused}
@@ -26,7 +26,7 @@ use Rattle.csv.proofs.Decimals.{numeral-one, numeral-digits, numeral-lo
 use Rattle.csv.proofs.Fields.{Number, field-passes, field-passed, fields-passed}
 use Rattle.csv.proofs.Records.{ends}
 use Rattle.csv.proofs.Tables.{split, Even, length-split, split-even, flatten-split, split-flatten, table-rows, flatten-map, text-length}
-use Rattle.csv.proofs.Loading.{Square, Loadable, square-small, cells-length, loads}
+use Rattle.csv.proofs.Loading.{Loadable, square-small, cells-length, loads}
 
 -- ---- the length of a table's text
 

@@ -1,10 +1,10 @@
 -- Questions 21 and 22 by recursion over the bytes of a text.
 -- Assumes nothing.
-use mathlib.Core.Path.{_≡_, refl, ap, sym, _∙_}
+use mathlib.Core.Path.{_≡_, refl, sym, _∙_}
 use mathlib.Core.Bool.{Bool, true, false, _&&_, _||_, not, cond, and-false, or-true, or-false}
-use mathlib.Core.List.{List, [], _∷_, _++_}
+use mathlib.Core.List.{List, [], _∷_}
 use mathlib.Core.Option.{none}
-use Prim.Native.Nat.{ℕ, zero, suc, _+_, _-_, _≤_, _<_}
+use Prim.Native.Nat.{ℕ, zero, suc, _-_, _≤_, _<_}
 use native.Mathlib.Omega.{arith}
 use lib.Dec.{eqb}
 use lib.ListN.{length, getD}
@@ -128,7 +128,7 @@ clean-other t h =
 
 pub no-other : (t : List ℕ) → bytesRefusal t ≡ none → firstOther t ≡ none
 unfolding bytesRefusal
-no-other t h = map-none (λ p. no 21 (p ∷ [])) (firstOther t) h
+no-other t h = map-none _ (firstOther t) h
 
 -- Question 22 passes: the text ends in a line break.
 pub closed : (t : List ℕ) → endRefusal t ≡ none → ends t ≡ true

@@ -1,16 +1,16 @@
 -- Decimal numbers of at most three digits: reading and writing undo each other.
 -- Assumes nothing.
-use mathlib.Core.Path.{_≡_, refl, ap, ap₂, sym, _∙_}
+use mathlib.Core.Path.{_≡_, refl, _∙_}
 use mathlib.Core.Bool.{Bool, true, false, cond}
-use mathlib.Core.List.{List, [], _∷_, _++_}
+use mathlib.Core.List.{List, [], _∷_}
 use Prim.Native.Nat.{ℕ, zero, suc, _+_, _-_, _*_, _/_, _%_, _≤_, _<_}
 use native.Mathlib.Omega.{arith}
 use native.Mathlib.Nat.{mod-lt}
-use lib.Dec.{leb, ltb}
+use lib.Dec.{ltb}
 use lib.ListN.{length, getD, length-append}
 use borrow.Author.Tests.{le-leb, lt-ltb, le-ltb, ltb-true, ltb-false}
 use Rattle.csv.specs.Decimals.{isDigit, valueFrom, value, numeralWithin, numeral}
-use Rattle.csv.proofs.Every.{Every, every-append}
+use Rattle.csv.proofs.Every.{every-append}
 use Rattle.csv.proofs.Rows.{Digits, digit-range}
 
 -- ---- by the number of digits

@@ -1,50 +1,40 @@
 -- Reading a text for its cells: at the start of a field, the numbers written so far and those of the fields that are left are the cells.
 -- Assumes nothing.
 use mathlib.Core.Path.{_≡_, refl, ap, sym, _∙_}
-use mathlib.Core.Bool.{Bool, true, false}
-use mathlib.Core.List.{List, [], _∷_, _++_, map, flatten, append-assoc, append-nil}
-use mathlib.Core.Option.{Option, none, some, orElse}
-use Prim.Native.Nat.{ℕ, zero, suc, _+_, _-_, _≤_, _<_}
+use mathlib.Core.List.{List, [], _∷_, map, flatten}
+use mathlib.Core.Option.{none}
+use Prim.Native.Nat.{ℕ, _+_, _≤_, _<_}
 use native.Mathlib.Omega.{arith}
-use lib.ListN.{length, getD, drop, set, length-append, length-map}
-use Rattle.semigroups.specs.Questions.{Refusal, no, ask, firstNo}
+use lib.ListN.{length, getD, drop, set}
 use Rattle.csv.specs.Decimals.{digits, value}
 use Rattle.csv.specs.Records.{rows}
 use Rattle.csv.specs.Tables.{fieldsOf, cellsOf}
 use Rattle.csv.specs.Questions.{bytesRefusal, endRefusal, fieldRefusal, fieldsRefusal}
 use Rattle.csv.specs.Calls.{overwritten}
 use Rattle.csv.proofs.Reading.{Left, Turn, comma, line-break, turn, left-none, all-left}
-use Rattle.csv.proofs.Buffers.{overwritten-length, overwritten-next}
+use Rattle.csv.proofs.Writing.{Writing, write-first, write-length, write-room, write-next, write-last, sets-overwritten}
 use Rattle.csv.proofs.Fields.{fields-passed}
 
 pub record Filling (t before cells : List ℕ) (at k : ℕ) : Type 0 where
   pub rest : List (List (List ℕ))
   pub left : Left t at rest
-  pub done : List ℕ
-  pub so-far : cells ≡ overwritten done before
-  pub place : k ≡ length done
-  pub whole : cellsOf t ≡ done ++ map value (flatten rest)
+  pub writing : Writing before 0 (cellsOf t) (map value (flatten rest)) cells k
   pub numbers : fieldsRefusal (flatten rest) ≡ none
 
 pub fill-first : {t before : List ℕ} → bytesRefusal t ≡ none → endRefusal t ≡ none → fieldsRefusal (fieldsOf t) ≡ none → Filling t before before 0 0
 unfolding fieldsOf cellsOf
-fill-first {t} b e n = record { rest = rows t; left = all-left t b e; done = []; so-far = refl; place = refl; whole = refl; numbers = n }
+fill-first {t} {before} b e n = record { rest = rows t; left = all-left t b e; writing = write-first before 0 (cellsOf t); numbers = n }
 
 module _ {t before cells : List ℕ} {at k : ℕ} (g : Filling t before cells at k) where
-  pub fill-done : length t ≤ at → cells ≡ overwritten (cellsOf t) before
-  unfolding flatten
-  fill-done h =
-      let e = left-none t at (g .rest) h (g .left) in
-      let w : cellsOf t ≡ g .done = g .whole ∙ ap (λ (rs : List (List (List ℕ))). g .done ++ map value (flatten rs)) e ∙ append-nil (g .done) in
-      g .so-far ∙ rw w
+  pub fill-length : length cells ≡ length before
+  fill-length = write-length (g .writing)
 
   module _ (room : length (cellsOf t) ≤ length before) where
-    fits : length (g .done) + length (flatten (g .rest)) ≤ length before
-    fits = omega (arith, simp (length-append, length-map) at (ap length (g .whole)))
-
-    pub fill-length : length cells ≡ length before
-    unfolding fits
-    fill-length = ap length (g .so-far) ∙ overwritten-length (g .done) before (omega (arith, fits))
+    pub fill-done : length t ≤ at → cells ≡ overwritten (cellsOf t) before
+    unfolding flatten
+    fill-done h =
+        let e = left-none t at (g .rest) h (g .left) in
+        write-last (g .writing) (ap (λ (rs : List (List (List ℕ))). map value (flatten rs)) e) .0 ∙ sets-overwritten before (cellsOf t) room
 
     module _ {end : ℕ} (inside : at < length t) (d : end ≡ at + length (digits (drop at t))) where
       pub here : Turn t at end (g .rest)
@@ -59,9 +49,10 @@ module _ {t before cells : List ℕ} {at k : ℕ} (g : Filling t before cells at
       pub fill-field : fieldRefusal (digits (drop at t)) ≡ none
       fill-field = let q = first here in fields-passed (digits (drop at t)) (q .0) (rw (q .1) at (g .numbers)) .0
 
-      pub fill-room : k < length before
-      unfolding fits
-      fill-room = let q = first here in let p = g .place in omega (arith, fits, ap length (q .1))
+      pub fill-room : k < length cells
+      fill-room =
+          let q = first here in
+          omega (arith, write-room (g .writing) (omega arith), ap (λ (fs : List (List ℕ)). length (map value fs)) (q .1))
 
       module _ {x : ℕ} (e : x ≡ value (digits (drop at t))) where
         step : (at′ : ℕ) (rs : List (List (List ℕ))) → Left t at′ rs → flatten (g .rest) ≡ digits (drop at t) ∷ flatten rs → Filling t before (set cells k x) at′ (k + 1)
@@ -69,10 +60,7 @@ module _ {t before cells : List ℕ} {at k : ℕ} (g : Filling t before cells at
             record {
               rest = rs;
               left = l;
-              done = g .done ++ x ∷ [];
-              so-far = ap (λ (b : List ℕ). set b k x) (g .so-far) ∙ overwritten-next (g .done) before k x (g .place) fill-room;
-              place = simp length-append (let p = g .place in omega arith);
-              whole = g .whole ∙ ap (λ (fs : List (List ℕ)). g .done ++ map value fs) q ∙ rw (sym e) (sym (append-assoc (g .done) (x ∷ []) (map value (flatten rs))));
+              writing = write-next (g .writing) (x ∷ []) (map value (flatten rs)) (ap (map value) q ∙ rw (sym e));
               numbers = fields-passed (digits (drop at t)) (flatten rs) (rw q at (g .numbers)) .1;
             }
 

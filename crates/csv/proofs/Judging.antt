@@ -1,16 +1,16 @@
 -- Reading a text for its order and for questions 23 to 26: what is left of each at the start of a field.
 -- Assumes nothing.
-use mathlib.Core.Path.{_≡_, refl, ap, ap₂, sym, _∙_}
+use mathlib.Core.Path.{_≡_, refl, ap, sym, _∙_}
 use mathlib.Core.Bool.{Bool, true, false, _&&_, not, and-true, and-false}
-use mathlib.Core.List.{List, [], _∷_, _++_, map, flatten}
-use mathlib.Core.Option.{Option, none, some, orElse}
-use Prim.Native.Nat.{ℕ, zero, suc, _+_, _-_, _≤_, _<_}
+use mathlib.Core.List.{List, [], _∷_, flatten}
+use mathlib.Core.Option.{none, some, orElse}
+use Prim.Native.Nat.{ℕ, suc, _+_, _≤_, _<_}
 use native.Mathlib.Omega.{arith}
 use lib.Dec.{eqb}
 use lib.ListN.{length, getD, drop}
 use borrow.Author.Tests.{eq-eqb, ne-eqb, not-true, not-false}
 use Rattle.semigroups.specs.Lists.{all}
-use Rattle.semigroups.specs.Questions.{Refusal, no, ask, firstNo}
+use Rattle.semigroups.specs.Questions.{Refusal, no, firstNo}
 use Rattle.csv.specs.Decimals.{digits}
 use Rattle.csv.specs.Records.{rows}
 use Rattle.csv.specs.Tables.{fieldsOf, orderOf}

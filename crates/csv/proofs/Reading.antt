@@ -3,20 +3,19 @@
 -- Assumes nothing.
 use mathlib.Core.Path.{_≡_, refl, ap, sym, _∙_}
 use mathlib.Core.Bool.{Bool, true, false}
-use mathlib.Core.List.{List, [], _∷_, _++_, map, flatMap, append-assoc, append-nil}
-use mathlib.Core.Option.{Option, none, some}
-use Prim.Native.Nat.{ℕ, zero, suc, _+_, _-_, _≤_, _<_}
-use native.Mathlib.Numerals.{add-one}
+use mathlib.Core.List.{List, [], _∷_, _++_, flatMap, append-assoc, append-nil}
+use mathlib.Core.Option.{none}
+use Prim.Native.Nat.{ℕ, _+_, _≤_, _<_}
 use native.Mathlib.Omega.{arith}
 use lib.Dec.{leb}
-use borrow.Author.Tests.{leb-true, leb-false}
 use lib.ListN.{length, getD, drop, length-append, length-drop, drop-of-length-le}
 use lib.Seq.{drop-drop, drop-append-seam, getD-drop, getD-append-seam}
+use borrow.Author.Tests.{leb-true, leb-false}
 use Rattle.csv.specs.Decimals.{isDigit, digits}
 use Rattle.csv.specs.Records.{rows, recordText, rowsText}
 use Rattle.csv.specs.Questions.{bytesRefusal, endRefusal}
 use Rattle.csv.proofs.Bytes.{other-clean, no-other, closed}
-use Rattle.csv.proofs.Rows.{Digits, Row, Rows, rowsText-cons, rowsText-rows, clean-rows}
+use Rattle.csv.proofs.Rows.{Digits, Rows, rowsText-cons, rowsText-rows, clean-rows}
 
 -- The rows that are left from a place on.
 pub record Left (t : List ℕ) (at : ℕ) (rs : List (List (List ℕ))) : Type 0 where

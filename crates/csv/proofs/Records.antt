@@ -1,13 +1,13 @@
 -- Records and fields: cutting a text and putting it together undo each other.
 -- Assumes nothing.
-use mathlib.Core.Path.{_≡_, refl, ap, sym, _∙_}
+use mathlib.Core.Path.{_≡_, refl, ap, _∙_}
 use mathlib.Core.Bool.{Bool, true, false, _&&_, cond}
-use mathlib.Core.List.{List, [], _∷_, _++_, map, flatMap, append-assoc, append-nil}
+use mathlib.Core.List.{List, [], _∷_, _++_, flatMap, append-nil}
 use Prim.Native.Nat.{ℕ}
 use native.Mathlib.Omega.{arith}
 use lib.Dec.{eqb}
-use borrow.Author.Tests.{eqb-true, ne-eqb}
-use Rattle.csv.specs.Records.{isBreak, onto, records, fields, rows, recordText, rowsText}
+use borrow.Author.Tests.{eqb-true}
+use Rattle.csv.specs.Records.{isBreak, onto, records, fields, recordText}
 use Rattle.csv.proofs.Every.{Every}
 
 -- ---- fields

@@ -2,22 +2,22 @@
 -- its order saves to the same bytes; so loading and saving again, however often, changes no byte.
 -- Assumes nothing.
 use mathlib.Core.Path.{_≡_, refl, ap, sym, _∙_, subst₂}
-use mathlib.Core.List.{List, [], _∷_, _++_}
+use mathlib.Core.List.{List, []}
 use mathlib.Core.Option.{Option, none, some, orElse}
-use Prim.Native.Nat.{ℕ, zero, suc, _+_, _-_, _*_, _≤_, _<_}
+use Prim.Native.Nat.{ℕ, zero, suc, _*_, _≤_, _<_}
 use native.Mathlib.Omega.{arith}
 use lib.Dec.{leb}
 use lib.ListN.{length, getD, take, drop, List·getD-append}
-use lib.Seq.{take-at, drop-append-seam, take-append-seam}
+use lib.Seq.{take-at}
 use borrow.Author.Tests.{leb-true}
 use Rattle.semigroups.specs.Tables.{Filled}
 use Rattle.semigroups.specs.Questions.{Refusal, no, ask, firstNo, cellsRefusal}
 use Rattle.semigroups.proofs.Tables.{orElse-none, ask-passed, filled, no-cells-refusal}
 use Rattle.csv.specs.Tables.{orderOf, cellsOf, tableText}
 use Rattle.csv.specs.Questions.{loadRefusal, saveRefusal}
-use Rattle.csv.specs.Calls.{Answer, refused, gives, givenUnless, overwritten, loadAnswer, cellsAfter, saveAnswer, textAfter}
-use Rattle.csv.specs.Rounds.{Desk, given, held, saved, loadedOrder, loadedCells, round, rounds}
-use Rattle.csv.proofs.Buffers.{overwritten-length}
+use Rattle.csv.specs.Calls.{refused, gives, givenUnless, overwritten, loadAnswer, cellsAfter, saveAnswer, textAfter}
+use Rattle.csv.specs.Rounds.{Buffers, given, held, saved, loadedOrder, loadedCells, round, rounds}
+use Rattle.csv.proofs.Writing.{overwritten-length, overwritten-twice}
 use Rattle.csv.proofs.Loading.{Loadable, load-passed, load-given, cells-length}
 use Rattle.csv.proofs.Saving.{save-given}
 use Rattle.csv.proofs.Accepted.{table-cells, table-order, table-loads, text-back, text-filled}
@@ -123,21 +123,18 @@ loaded-saves t buffer text n h within r =
 
 -- ---- again and again
 
--- The desk after a table was saved on it: the text is the table's, and the cell buffer has room for the cells.
-record Settled (n : ℕ) (cells before : List ℕ) (d : Desk) : Type 0 where
+-- The buffers after a table was saved: the text is the table's, and the cell buffer has room for the cells.
+record Settled (n : ℕ) (cells before : List ℕ) (d : Buffers) : Type 0 where
   pub text : d .text ≡ overwritten (tableText n cells) before
   pub length-is : d .length ≡ length (tableText n cells)
   pub room : n * n ≤ length (d .cells)
 
 -- After any number of rounds: the text buffer and the length are what the first saving left, and loading gives the table.
-pub record Unchanged (n : ℕ) (cells : List ℕ) (first d : Desk) : Type 0 where
+pub record Unchanged (n : ℕ) (cells : List ℕ) (first d : Buffers) : Type 0 where
   pub text : d .text ≡ first .text
   pub length : d .length ≡ first .length
   pub order : loadAnswer (held d) (d .cells) ≡ gives n
   pub cells-same : loadedCells d ≡ cells
-
-overwritten-twice : (w b : List ℕ) → overwritten w (overwritten w b) ≡ overwritten w b
-overwritten-twice w b = ap (λ (l : List ℕ). w ++ l) (drop-append-seam w (drop (length w) b))
 
 module _ (n : ℕ) (cells before : List ℕ) (f : Filled n cells) (fits : length (tableText n cells) ≤ length before) where
   -- Saving over any buffer that holds the text leaves it as it is.
@@ -145,7 +142,7 @@ module _ (n : ℕ) (cells before : List ℕ) (f : Filled n cells) (fits : length
       → (given (saveAnswer n cells b) ≡ length (tableText n cells)) × (textAfter n cells b ≡ overwritten (tableText n cells) b)
   save-over b r = let g = save-given n cells b (no-cells-refusal n cells f) r in (ap given (sym (g .0)), sym (g .1))
 
-  module _ (d : Desk) (s : Settled n cells before d) where
+  module _ (d : Buffers) (s : Settled n cells before d) where
     held-is : held d ≡ tableText n cells
     held-is =
         ap (take (d .length)) (s .text)
@@ -176,17 +173,17 @@ module _ (n : ℕ) (cells before : List ℕ) (f : Filled n cells) (fits : length
           room = rw (reloads .same, overwritten-length cells (d .cells) (omega arith)) room;
         }
 
-    unchanged : (first : Desk) → Settled n cells before first → Unchanged n cells first d
+    unchanged : (first : Buffers) → Settled n cells before first → Unchanged n cells first d
     unchanged first t =
         record { text = s .text ∙ sym (t .text); length = s .length-is ∙ sym (t .length-is); order = reloads .order; cells-same = cells-are }
 
-  settled-rounds : (d : Desk) → Settled n cells before d → (k : ℕ) → Settled n cells before (rounds k d)
+  settled-rounds : (d : Buffers) → Settled n cells before d → (k : ℕ) → Settled n cells before (rounds k d)
   unfolding rounds
   settled-rounds d s zero = s
   settled-rounds d s (suc k) = settled-round (rounds k d) (settled-rounds d s k)
 
 -- Saving, loading and saving again changes no byte, however often.
-pub resaved-same : (n : ℕ) (cells : List ℕ) (d : Desk) (k : ℕ) → saveAnswer n cells (d .text) ≡ gives k → n * n ≤ length (d .cells)
+pub resaved-same : (n : ℕ) (cells : List ℕ) (d : Buffers) (k : ℕ) → saveAnswer n cells (d .text) ≡ gives k → n * n ≤ length (d .cells)
     → (r : ℕ) → Unchanged n cells (saved n cells d) (rounds r (saved n cells d))
 unfolding saved
 resaved-same n cells d k h room r =

@@ -3,12 +3,12 @@
 use mathlib.Core.Path.{_≡_, refl, ap, sym, _∙_}
 use mathlib.Core.List.{List, [], _∷_, _++_, map, flatMap, append-assoc, append-nil}
 use mathlib.Core.Option.{none, some, orElse}
-use Prim.Native.Nat.{ℕ, zero, suc, _+_, _-_, _≤_, _<_}
+use Prim.Native.Nat.{ℕ, suc, _+_, _-_, _≤_, _<_}
 use native.Mathlib.Numerals.{add-one}
 use native.Mathlib.Omega.{arith}
-use borrow.Author.Tests.{le-leb, lt-leb}
 use lib.ListN.{length, set, length-append}
 use lib.Seq.{sets}
+use borrow.Author.Tests.{le-leb, lt-leb}
 use Rattle.semigroups.specs.Lists.{range, elements}
 use Rattle.semigroups.specs.Tables.{product}
 use Rattle.semigroups.specs.Questions.{Refusal, no, firstNo, cellsRefusal}

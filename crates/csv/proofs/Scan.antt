@@ -1,19 +1,18 @@
 -- Question 21 from a place on: what is left of the scan there, and which bytes pass.
 -- Assumes nothing.
-use mathlib.Core.Path.{_≡_, refl, ap, sym, _∙_}
-use mathlib.Core.Bool.{Bool, true, false, _||_, not, cond, and-false, or-true, or-false}
+use mathlib.Core.Path.{_≡_, refl, ap, _∙_}
+use mathlib.Core.Bool.{Bool, true, false, _||_, not, cond, and-false, or-true}
 use mathlib.Core.List.{List, [], _∷_}
 use mathlib.Core.Option.{Option, none, some}
 use Prim.Native.Nat.{ℕ, zero, suc, _+_, _-_, _≤_, _<_}
 use native.Mathlib.Numerals.{add-one}
 use native.Mathlib.Omega.{arith}
-use lib.Dec.{eqb}
 use lib.ListN.{length, getD, List·getD-eq-default}
 use borrow.Author.Tests.{le-leb, lt-leb, ne-eqb}
 use Rattle.semigroups.specs.Lists.{range, find}
+use Rattle.semigroups.specs.Questions.{no}
 use Rattle.csv.specs.Decimals.{isDigit}
 use Rattle.csv.specs.Records.{isBreak}
-use Rattle.semigroups.specs.Questions.{no}
 use Rattle.csv.specs.Questions.{breakAt, inBreak, isAllowed, firstOther, bytesRefusal}
 
 -- The first other byte from place i on.

@@ -3,13 +3,14 @@
 use mathlib.Core.Path.{_≡_, refl, ap, ap₂, sym, _∙_}
 use mathlib.Core.List.{List, [], _∷_, _++_, map, flatMap, flatten, map-append}
 use Prim.Native.Nat.{ℕ, zero, suc, _+_, _-_, _*_, _≤_, _<_}
-use native.Mathlib.Nat.{suc-mul, mul-le-mul}
+use native.Mathlib.Nat.{suc-mul}
+use native.Mathlib.Numerals.{add-one}
 use native.Mathlib.Omega.{arith}
-use lib.ListN.{length, take, drop, getD, length-append, length-take, length-drop, length-map, drop-of-length-le}
-use lib.Seq.{drop-cons, drop-drop, take-add, take-all, take-length, length-take-le, take-append-seam, drop-append-seam}
+use lib.ListN.{length, take, drop, getD, length-append, length-drop, length-map, drop-of-length-le}
+use lib.Seq.{drop-cons, drop-drop, take-add, take-all, length-take-le, take-append-seam, drop-append-seam}
 use Rattle.semigroups.specs.Lists.{range, elements, sum}
 use Rattle.semigroups.specs.Tables.{product, Filled}
-use Rattle.semigroups.proofs.Sums.{sum-append, sum-map, sum-drop}
+use Rattle.semigroups.proofs.Sums.{sum-append, sum-map}
 use Rattle.csv.specs.Decimals.{numeral}
 use Rattle.csv.specs.Records.{recordText, lineText, rowsText}
 use Rattle.csv.specs.Tables.{rowFields, tableText}
@@ -164,8 +165,8 @@ module _ (cells : List ℕ) where
   widths-first n f = text-length n cells (f .order .0) (f .size)
 
   pub widths-step : (k : ℕ) → k < length cells → widthsFrom cells k ≡ length (numeral (getD cells k 0)) + 1 + widthsFrom cells (k + 1)
-  unfolding widthsFrom
-  widths-step k h = sum-drop (λ x. length (numeral x) + 1) 0 cells k h
+  unfolding widthsFrom sum
+  widths-step k h = rw (drop-cons cells k 0 h, add-one k)
 
   pub widths-end : (k : ℕ) → length cells ≤ k → widthsFrom cells k ≡ 0
   unfolding widthsFrom sum

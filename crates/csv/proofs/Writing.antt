@@ -5,8 +5,8 @@ use mathlib.Core.List.{List, [], _∷_, _++_, append-assoc, append-nil}
 use Prim.Native.Nat.{ℕ, suc, _+_, _/_, _%_, _≤_, _<_}
 use native.Mathlib.Numerals.{add-one, add-two}
 use native.Mathlib.Omega.{arith}
-use lib.ListN.{length, drop, set, length-append}
-use lib.Seq.{sets, length-sets, sets-eq}
+use lib.ListN.{length, drop, set, length-append, length-drop}
+use lib.Seq.{sets, length-sets, sets-eq, drop-append-seam}
 use Rattle.csv.specs.Decimals.{numeral}
 use Rattle.csv.specs.Calls.{overwritten}
 use Rattle.csv.proofs.Decimals.{numeral-one, numeral-two, numeral-three}
@@ -51,7 +51,14 @@ module _ {before : List ℕ} {start : ℕ} {whole left now : List ℕ} {at : ℕ
       let d : whole ≡ w .done = w .all ∙ ap (λ (l : List ℕ). w .done ++ l) e ∙ append-nil (w .done) in
       (w .so-far ∙ ap (sets before start) (sym d), w .place ∙ ap (λ (l : List ℕ). start + length l) (sym d))
 
--- What stands from the start on.
+-- ---- over the start of a buffer
+
+pub overwritten-length : (w b : List ℕ) → length w ≤ length b → length (overwritten w b) ≡ length b
+overwritten-length w b h = simp (length-append, length-drop) (omega arith)
+
+pub overwritten-twice : (w b : List ℕ) → overwritten w (overwritten w b) ≡ overwritten w b
+overwritten-twice w b = ap (λ (l : List ℕ). w ++ l) (drop-append-seam w (drop (length w) b))
+
 pub sets-overwritten : (before whole : List ℕ) → length whole ≤ length before → sets before 0 whole ≡ overwritten whole before
 sets-overwritten before whole h =
     let z : 0 + length whole ≡ length whole = omega arith in

@@ -1,6 +1,6 @@
 -- Decimal numbers as bytes: digits are the bytes 48 to 57, the first digit counts most (01, "Text": decimal cells).
 -- Assumes nothing.
-use mathlib.Core.Bool.{Bool, true, false, _&&_, cond}
+use mathlib.Core.Bool.{Bool, _&&_, cond}
 use mathlib.Core.List.{List, [], _∷_, _++_}
 use Prim.Native.Nat.{ℕ, zero, suc, _+_, _-_, _*_, _/_, _%_}
 use lib.Dec.{leb, ltb}
@@ -14,7 +14,7 @@ unfoldable pub digits : List ℕ → List ℕ
 digits [] = []
 digits (b ∷ t) = let r = digits t in cond (isDigit b) (b ∷ r) []
 
--- The number that digits go on to where those before them make v.
+-- The number that v and the digits behind it make.
 unfoldable pub valueFrom : ℕ → List ℕ → ℕ
 valueFrom v [] = v
 valueFrom v (b ∷ f) = valueFrom (v * 10 + (b - 48)) f
@@ -23,7 +23,7 @@ valueFrom v (b ∷ f) = valueFrom (v * 10 + (b - 48)) f
 unfoldable pub value : List ℕ → ℕ
 value f = valueFrom 0 f
 
--- The last d decimal digits of k with no leading 0: where k has at most d digits, its decimal number.
+-- The decimal number of k with no leading 0, where k has at most d digits. Of a larger k, which no cell is, its last d digits.
 unfoldable pub numeralWithin : ℕ → ℕ → List ℕ
 numeralWithin zero k = []
 numeralWithin (suc d) k = let r = numeralWithin d (k / 10) in cond (ltb k 10) [] r ++ (48 + k % 10) ∷ []

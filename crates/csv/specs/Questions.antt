@@ -1,10 +1,11 @@
 -- The questions about loading and saving a text, in the order of 01, "The questions".
--- Stricter than RFC 4180, by 01, "About loading a text": a length limit (20), no byte but digits, commas and line breaks, so no header, no
--- quoted field and no space (21), the last record closed too (22), decimal fields of 1 to 120 with no leading 0 (23 to 25), a square (26).
+-- Stricter than RFC 4180 by 01, "About loading a text": a length limit (20); digits, commas and line breaks alone, so no header, no quoted field
+-- and no space (21); the last record closed too (22); decimal fields of 1 to 120 with no leading 0 (23 to 25); a square (26) of order 120 at
+-- most (1).
 -- Assumes nothing.
-use mathlib.Core.Bool.{Bool, true, false, _&&_, _||_, not}
+use mathlib.Core.Bool.{Bool, _&&_, _||_, not}
 use mathlib.Core.List.{List, [], _∷_, map}
-use mathlib.Core.Option.{Option, none, some, Option·map}
+use mathlib.Core.Option.{Option, Option·map}
 use Prim.Native.Nat.{ℕ, zero, suc, _-_, _*_}
 use lib.Dec.{eqb, leb}
 use lib.ListN.{length, getD}
@@ -52,9 +53,9 @@ endRefusal t = ask (breakAt t (length t - 2)) (no 22 [])
 unfoldable pub fieldRefusal : List ℕ → Option Refusal
 fieldRefusal f =
     let size = ask (isElement 3 (length f)) (no 23 []) in
-    let zero-first = ask (not (eqb (getD f 0 0) 48)) (no 24 []) in
-    let range = ask (leb (value f) 120) (no 25 []) in
-    firstNo (size ∷ zero-first ∷ range ∷ [])
+    let leading = ask (not (eqb (getD f 0 0) 48)) (no 24 []) in
+    let limit = ask (leb (value f) 120) (no 25 []) in
+    firstNo (size ∷ leading ∷ limit ∷ [])
 
 -- Each field in reading order, its three questions before the next field's.
 unfoldable pub fieldsRefusal : List (List ℕ) → Option Refusal

@@ -1,9 +1,9 @@
 -- Text as records and fields (RFC 4180, section 2): each record stands on its own line, closed by a line break, CR LF, the bytes 13 and 10;
 -- its fields stand between commas, byte 44. Two directions: the records and fields of a text, and the text of records and fields.
--- Stricter than RFC 4180 by 01, "Text": there is no header and no quoted field. That the last record is closed too is question 22 and not part
--- of what the records of a text are.
+-- Stricter than RFC 4180 by 01, "Text": "RFC 4180 without a header and without quoted fields". By the same sentence each record is closed, "the
+-- last one too"; that is question 22 (Questions), and what the records of a text are does not ask for it.
 -- Assumes nothing.
-use mathlib.Core.Bool.{Bool, true, false, _&&_, cond}
+use mathlib.Core.Bool.{Bool, _&&_, cond}
 use mathlib.Core.List.{List, [], _∷_, _++_, map, flatMap}
 use Prim.Native.Nat.{ℕ}
 use lib.Dec.{eqb}

@@ -6,7 +6,7 @@ use lib.ListN.{take}
 use Rattle.csv.specs.Calls.{Answer, refused, gives, loadAnswer, cellsAfter, saveAnswer, textAfter}
 
 -- The two buffers, and how many bytes of the first are the text.
-pub record Desk : Type 0 where
+pub record Buffers : Type 0 where
   pub text : List ℕ
   pub length : ℕ
   pub cells : List ℕ
@@ -16,25 +16,25 @@ abbrev pub given : Answer → ℕ
 given (refused r) = 0
 given (gives x) = x
 
--- The text that the desk holds.
-abbrev pub held : Desk → List ℕ
-held d = take (d .length) (d .text)
+-- The text that stands there.
+abbrev pub held : Buffers → List ℕ
+held b = take (b .length) (b .text)
 
 -- A table is saved.
-unfoldable pub saved : ℕ → List ℕ → Desk → Desk
-saved n cells d = record { text = textAfter n cells (d .text); length = given (saveAnswer n cells (d .text)); cells = d .cells }
+unfoldable pub saved : ℕ → List ℕ → Buffers → Buffers
+saved n cells b = record { text = textAfter n cells (b .text); length = given (saveAnswer n cells (b .text)); cells = b .cells }
 
 -- The order and the cells that loading the text gives.
-abbrev pub loadedOrder : Desk → ℕ
-loadedOrder d = given (loadAnswer (held d) (d .cells))
+abbrev pub loadedOrder : Buffers → ℕ
+loadedOrder b = given (loadAnswer (held b) (b .cells))
 
-abbrev pub loadedCells : Desk → List ℕ
-loadedCells d = take (loadedOrder d * loadedOrder d) (cellsAfter (held d) (d .cells))
+abbrev pub loadedCells : Buffers → List ℕ
+loadedCells b = take (loadedOrder b * loadedOrder b) (cellsAfter (held b) (b .cells))
 
 -- One round: the text is loaded, and the table that this gives is saved.
-unfoldable pub round : Desk → Desk
-round d = saved (loadedOrder d) (loadedCells d) (record { text = d .text; length = d .length; cells = cellsAfter (held d) (d .cells) })
+unfoldable pub round : Buffers → Buffers
+round b = saved (loadedOrder b) (loadedCells b) (record { text = b .text; length = b .length; cells = cellsAfter (held b) (b .cells) })
 
-unfoldable pub rounds : ℕ → Desk → Desk
-rounds zero d = d
-rounds (suc k) d = round (rounds k d)
+unfoldable pub rounds : ℕ → Buffers → Buffers
+rounds zero b = b
+rounds (suc k) b = round (rounds k b)

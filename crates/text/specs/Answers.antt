@@ -1,6 +1,6 @@
 -- What each case of the answers means: 01's number of the question, and what is said with it.
 -- Assumes nothing.
-use mathlib.Core.List.{List, [], _∷_}
+use mathlib.Core.List.{[], _∷_}
 use mathlib.Core.Option.{Option, none, some}
 use Rattle.semigroups.specs.Questions.{Refusal, no}
 use Rattle.tables.specs.Answers.{faultRefusal as tableRefusal}
@@ -10,8 +10,8 @@ use Rattle.text.specs.declared.TextFault.the-variants.{Length, Byte, End
 use Rattle.text.specs.declared.Judged.{Judged}
 use Rattle.text.specs.declared.Judged.the-variants.{Passed, Failed}
 use Rattle.text.specs.declared.Loaded.{Loaded}
-use Rattle.text.specs.declared.Loaded.the-variants.{Order as LoadedOrder, Refused as LoadRefused}
 use Rattle.text.specs.declared.Saved.{Saved}
+use Rattle.text.specs.declared.Loaded.the-variants.{Order as LoadedOrder, Refused as LoadRefused}
 use Rattle.text.specs.declared.Saved.the-variants.{Length as SavedLength, Refused as SaveRefused, Room as SavedRoom}
 
 abbrev pub faultRefusal : TextFault → Refusal

@@ -41,7 +41,7 @@ pub enum Saved {
 }
 
 // Whether some of the questions about a text pass.
-pub enum Judged {
+enum Judged {
     Passed,
     Failed(TextFault),
 }
@@ -259,15 +259,15 @@ pub fn load(text: &[u8], cells: &mut [u8]) -> Loaded
     Loaded::Order(n)
 }
 
-// How many digits the decimal number of x has.
-fn digit_count(x: usize) -> usize
-    requires { ⌜ x < 1000 ⌝ }
-    ensures answer { λ r. ⌜ r ≡ length (numeral x) ⌝ }
+// How many digits the decimal number of k has.
+fn digit_count(k: usize) -> usize
+    requires { ⌜ k < 1000 ⌝ }
+    ensures answer { λ r. ⌜ r ≡ length (numeral k) ⌝ }
 {
-    if x < 10 {
+    if k < 10 {
         return 1;
     }
-    if x < 100 {
+    if k < 100 {
         return 2;
     }
     3
@@ -279,10 +279,10 @@ fn text_length(cells: &[u8], n: usize) -> usize
     ensures answer { λ r. ⌜ r ≡ length (tableText n (now (cells .entry))) ⌝ }
 {
     let mut total = n;
-    let mut k: usize = 0;
-    while k < cells.len() {
-        total += digit_count(cells[k] as usize) + 1;
-        k += 1;
+    let mut place: usize = 0;
+    while place < cells.len() {
+        total += digit_count(cells[place] as usize) + 1;
+        place += 1;
     }
     total
 }

@@ -1,16 +1,12 @@
 -- `columns` answers the order. The loop's invariant: `end` is the end of field n of the first record, and the order is n and the fields behind it.
 -- Assumes nothing.
-use native.Mathlib.Omega.{arith}
 use Prim.Native.Nat.{_-_}
+use native.Mathlib.Omega.{arith}
 use lib.ListN.{length}
-use denote.Ref.{now}
 use Rattle.csv.proofs.Reading.{turn-inside}
 use Rattle.csv.proofs.Judging.{Counting, count-first, count-more, count-last}
 use Rattle.text.proofs.columns.Statement.{statement}
 use Rattle.text.proofs.columns.Tie as tie
-use Rattle.text.proofs.columns.Reads as reads
-use Rattle.text.proofs.columns.Lts as lts
-use Rattle.text.proofs.digits_end.Reads as digits-end-reads
 
 abbrev Inv-loop : tie.InvT-loop
 Inv-loop text n₀ end₀ n end = Counting text n end
@@ -18,46 +14,37 @@ Inv-loop text n₀ end₀ n end = Counting text n end
 abbrev μ-loop : tie.MeasureT-loop
 μ-loop text n₀ end₀ n end = length text - end
 
--- src/lib.rt:153:9
 digits-end-requires : tie.Need-digits-end-requires Inv-loop μ-loop
 digits-end-requires c κs = omega arith
 
--- src/lib.rt:154:5
 loop-holds : tie.Need-loop-holds Inv-loop μ-loop
 loop-holds c =
     let s = c .before .before in
     count-first (s .pre .0) (s .pre .1) (c .digits-end .ensures)
 
--- src/lib.rt:154:11
 shared-slice-read-if1 : tie.Need-shared-slice-read-if1 Inv-loop μ-loop
 shared-slice-read-if1 c = omega (arith, turn-inside (c .before .loop .inv .here))
 
--- src/lib.rt:155:9
 add-n : tie.Need-add-n Inv-loop μ-loop
 add-n c = omega (arith, turn-inside (c .before .before .loop .inv .here), c .before .before .loop .inv .few)
 
--- src/lib.rt:156:32
 add-digits-end : tie.Need-add-digits-end Inv-loop μ-loop
 add-digits-end c = omega (arith, turn-inside (c .before .before .loop .inv .here))
 
--- src/lib.rt:156:9
 digits-end-requires-2 : tie.Need-digits-end-requires-2 Inv-loop μ-loop
 digits-end-requires-2 c κs = omega (arith, turn-inside (c .before .before .loop .inv .here))
 
--- src/lib.rt:154:5
 loop-less : tie.Need-loop-less Inv-loop μ-loop
 loop-less c =
     let i = turn-inside (c .before .before .before .loop .inv .here) in
     let e = c .digits-end2 .ensures in
     omega arith
 
--- src/lib.rt:154:5
 loop-again : tie.Need-loop-again Inv-loop μ-loop
 loop-again c =
     let l = c .before .before .before in
     count-more (l .loop .inv) (c .before .if1 .taken) (c .digits-end2 .ensures)
 
--- src/lib.rt:147:1
 returns : tie.Need-returns Inv-loop μ-loop
 returns c = count-last (c .before .before .loop .inv) (c .if1 .left)
 

@@ -1,22 +1,17 @@
 -- `digit_count` answers the length of a decimal number.
 -- Assumes nothing.
-use mathlib.Core.Path.{_≡_, ap, sym}
+use mathlib.Core.Path.{ap, sym}
 use lib.ListN.{length}
 use Rattle.csv.proofs.Decimals.{numeral-one, numeral-two, numeral-three}
 use Rattle.text.proofs.digit_count.Statement.{statement}
 use Rattle.text.proofs.digit_count.Tie as tie
-use Rattle.text.proofs.digit_count.Reads as reads
-use Rattle.text.proofs.digit_count.Lts as lts
 
--- src/lib.rt:268:9
 returns : tie.Need-returns
 returns c = sym (ap length (numeral-one _ (c .if1 .taken)))
 
--- src/lib.rt:271:9
 returns-2 : tie.Need-returns-2
 returns-2 c = sym (ap length (numeral-two _ (c .before .if1 .left) (c .if2 .taken)))
 
--- src/lib.rt:263:1
 returns-3 : tie.Need-returns-3
 returns-3 c = sym (ap length (numeral-three _ (c .if2 .left) (c .before .before .pre)))
 

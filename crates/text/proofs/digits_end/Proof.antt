@@ -1,16 +1,14 @@
 -- `digits_end` answers the place behind the digits. The loop's invariant: the digits from `at` on end where those from i on end.
 -- Assumes nothing.
-use native.Mathlib.Omega.{arith}
+use mathlib.Core.Path.{_≡_, ap}
 use Prim.Native.Nat.{_+_, _-_, _≤_}
-use mathlib.Core.Path.{_≡_, ap, _∙_}
+use native.Mathlib.Omega.{arith}
 use lib.ListN.{length, drop}
 use denote.Ref.{now}
 use Rattle.csv.specs.Decimals.{digits}
 use Rattle.csv.proofs.Fields.{is-digit, below-digit, above-digit, digits-past, digits-none, digits-more}
 use Rattle.text.proofs.digits_end.Statement.{statement}
 use Rattle.text.proofs.digits_end.Tie as tie
-use Rattle.text.proofs.digits_end.Reads as reads
-use Rattle.text.proofs.digits_end.Lts as lts
 
 abbrev Inv-loop : tie.InvT-loop
 Inv-loop text at i₀ i = (i ≤ length text) × (at + length (digits (drop at text)) ≡ i + length (digits (drop i text)))
@@ -18,44 +16,36 @@ Inv-loop text at i₀ i = (i ≤ length text) × (at + length (digits (drop at t
 abbrev μ-loop : tie.MeasureT-loop
 μ-loop text at i₀ i = length text - i
 
--- src/lib.rt:96:5
 loop-holds : tie.Need-loop-holds Inv-loop μ-loop
 loop-holds c = omega arith
 
--- src/lib.rt:97:17
 shared-slice-read-b : tie.Need-shared-slice-read-b Inv-loop μ-loop
 shared-slice-read-b c = omega arith
 
--- src/lib.rt:99:13
 returns : tie.Need-returns Inv-loop μ-loop
 returns c =
     let h = c .before .before in
     let t = now (h .before .before .args .text) in
     omega (arith, ap length (digits-none t (h .before .loop .i) (h .loop-test .taken) (below-digit _ (c .if1 .taken))))
 
--- src/lib.rt:102:13
 returns-2 : tie.Need-returns-2 Inv-loop μ-loop
 returns-2 c =
     let h = c .before .before .before in
     let t = now (h .before .before .args .text) in
     omega (arith, ap length (digits-none t (h .before .loop .i) (h .loop-test .taken) (above-digit _ (c .if2 .taken))))
 
--- src/lib.rt:104:9
 add-i : tie.Need-add-i Inv-loop μ-loop
 add-i c = omega arith
 
--- src/lib.rt:96:5
 loop-less : tie.Need-loop-less Inv-loop μ-loop
 loop-less c = omega arith
 
--- src/lib.rt:96:5
 loop-again : tie.Need-loop-again Inv-loop μ-loop
 loop-again c =
     let h = c .before .before .before in
     let t = now (h .before .before .args .text) in
     omega (arith, ap length (digits-more t (h .before .loop .i) (h .loop-test .taken) (is-digit _ (c .before .if1 .left) (c .if2 .left))))
 
--- src/lib.rt:91:1
 returns-3 : tie.Need-returns-3 Inv-loop μ-loop
 returns-3 c =
     let t = now (c .before .before .args .text) in

@@ -1,8 +1,7 @@
 -- `fill` writes the cells. The loop's invariant: the buffer holds the numbers of the fields read so far, and they and those of the fields that
 -- are left are the cells. Assumes nothing.
+use Prim.Native.Nat.{_-_, _≤_, _<_}
 use native.Mathlib.Omega.{arith}
-use Prim.Native.Nat.{_+_, _-_, _≤_, _<_}
-use mathlib.Core.Path.{_≡_, _∙_}
 use lib.ListN.{length, drop}
 use denote.Ref.{now}
 use Rattle.csv.specs.Decimals.{digits}
@@ -12,10 +11,6 @@ use Rattle.csv.proofs.Reading.{Turn, turn-inside, break-inside}
 use Rattle.csv.proofs.Filling.{Filling, here, fill-first, fill-done, fill-length, fill-field, fill-room, fill-comma, fill-break}
 use Rattle.text.proofs.fill.Statement.{statement}
 use Rattle.text.proofs.fill.Tie as tie
-use Rattle.text.proofs.fill.Reads as reads
-use Rattle.text.proofs.fill.Lts as lts
-use Rattle.text.proofs.digits_end.Reads as digits-end-reads
-use Rattle.text.proofs.read_number.Reads as read-number-reads
 
 abbrev Inv-loop : tie.InvT-loop
 Inv-loop text cells₀ at₀ k₀ cells at k = Filling text cells₀ cells at k
@@ -43,81 +38,66 @@ module _ (c : tie.After-digits-end Inv-loop μ-loop) where
   passes : Number (digits (drop (at-loop .loop .at) (now (start .args .text))))
   passes = field-passed _ (fill-field (at-loop .loop .inv) room inside (c .digits-end .ensures))
 
--- src/lib.rt:208:5
 loop-holds : tie.Need-loop-holds Inv-loop μ-loop
 loop-holds c =
     let s = c .before .before in
     fill-first (s .pre .0) (s .pre .1 .0) (s .pre .1 .1 .0)
 
--- src/lib.rt:209:13
 digits-end-requires : tie.Need-digits-end-requires Inv-loop μ-loop
 digits-end-requires c κs = omega arith
 
--- src/lib.rt:210:20
 read-number-requires : tie.Need-read-number-requires Inv-loop μ-loop
 read-number-requires c κs = (omega arith, (c .digits-end .ensures, passes c .short))
 
--- src/lib.rt:210:20
 cast-cells : tie.Need-cast-cells Inv-loop μ-loop
 cast-cells c = omega (arith, passes (c .before) .small, c .read-number .ensures)
 
--- src/lib.rt:210:9
 slice-write-cells : tie.Need-slice-write-cells Inv-loop μ-loop
 slice-write-cells c =
     let x = c .before in
-    omega (arith, fill-room (at-loop x .loop .inv) (room x) (inside x) (x .digits-end .ensures), fill-length (at-loop x .loop .inv) (room x))
+    omega (arith, fill-room (at-loop x .loop .inv) (room x) (inside x) (x .digits-end .ensures))
 
--- src/lib.rt:211:9
 add-k : tie.Need-add-k Inv-loop μ-loop
 add-k c =
     let x = c .before in
-    omega (arith, fill-room (at-loop x .loop .inv) (room x) (inside x) (x .digits-end .ensures))
+    omega (arith, fill-room (at-loop x .loop .inv) (room x) (inside x) (x .digits-end .ensures), fill-length (at-loop x .loop .inv))
 
--- src/lib.rt:212:12
 shared-slice-read-if1 : tie.Need-shared-slice-read-if1 Inv-loop μ-loop
 shared-slice-read-if1 c = omega (arith, turn-inside (turn-here (c .before .before)))
 
--- src/lib.rt:213:18
 add-at : tie.Need-add-at Inv-loop μ-loop
 add-at c = omega (arith, turn-inside (turn-here (c .before .before .before)))
 
--- src/lib.rt:208:5
 loop-less : tie.Need-loop-less Inv-loop μ-loop
 loop-less c =
     let x = c .before .before .before in
     let e = x .digits-end .ensures in
     omega (arith, turn-inside (turn-here x))
 
--- src/lib.rt:208:5
 loop-again : tie.Need-loop-again Inv-loop μ-loop
 loop-again c =
     let x = c .before .before .before in
     fill-comma (at-loop x .loop .inv) (room x) (inside x) (x .digits-end .ensures) (c .before .before .read-number .ensures) (c .if1 .taken)
 
--- src/lib.rt:215:18
 add-at-2 : tie.Need-add-at-2 Inv-loop μ-loop
 add-at-2 c = omega (arith, break-inside (turn-here (c .before .before .before)) (c .if1 .left))
 
--- src/lib.rt:208:5
 loop-less-2 : tie.Need-loop-less-2 Inv-loop μ-loop
 loop-less-2 c =
     let x = c .before .before .before in
     let e = x .digits-end .ensures in
     omega (arith, break-inside (turn-here x) (c .if1 .left))
 
--- src/lib.rt:208:5
 loop-again-2 : tie.Need-loop-again-2 Inv-loop μ-loop
 loop-again-2 c =
     let x = c .before .before .before in
     fill-break (at-loop x .loop .inv) (room x) (inside x) (x .digits-end .ensures) (c .before .before .read-number .ensures) (c .if1 .left)
 
--- src/lib.rt:199:1
 same-length : tie.Need-same-length Inv-loop μ-loop
-same-length c = fill-length (c .before .loop .inv) (c .before .before .before .before .pre .1 .1 .1)
+same-length c = fill-length (c .before .loop .inv)
 
--- src/lib.rt:199:1
 returns : tie.Need-returns Inv-loop μ-loop
-returns c = fill-done (c .before .loop .inv) (c .loop-test .left)
+returns c = fill-done (c .before .loop .inv) (c .before .before .before .before .pre .1 .1 .1) (c .loop-test .left)
 
 pub fill-spec : {M : Type 1} → statement M
 fill-spec =

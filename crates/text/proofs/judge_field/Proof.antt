@@ -1,50 +1,40 @@
 -- `judge_field` answers questions 23, 24 and 25 about the digits at a place.
 -- Assumes nothing.
+use mathlib.Core.Path.{sym, _∙_}
+use Prim.Native.Nat.{_≤_}
 use native.Mathlib.Omega.{arith}
-use Prim.Native.Nat.{ℕ, _<_, _≤_}
-use mathlib.Core.Path.{_≡_, sym, _∙_}
-use mathlib.Core.List.{List}
-use lib.ListN.{length, drop, getD}
+use lib.ListN.{length, drop}
 use denote.Ref.{now}
-use Rattle.csv.specs.Decimals.{digits, value}
-use Rattle.csv.proofs.Fields.{digit-here, digits-first, field-empty, field-long, field-zero, field-large, field-passes}
 use borrow.Author.Needs.{needs}
+use Rattle.csv.specs.Decimals.{digits}
+use Rattle.csv.proofs.Fields.{digit-here, digits-first, field-empty, field-long, field-zero, field-large, field-passes}
 use Rattle.text.proofs.judge_field.Statement.{statement}
 use Rattle.text.proofs.judge_field.Tie as tie
-use Rattle.text.proofs.judge_field.Reads as reads
-use Rattle.text.proofs.judge_field.Lts as lts
-use Rattle.text.proofs.read_number.Reads as read-number-reads
 
--- src/lib.rt:131:8
 sub-if1 : tie.Need-sub-if1
 sub-if1 c = search needs
 
--- src/lib.rt:132:9
 returns : tie.Need-returns
 returns c =
     let s = c .before .before in
     let whole = s .pre .1 in
     field-empty (digits (drop (s .args .at) (now (s .args .text)))) (omega arith)
 
--- src/lib.rt:134:12
 sub-if2 : tie.Need-sub-if2
 sub-if2 c = search needs
 
--- src/lib.rt:135:9
 returns-2 : tie.Need-returns-2
 returns-2 c =
     let s = c .before .before .before in
     let whole = s .pre .1 in
     field-long (digits (drop (s .args .at) (now (s .args .text)))) (omega arith)
 
--- src/lib.rt:137:8
 shared-slice-read-if3 : tie.Need-shared-slice-read-if3
 shared-slice-read-if3 c =
     let s = c .before .before .before .before in
     let whole = s .pre .1 in
     digit-here (now (s .args .text)) (s .args .at) (omega arith) .0
 
--- src/lib.rt:138:9
 returns-3 : tie.Need-returns-3
 returns-3 c =
     let s = c .before .before .before .before .before in
@@ -53,11 +43,9 @@ returns-3 c =
     let one : 1 ≤ length f = omega arith in
     field-zero f one (omega arith) (digits-first (now (s .args .text)) (s .args .at) one ∙ c .if3 .taken)
 
--- src/lib.rt:140:14
 read-number-requires : tie.Need-read-number-requires
 read-number-requires c κs = search needs
 
--- src/lib.rt:141:9
 returns-4 : tie.Need-returns-4
 returns-4 c =
     let s = c .before .before .before .before .before .before .before in
@@ -67,7 +55,6 @@ returns-4 c =
     field-large f one (omega arith) (λ e. c .before .before .if3 .left (sym (digits-first (now (s .args .text)) (s .args .at) one) ∙ e))
     (rw (c .before .read-number .ensures) at (c .if4 .taken))
 
--- src/lib.rt:126:1
 returns-5 : tie.Need-returns-5
 returns-5 c =
     let s = c .before .before .before .before .before .before .before in

@@ -1,13 +1,13 @@
 -- `judge_fields` answers questions 23 to 26. The loop's invariant: the fields and the shape that are left from the field at `at` on tell the answers.
 -- Assumes nothing.
-use native.Mathlib.Omega.{arith}
-use borrow.Author.Needs.{needs}
-use Prim.Native.Nat.{_+_, _-_, _<_}
-use mathlib.Core.Path.{_≡_, refl, ap, sym, _∙_}
+use mathlib.Core.Path.{_≡_, ap, sym, _∙_}
 use mathlib.Core.Option.{none}
 use mathlib.Core.Logic.{⊎-elim}
+use Prim.Native.Nat.{_+_, _-_, _<_}
+use native.Mathlib.Omega.{arith}
 use lib.ListN.{length, drop}
 use denote.Ref.{now}
+use borrow.Author.Needs.{needs}
 use Rattle.csv.specs.Decimals.{digits}
 use Rattle.csv.specs.Questions.{fieldRefusal}
 use Rattle.text.specs.Answers.{judgedRefusal}
@@ -15,10 +15,6 @@ use Rattle.csv.proofs.Reading.{Turn, turn-inside, break-inside}
 use Rattle.csv.proofs.Judging.{Judging, here, judge-first, judge-refused, judge-comma, judge-break, judge-uneven, says-field, end-uneven, end-many, end-square}
 use Rattle.text.proofs.judge_fields.Statement.{statement}
 use Rattle.text.proofs.judge_fields.Tie as tie
-use Rattle.text.proofs.judge_fields.Reads as reads
-use Rattle.text.proofs.judge_fields.Lts as lts
-use Rattle.text.proofs.digits_end.Reads as digits-end-reads
-use Rattle.text.proofs.judge_field.Reads as judge-field-reads
 
 abbrev Inv-loop : tie.InvT-loop
 Inv-loop text n at₀ row₀ column₀ square₀ at row column square = Judging text n at row column square
@@ -43,25 +39,20 @@ module _ (c : tie.After-enum-told Inv-loop μ-loop) where
   passes : fieldRefusal (digits (drop (at-loop .loop .at) (now (at-loop .before .before .args .text)))) ≡ none
   passes = sym (c .before .before .judge-field .ensures) ∙ ap judgedRefusal (c .enum-told .given .1)
 
--- src/lib.rt:171:5
 loop-holds : tie.Need-loop-holds Inv-loop μ-loop
 loop-holds c =
     let s = c .before in
     judge-first (s .pre .0) (s .pre .1)
 
--- src/lib.rt:172:13
 digits-end-requires : tie.Need-digits-end-requires Inv-loop μ-loop
 digits-end-requires c κs = omega arith
 
--- src/lib.rt:173:13
 judge-field-requires : tie.Need-judge-field-requires Inv-loop μ-loop
 judge-field-requires c κs = (omega arith, c .digits-end .ensures)
 
--- src/lib.rt:174:31
 enum-known-field : tie.Need-enum-known-field Inv-loop μ-loop
 enum-known-field c = search needs
 
--- src/lib.rt:175:13
 returns : tie.Need-returns Inv-loop μ-loop
 returns c =
     let l = c .before .before .before .before .before .before in
@@ -73,59 +64,50 @@ returns c =
 enum-told : tie.Need-enum-told Inv-loop μ-loop
 enum-told c = search needs
 
--- src/lib.rt:177:9
 add-column : tie.Need-add-column Inv-loop μ-loop
 add-column c =
     let l = c .before .before .before .before .before in
     let w = l .loop .inv .few-columns in
     omega arith
 
--- src/lib.rt:178:12
 shared-slice-read-if1 : tie.Need-shared-slice-read-if1 Inv-loop μ-loop
 shared-slice-read-if1 c =
     let x = c .before in
     omega (arith, turn-inside (turn-here x))
 
--- src/lib.rt:179:18
 add-at : tie.Need-add-at Inv-loop μ-loop
 add-at c =
     let x = c .before .before in
     omega (arith, turn-inside (turn-here x))
 
--- src/lib.rt:171:5
 loop-less : tie.Need-loop-less Inv-loop μ-loop
 loop-less c =
     let x = c .before .before in
     let e = ending x in
     omega (arith, turn-inside (turn-here x))
 
--- src/lib.rt:171:5
 loop-again : tie.Need-loop-again Inv-loop μ-loop
 loop-again c =
     let x = c .before .before in
     judge-comma (at-loop x .loop .inv) (inside x) (ending x) (passes x) (c .if1 .taken)
 
--- src/lib.rt:185:13
 add-row : tie.Need-add-row Inv-loop μ-loop
 add-row c =
     let l = c .before .before .before .before .before .before .before .before in
     let w = l .loop .inv .few-rows in
     omega arith
 
--- src/lib.rt:186:18
 add-at-2 : tie.Need-add-at-2 Inv-loop μ-loop
 add-at-2 c =
     let x = c .before .before .before in
     omega (arith, break-inside (turn-here x) (c .before .if1 .left))
 
--- src/lib.rt:171:5
 loop-less-2 : tie.Need-loop-less-2 Inv-loop μ-loop
 loop-less-2 c =
     let x = c .before .before .before in
     let e = ending x in
     omega (arith, break-inside (turn-here x) (c .before .if1 .left))
 
--- src/lib.rt:171:5
 loop-again-2 : tie.Need-loop-again-2 Inv-loop μ-loop
 loop-again-2 c =
     let x = c .before .before .before in
@@ -134,7 +116,6 @@ loop-again-2 c =
     (λ w. rw (w .1) (judge-break k (inside x) (ending x) (passes x) (c .before .if1 .left) (w .0 .left)))
     (c .if2 .came)
 
--- src/lib.rt:190:9
 returns-2 : tie.Need-returns-2 Inv-loop μ-loop
 returns-2 c = end-uneven (c .before .before .loop .inv) (c .before .loop-test .left) (c .if3 .taken)
 

@@ -1,27 +1,18 @@
-use Rattle.csv.specs.Calls.{gives}
 -- `load` asks the questions of a text in their order, and writes the cells where all pass.
 -- Assumes nothing.
-use native.Mathlib.Omega.{arith}
-use Prim.Native.Nat.{ℕ, _≤_, _*_}
 use mathlib.Core.List.{List}
 use mathlib.Core.Path.{_≡_, ap, sym, _∙_}
 use mathlib.Core.Option.{none}
-use lib.ListN.{length}
+use Prim.Native.Nat.{ℕ}
+use native.Mathlib.Omega.{arith}
 use denote.Ref.{now}
-use Rattle.csv.specs.Tables.{orderOf}
+use borrow.Author.Needs.{needs}
+use Rattle.csv.specs.Calls.{gives}
 use Rattle.csv.specs.Questions.{bytesRefusal, endRefusal, gridRefusal}
 use Rattle.text.specs.Answers.{judgedRefusal}
 use Rattle.csv.proofs.Loading.{too-short, too-long, bad-byte, bad-end, bad-grid, bad-order, bad-room, loads, load-refused, load-given, grid-passed, cells-length, square-small}
-use borrow.Author.Needs.{needs}
 use Rattle.text.proofs.load.Statement.{statement}
 use Rattle.text.proofs.load.Tie as tie
-use Rattle.text.proofs.load.Reads as reads
-use Rattle.text.proofs.load.Lts as lts
-use Rattle.text.proofs.columns.Reads as columns-reads
-use Rattle.text.proofs.fill.Reads as fill-reads
-use Rattle.text.proofs.judge_bytes.Reads as judge-bytes-reads
-use Rattle.text.proofs.judge_end.Reads as judge-end-reads
-use Rattle.text.proofs.judge_fields.Reads as judge-fields-reads
 
 -- What is known once 21, 22, and 23 to 26 have passed.
 module _ (c : tie.After-enum-told) where
@@ -51,23 +42,18 @@ module _ (c : tie.After-enum-told3) where
   grid-pass : gridRefusal (counted .columns .result) (text-of (bytes-told end-told)) ≡ none
   grid-pass = sym (c .before .before .judge-fields .ensures) ∙ ap judgedRefusal (c .enum-told3 .given .1)
 
--- src/lib.rt:227:9
 returns : tie.Need-returns
 returns c = load-refused _ _ (too-short _ _ (c .if1 .taken))
 
--- src/lib.rt:230:9
 returns-2 : tie.Need-returns-2
 returns-2 c = load-refused _ _ (too-long _ _ (c .if2 .taken))
 
--- src/lib.rt:232:9
 judge-bytes-requires : tie.Need-judge-bytes-requires
 judge-bytes-requires c κs = search needs
 
--- src/lib.rt:233:27
 enum-known-bytes : tie.Need-enum-known-bytes
 enum-known-bytes c = search needs
 
--- src/lib.rt:234:9
 returns-3 : tie.Need-returns-3
 returns-3 c =
     let s = c .before .before .before .before in
@@ -77,15 +63,12 @@ returns-3 c =
 enum-told : tie.Need-enum-told
 enum-told c = search needs
 
--- src/lib.rt:236:9
 judge-end-requires : tie.Need-judge-end-requires
 judge-end-requires c κs = search needs
 
--- src/lib.rt:237:27
 enum-known-end : tie.Need-enum-known-end
 enum-known-end c = search needs
 
--- src/lib.rt:238:9
 returns-4 : tie.Need-returns-4
 returns-4 c =
     let x = c .before .before .before .before in
@@ -95,19 +78,15 @@ returns-4 c =
 enum-told-2 : tie.Need-enum-told-2
 enum-told-2 c = search needs
 
--- src/lib.rt:240:9
 columns-requires : tie.Need-columns-requires
 columns-requires c κs = (bytes-pass (bytes-told c), end-pass c)
 
--- src/lib.rt:241:9
 judge-fields-requires : tie.Need-judge-fields-requires
 judge-fields-requires c κs = (bytes-pass (bytes-told (c .before)), end-pass (c .before))
 
--- src/lib.rt:242:27
 enum-known-fields : tie.Need-enum-known-fields
 enum-known-fields c = search needs
 
--- src/lib.rt:243:9
 returns-5 : tie.Need-returns-5
 returns-5 c =
     let y = c .before .before .before .before .before in
@@ -119,7 +98,6 @@ returns-5 c =
 enum-told-3 : tie.Need-enum-told-3
 enum-told-3 c = search needs
 
--- src/lib.rt:246:9
 returns-6 : tie.Need-returns-6
 returns-6 c =
     let z = c .before in
@@ -128,11 +106,9 @@ returns-6 c =
     load-refused _ _
     (bad-order _ _ (sized x .before .if1 .left) (sized x .if2 .left) (bytes-pass x) (end-pass y) (counted z .columns .ensures) (grid-pass z) (c .if3 .taken))
 
--- src/lib.rt:248:22
 mul-if4 : tie.Need-mul-if4
 mul-if4 c = omega (arith, square-small _ (c .if3 .left))
 
--- src/lib.rt:249:9
 returns-7 : tie.Need-returns-7
 returns-7 c =
     let z = c .before .before in
@@ -141,7 +117,6 @@ returns-7 c =
     load-refused _ _
     (bad-room _ _ (sized x .before .if1 .left) (sized x .if2 .left) (bytes-pass x) (end-pass y) (counted z .columns .ensures) (grid-pass z) (c .before .if3 .left) (c .if4 .taken))
 
--- src/lib.rt:251:5
 fill-requires : tie.Need-fill-requires
 fill-requires c κs =
     let z = c .before .before .before in
@@ -149,11 +124,9 @@ fill-requires c κs =
     let g = grid-passed _ _ (grid-pass z) in
     (bytes-pass (bytes-told y), (end-pass y, (g .numbers, omega (arith, cells-length _ _ g))))
 
--- src/lib.rt:222:1
 same-length : tie.Need-same-length
 same-length c = search needs
 
--- src/lib.rt:222:1
 returns-8 : tie.Need-returns-8
 returns-8 c =
     let z = c .before .before .before .before .before .before in

@@ -1,9 +1,9 @@
 -- `put_row` writes a row: its first field, then a comma and a field for each column behind it, then the line break. The loop's invariant: the
 -- fields before column j are written. Assumes nothing.
-use native.Mathlib.Omega.{arith}
-use Prim.Native.Nat.{ℕ, _+_, _-_, _≤_}
-use mathlib.Core.Path.{_≡_, ap, sym, _∙_}
+use mathlib.Core.Path.{_∙_}
 use mathlib.Core.List.{List}
+use Prim.Native.Nat.{ℕ, _+_, _-_, _≤_}
+use native.Mathlib.Omega.{arith}
 use lib.ListN.{length, length-set}
 use denote.Ref.{now}
 use Rattle.csv.specs.Records.{lineText}
@@ -12,10 +12,6 @@ use Rattle.csv.proofs.Writing.{Writing, write-first, write-length, write-room}
 use Rattle.csv.proofs.Saving.{fieldsLeft, row-begun, row-more, row-done, room-first, room-next, room-comma, room-last}
 use Rattle.text.proofs.put_row.Statement.{statement}
 use Rattle.text.proofs.put_row.Tie as tie
-use Rattle.text.proofs.put_row.Reads as reads
-use Rattle.text.proofs.put_row.Lts as lts
-use Rattle.tables.proofs.times.Reads as times-reads
-use Rattle.text.proofs.put_number.Reads as put-number-reads
 
 abbrev Inv-loop : tie.InvT-loop
 Inv-loop cells n i text₀ start at₀ j₀ text at j = Writing text₀ at₀ (fieldsLeft n cells i 2) (fieldsLeft n cells i j) text at × (2 ≤ j) × (j ≤ n + 1)
@@ -47,13 +43,11 @@ room c = write-room (c .loop .inv .0) (write-room (begun (c .before)) (start-of 
 ending : (c : tie.After-loop Inv-loop μ-loop) → c .before .loop .at + 2 ≤ length (c .before .loop .text)
 ending c = room-last _ _ _ _ _ _ (c .loop-test .left) (room (c .before))
 
--- src/lib.rt:320:42
 times-requires : tie.Need-times-requires Inv-loop μ-loop
 times-requires c κs =
     let s = c .before .before .before in
     (s .pre .0, (s .pre .1 .0, (omega arith, let e = s .pre .1 .0 in omega arith)))
 
--- src/lib.rt:320:9
 put-number-requires : tie.Need-put-number-requires Inv-loop μ-loop
 put-number-requires c κs =
     let s = c .before .before .before .before in
@@ -62,27 +56,25 @@ put-number-requires c κs =
     let r = c .times .ensures .1 in
     (omega arith, room-first _ _ _ _ _ _ (c .times .ensures .0) (omega arith) (s .pre .1 .1))
 
--- src/lib.rt:322:5
 loop-holds : tie.Need-loop-holds Inv-loop μ-loop
 loop-holds c =
     let o = one c in
     (write-first _ _ _, omega arith, omega arith)
 
--- src/lib.rt:323:9
 slice-write-text : tie.Need-slice-write-text Inv-loop μ-loop
 slice-write-text c = omega (arith, room-comma _ _ _ _ _ _ (c .loop-test .taken) (room (c .before)))
 
--- src/lib.rt:324:31
 add-put-number : tie.Need-add-put-number Inv-loop μ-loop
 add-put-number c = omega (arith, room-comma _ _ _ _ _ _ (c .before .loop-test .taken) (room (c .before .before)), write-length (c .before .before .loop .inv .0), write-length (begun (c .before .before .before)))
 
--- src/lib.rt:324:39
 times-requires-2 : tie.Need-times-requires-2 Inv-loop μ-loop
 times-requires-2 c κs =
     let s = start-of (c .before .before .before) in
-    (s .pre .0, (s .pre .1 .0, (let e = c .before .before .loop .inv .1 in omega arith, c .before .loop-test .taken)))
+    let row = s .pre .1 .0 in
+    let column = c .before .before .loop .inv .1 in
+    let last = c .before .loop-test .taken in
+    (s .pre .0, (omega arith, omega arith))
 
--- src/lib.rt:324:9
 put-number-requires-2 : tie.Need-put-number-requires-2 Inv-loop μ-loop
 put-number-requires-2 c κs =
     let l = c .before .before .before in
@@ -91,17 +83,14 @@ put-number-requires-2 c κs =
     let r = c .times2 .ensures .1 in
     (omega arith, rw length-set (room-next _ _ _ _ _ _ _ (c .times2 .ensures .0) (c .before .before .loop-test .taken) (room l)))
 
--- src/lib.rt:325:9
 add-j : tie.Need-add-j Inv-loop μ-loop
 add-j c =
     let small = start-of (c .before .before .before .before .before .before .before) .pre .0 .order in
     omega arith
 
--- src/lib.rt:322:5
 loop-less : tie.Need-loop-less Inv-loop μ-loop
 loop-less c = omega arith
 
--- src/lib.rt:322:5
 loop-again : tie.Need-loop-again Inv-loop μ-loop
 loop-again c =
     let l = c .before .before .before .before .before .before in
@@ -111,27 +100,21 @@ loop-again c =
       omega arith,
     )
 
--- src/lib.rt:327:5
 slice-write-text-2 : tie.Need-slice-write-text-2 Inv-loop μ-loop
 slice-write-text-2 c = omega (arith, ending c)
 
--- src/lib.rt:328:10
 add-text : tie.Need-add-text Inv-loop μ-loop
 add-text c = omega (arith, ending c, write-length (c .before .loop .inv .0), write-length (begun (c .before .before)))
 
--- src/lib.rt:328:5
 slice-write-text-3 : tie.Need-slice-write-text-3 Inv-loop μ-loop
 slice-write-text-3 c = rw length-set (omega (arith, ending c))
 
--- src/lib.rt:329:5
 add-result : tie.Need-add-result Inv-loop μ-loop
 add-result c = omega (arith, ending c, write-length (c .before .loop .inv .0), write-length (begun (c .before .before)))
 
--- src/lib.rt:313:1
 same-length : tie.Need-same-length Inv-loop μ-loop
 same-length c = simp length-set (write-length (c .before .loop .inv .0) ∙ write-length (begun (c .before .before)))
 
--- src/lib.rt:313:1
 returns : tie.Need-returns Inv-loop μ-loop
 returns c = row-done _ _ _ _ (c .loop-test .left) (begun (c .before .before)) (c .before .loop .inv .0)
 

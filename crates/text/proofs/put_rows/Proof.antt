@@ -1,18 +1,12 @@
 -- `put_rows` writes the text of a table row by row. The loop's invariant: the rows before row i are written.
 -- Assumes nothing.
+use Prim.Native.Nat.{_+_, _-_, _≤_}
 use native.Mathlib.Omega.{arith}
-use Prim.Native.Nat.{ℕ, _+_, _-_, _≤_}
-use mathlib.Core.Path.{_≡_, ap, sym, _∙_}
-use lib.ListN.{length}
-use denote.Ref.{now}
 use Rattle.csv.specs.Tables.{tableText}
-use Rattle.csv.proofs.Writing.{Writing, write-length, write-room, sets-overwritten}
+use Rattle.csv.proofs.Writing.{Writing, write-length, write-room}
 use Rattle.csv.proofs.Saving.{rowsLeft, rows-begun, rows-more, rows-done, rows-room}
 use Rattle.text.proofs.put_rows.Statement.{statement}
 use Rattle.text.proofs.put_rows.Tie as tie
-use Rattle.text.proofs.put_rows.Reads as reads
-use Rattle.text.proofs.put_rows.Lts as lts
-use Rattle.text.proofs.put_row.Reads as put-row-reads
 
 abbrev Inv-loop : tie.InvT-loop
 Inv-loop cells n text₀ at₀ i₀ text at i = Writing text₀ 0 (tableText n cells) (rowsLeft n cells i) text at × (1 ≤ i) × (i ≤ n + 1)
@@ -20,41 +14,34 @@ Inv-loop cells n text₀ at₀ i₀ text at i = Writing text₀ 0 (tableText n c
 abbrev μ-loop : tie.MeasureT-loop
 μ-loop cells n text₀ at₀ i₀ text at i = n + 1 - i
 
--- src/lib.rt:341:5
 loop-holds : tie.Need-loop-holds Inv-loop μ-loop
 loop-holds c =
     let small = c .before .before .pre .0 .order in
     (rows-begun _ _ _, omega arith, omega arith)
 
--- src/lib.rt:342:9
 put-row-requires : tie.Need-put-row-requires Inv-loop μ-loop
 put-row-requires c κs =
     let l = c .before .before in
     let s = c .before .before .before .before .before in
     (s .pre .0, ((l .loop .inv .1, c .before .loop-test .taken), rows-room _ _ _ _ _ (c .before .loop-test .taken) (write-room (l .loop .inv .0) (omega (arith, s .pre .1)))))
 
--- src/lib.rt:343:9
 add-i : tie.Need-add-i Inv-loop μ-loop
 add-i c =
     let small = c .before .before .before .before .before .before .before .before .pre .0 .order in
     omega arith
 
--- src/lib.rt:341:5
 loop-less : tie.Need-loop-less Inv-loop μ-loop
 loop-less c = omega arith
 
--- src/lib.rt:341:5
 loop-again : tie.Need-loop-again Inv-loop μ-loop
 loop-again c =
     let l = c .before .before .before .before .before in
     let h = c .before .before .before .before .loop-test .taken in
     (rows-more _ _ _ h (l .loop .inv .0) (c .before .before .put-row .ensures .1) (c .before .before .put-row .ensures .0), omega arith, omega arith)
 
--- src/lib.rt:333:1
 same-length : tie.Need-same-length Inv-loop μ-loop
 same-length c = write-length (c .before .loop .inv .0)
 
--- src/lib.rt:333:1
 returns : tie.Need-returns Inv-loop μ-loop
 returns c =
     let s = c .before .before .before .before in

@@ -1,10 +1,10 @@
 -- `read_number` answers the value of a field. The loop's invariant: the value of the whole is what the digits from i on go on to from v, which
 -- is below 10 to the number of digits read. Assumes nothing.
-use native.Mathlib.Omega.{arith}
-use Prim.Native.Nat.{ℕ, _+_, _-_, _*_, _^_, _≤_, _<_}
 use mathlib.Core.Path.{_≡_, refl, ap, sym, _∙_}
 use mathlib.Core.Bool.{true}
 use mathlib.Core.List.{[]}
+use Prim.Native.Nat.{_+_, _-_, _^_, _≤_, _<_}
+use native.Mathlib.Omega.{arith}
 use lib.ListN.{length, drop, getD}
 use denote.Ref.{now}
 use Rattle.csv.specs.Decimals.{isDigit, digits, value, valueFrom}
@@ -12,8 +12,6 @@ use Rattle.csv.proofs.Fields.{empty, digit-here, digits-more, bound-more, bound
 use Rattle.csv.proofs.Rows.{digit-range}
 use Rattle.text.proofs.read_number.Statement.{statement}
 use Rattle.text.proofs.read_number.Tie as tie
-use Rattle.text.proofs.read_number.Reads as reads
-use Rattle.text.proofs.read_number.Lts as lts
 
 abbrev Inv-loop : tie.InvT-loop
 Inv-loop text at end v₀ i₀ v i = (at ≤ i) × (i + length (digits (drop i text)) ≡ end) × (value (digits (drop at text)) ≡ valueFrom v (digits (drop i text))) × (v < 10 ^ (i - at))
@@ -32,7 +30,6 @@ turn c =
     let here = digit-here (now (s .args .text)) (c .before .loop .i) (omega arith) in
     (here .0, here .1, omega (arith, bound-two (c .before .loop .i - s .args .at) (omega arith)))
 
--- src/lib.rt:118:5
 loop-holds : tie.Need-loop-holds Inv-loop μ-loop
 unfolding value
 loop-holds c =
@@ -40,35 +37,27 @@ loop-holds c =
     let z : c .args .at - c .args .at ≡ 0 = omega arith in
     (omega arith, omega arith, refl, rw z (omega arith))
 
--- src/lib.rt:119:13
 mul-v : tie.Need-mul-v Inv-loop μ-loop
 mul-v c = omega (arith, turn c .2)
 
--- src/lib.rt:119:23
 shared-slice-read-v : tie.Need-shared-slice-read-v Inv-loop μ-loop
 shared-slice-read-v c = turn (c .before) .0
 
--- src/lib.rt:119:23
 sub-v : tie.Need-sub-v Inv-loop μ-loop
 sub-v c = digit-range _ (turn (c .before) .1) .0
 
--- src/lib.rt:119:22
 cast-v : tie.Need-cast-v Inv-loop μ-loop
 cast-v c = omega (arith, digit-range _ (turn (c .before) .1) .1)
 
--- src/lib.rt:119:13
 add-v : tie.Need-add-v Inv-loop μ-loop
 add-v c = omega (arith, turn (c .before) .2, digit-range _ (turn (c .before) .1) .1)
 
--- src/lib.rt:120:9
 add-i : tie.Need-add-i Inv-loop μ-loop
 add-i c = omega (arith, turn (c .before) .0)
 
--- src/lib.rt:118:5
 loop-less : tie.Need-loop-less Inv-loop μ-loop
 loop-less c = omega arith
 
--- src/lib.rt:118:5
 loop-again : tie.Need-loop-again Inv-loop μ-loop
 unfolding valueFrom
 loop-again c =
@@ -83,7 +72,6 @@ loop-again c =
       rw k (bound-more _ _ _ (l .loop .inv .3) (omega (arith, digit-range _ (h .1) .1))),
     )
 
--- src/lib.rt:110:1
 returns : tie.Need-returns Inv-loop μ-loop
 unfolding valueFrom
 returns c =

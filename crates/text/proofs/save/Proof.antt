@@ -1,22 +1,16 @@
 -- `save` asks 1, 2, 3 and 28 in their order, and writes the text where all pass.
 -- Assumes nothing.
-use native.Mathlib.Omega.{arith}
 use mathlib.Core.Path.{_≡_, ap, sym, _∙_}
 use mathlib.Core.Option.{none}
 use denote.Ref.{now}
+use borrow.Author.Needs.{needs}
 use Rattle.semigroups.specs.Questions.{cellsRefusal}
 use Rattle.semigroups.proofs.Tables.{filled}
 use Rattle.tables.specs.Answers.{verdictRefusal}
 use Rattle.csv.specs.Calls.{gives}
 use Rattle.csv.proofs.Saving.{bad-table, bad-room, save-given}
-use borrow.Author.Needs.{needs}
 use Rattle.text.proofs.save.Statement.{statement}
 use Rattle.text.proofs.save.Tie as tie
-use Rattle.text.proofs.save.Reads as reads
-use Rattle.text.proofs.save.Lts as lts
-use Rattle.tables.proofs.check_cells.Reads as check-cells-reads
-use Rattle.text.proofs.put_rows.Reads as put-rows-reads
-use Rattle.text.proofs.text_length.Reads as text-length-reads
 
 -- 1, 2 and 3 have passed.
 module _ (c : tie.After-enum-told) where
@@ -26,42 +20,34 @@ module _ (c : tie.After-enum-told) where
   table-passes : cellsRefusal (start-of .args .order) (now (start-of .args .cells)) ≡ none
   table-passes = sym (c .before .before .check-cells .ensures) ∙ ap verdictRefusal (c .enum-told .given .1)
 
--- src/lib.rt:354:9
 check-cells-requires : tie.Need-check-cells-requires
 check-cells-requires c κs = search needs
 
--- src/lib.rt:355:37
 enum-known-verdict : tie.Need-enum-known-verdict
 enum-known-verdict c = search needs
 
--- src/lib.rt:356:9
 returns : tie.Need-returns
 returns c = bad-table _ _ _ (sym (c .before .before .before .check-cells .ensures) ∙ ap verdictRefusal (c .before .verdict .given .1))
 
 enum-told : tie.Need-enum-told
 enum-told c = search needs
 
--- src/lib.rt:358:21
 text-length-requires : tie.Need-text-length-requires
 text-length-requires c κs = filled _ _ (table-passes c)
 
--- src/lib.rt:359:9
 returns-2 : tie.Need-returns-2
 returns-2 c =
     let x = c .before .before in
     bad-room _ _ _ (table-passes x) (rw (c .before .text-length .ensures) at (c .if1 .taken))
 
--- src/lib.rt:361:19
 put-rows-requires : tie.Need-put-rows-requires
 put-rows-requires c κs =
     let x = c .before .before .before in
     (filled _ _ (table-passes x), rw (c .before .before .text-length .ensures) at (c .before .if1 .left))
 
--- src/lib.rt:350:1
 same-length : tie.Need-same-length
 same-length c = search needs
 
--- src/lib.rt:350:1
 returns-3 : tie.Need-returns-3
 returns-3 c =
     let x = c .before .before .before .before .before .before in
