@@ -1,27 +1,32 @@
 -- The questions of a search in the code's order, and what the marked search finds. Assumes nothing.
+-- ---- the questions
+-- ---- what the search finds
+-- Where the orders do not fit there is no map.
+-- The search over the marks of a kind finds what is asked for, where the orders fit.
+-- ---- a call behind its questions
+-- What is asked of the search is what is asked of the call.
+-- ---- what is said and left
 use mathlib.Core.Path.{_≡_, refl, sym, ap, ap₂, _∙_, subst}
-use mathlib.Core.Bool.{Bool, true, false, cond}
+use mathlib.Core.Bool.{Bool, true, false}
 use mathlib.Core.List.{List, []}
 use mathlib.Core.Option.{Option, none, some, orElse}
 use Prim.Native.Nat.{ℕ, _≤_, _<_}
-use native.Mathlib.Omega.{arith}
-use borrow.Author.Tests.{leb-true, leb-false, eqb-true, eqb-false, le-leb, lt-leb, eq-eqb, ne-eqb}
-use lib.Dec.{eqb, leb}
-use lib.ListN.{length}
+use borrow.Author.Tests.{leb-false, eqb-true, eqb-false, le-leb, lt-leb, eq-eqb, ne-eqb}
 use Rattle.semigroups.specs.Lists.{at, find}
-use Rattle.semigroups.specs.Tables.{Product, product, Element, Closed, Accepted, Filled}
+use Rattle.semigroups.specs.Tables.{Product, product, Element, Closed}
 use Rattle.semigroups.specs.Scratch.{scratchSize, marked, scratchAfter}
-use Rattle.semigroups.specs.Questions.{Refusal, no, ask, onSide, firstNo, tableRefusal, tablesRefusal, checkRefusal, searchRefusal}
-use Rattle.semigroups.specs.Maps.{Embedding, Kind, embeddings, isomorphisms, maps, Ask, first, next, earliest}
+use Rattle.semigroups.specs.Questions.{Refusal, no, ask, firstNo, tablesRefusal, checkRefusal, searchRefusal}
+use Rattle.semigroups.specs.Maps.{Embedding, Kind, embeddings, isomorphisms, maps, Ask, earliest}
 use Rattle.semigroups.specs.Candidates.{candidate}
 use Rattle.semigroups.specs.Search.{search as searched}
-use Rattle.semigroups.proofs.Tables.{orElse-none, map-none, accepted, accepted-closed}
-use Rattle.semigroups.proofs.Maps.{no-embedding, no-isomorphism, one-order, embedding-order}
+use Rattle.semigroups.proofs.Maps.{no-embedding, no-isomorphism, one-order}
 use Rattle.semigroups.proofs.Candidates.{index-period-sound, profile-sound, marked-candidate}
 use Rattle.semigroups.proofs.Search.{search-earliest}
-use Rattle.search.specs.Answers.{orderFits}
-
--- ---- the questions
+use Rattle.semigroups.specs.Walks.{found, nothing}
+use Rattle.backtrack.specs.declared.Tested.{Tested}
+use Rattle.backtrack.specs.State.{foundMap, asked}
+use Rattle.search.specs.Calls.{Lent, Request, askOf, answerOf, scratchOf, answered}
+use Rattle.search.specs.Answers.{requestOf, orderFits}
 
 module _ (m : ℕ) (source : List ℕ) (n : ℕ) (target : List ℕ) (k l : ℕ) where
   pub tables-refused : (r : Refusal) → tablesRefusal m source n target ≡ some r → searchRefusal m source n target k l ≡ some r
@@ -40,26 +45,10 @@ module _ (m : ℕ) (source : List ℕ) (n : ℕ) (target : List ℕ) (k l : ℕ)
   unfolding searchRefusal checkRefusal firstNo orElse
   none-refused e q h = rw (e, eq-eqb k m q, le-leb (scratchSize m n) l h)
 
-  -- Both tables are accepted where no question about them fails.
-  pub both-accepted : tablesRefusal m source n target ≡ none → Accepted m source × Accepted n target
-  unfolding tablesRefusal firstNo
-  both-accepted e =
-      let first = onSide 1 (tableRefusal m source) in
-      let second = onSide 2 (tableRefusal n target) in
-      let p = orElse-none first (orElse second none) e in
-      let q = orElse-none second none (p .1) in
-      (accepted m source (map-none _ (tableRefusal m source) (p .0)), accepted n target (map-none _ (tableRefusal n target) (q .0)))
-
-pub accepted-filled : (n : ℕ) (cells : List ℕ) → Accepted n cells → Filled n cells
-accepted-filled n cells a = record { order = (a .from-one, a .to-limit); size = a .size; in-range = a .in-range }
-
--- ---- what the search finds
-
 earliest-empty : (ask : Ask) → earliest ask [] ≡ none
 unfolding earliest find
 earliest-empty ask = refl
 
--- Where the orders do not fit there is no map.
 pub unfit : (kind : Kind) (m : ℕ) (s : Product) (n : ℕ) (t : Product) → orderFits kind m n ≡ false → (ask : Ask) → earliest ask (maps kind m s n t) ≡ none
 unfit embeddings m s n t e ask = ap (earliest ask) (no-embedding m s n t (leb-false m n e)) ∙ earliest-empty ask
 unfit isomorphisms m s n t e ask = ap (earliest ask) (no-isomorphism m s n t (eqb-false m n e)) ∙ earliest-empty ask
@@ -82,7 +71,6 @@ found-isomorphism n s t source target scratch ask =
     (marked-sound n s n t source target scratch (candidate isomorphisms n s n t) (profile-sound n s t source target)) ask
     ∙ ap (earliest ask) (sym (one-order n s t))
 
--- The search over the marks of a kind finds what is asked for, where the orders fit.
 pub finds : (kind : Kind) (m : ℕ) (s : Product) (n : ℕ) (t : Product) → Closed m s → Closed n t → (scratch : List ℕ) → orderFits kind m n ≡ true → (ask : Ask)
     → searched s t (marked n (scratchAfter m n (candidate kind m s n t) scratch)) ask n m [] ≡ earliest ask (maps kind m s n t)
 finds embeddings m s n t source target scratch e ask = found-embedding m s n t source target scratch ask
@@ -90,3 +78,37 @@ finds isomorphisms m s n t source target scratch e ask =
     let q = eqb-true m n e in
     subst (λ (k : ℕ). Closed k t → searched s t (marked k (scratchAfter m k (candidate isomorphisms m s k t) scratch)) ask k m [] ≡ earliest ask (maps isomorphisms m s k t)) q
     (λ target. found-isomorphism m s t source target scratch ask) target
+
+asked-request : (later : Bool) (bytes : List ℕ) → asked later bytes ≡ askOf (requestOf later) bytes
+asked-request true bytes = refl
+asked-request false bytes = refl
+
+module _ (kind : Kind) (later : Bool) (l : Lent) (source : Closed (l .m) (product (l .m) (l .source))) (target : Closed (l .n) (product (l .n) (l .target))) where
+  abbrev request : Request
+  request = requestOf later
+
+  -- Where the orders do not fit, there is none.
+  pub answer-unfit : orderFits kind (l .m) (l .n) ≡ false → answerOf kind request l ≡ none
+  answer-unfit e = unfit kind (l .m) (product (l .m) (l .source)) (l .n) (product (l .n) (l .target)) e (askOf request (l .map))
+
+  -- Else the map that the marked search finds is the map asked for.
+  pub answer-found : orderFits kind (l .m) (l .n) ≡ true → (scratch : List ℕ) → scratch ≡ scratchOf kind request l → (r : Tested)
+      → foundMap r ≡ searched (product (l .m) (l .source)) (product (l .n) (l .target)) (marked (l .n) scratch) (asked later (l .map)) (l .n) (l .m) []
+      → foundMap r ≡ answerOf kind request l
+  answer-found e scratch es r a =
+      a ∙ ap₂ (λ (b : List ℕ) (q : Ask). searched (product (l .m) (l .source)) (product (l .n) (l .target)) (marked (l .n) b) q (l .n) (l .m) []) es (asked-request later (l .map))
+      ∙ finds kind (l .m) (product (l .m) (l .source)) (l .n) (product (l .n) (l .target)) source target (l .scratch) e (askOf request (l .map))
+
+module _ (o : Option (List ℕ)) (bytes scratch : List ℕ) where
+  pub nothing-left : o ≡ none → (nothing ≡ answered o bytes scratch .says) × (bytes ≡ answered o bytes scratch .map)
+  nothing-left e = (ap (λ (q : Option (List ℕ)). answered q bytes scratch .says) (sym e), ap (λ (q : Option (List ℕ)). answered q bytes scratch .map) (sym e))
+
+  pub found-left : (f : List ℕ) → o ≡ some f → (found ≡ answered o bytes scratch .says) × (f ≡ answered o bytes scratch .map)
+  found-left f e = (ap (λ (q : Option (List ℕ)). answered q bytes scratch .says) (sym e), ap (λ (q : Option (List ℕ)). answered q bytes scratch .map) (sym e))
+
+  pub scratch-left : answered o bytes scratch .scratch ≡ scratch
+  scratch-left = go o
+    where
+      go : (q : Option (List ℕ)) → answered q bytes scratch .scratch ≡ scratch
+      go none = refl
+      go (some f) = refl

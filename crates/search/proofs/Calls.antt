@@ -1,20 +1,19 @@
 -- What a call of a search means, from its definition alone: the map found is of the kind asked for and the earliest; "nothing" means that there is
 -- none; only a failed question refuses. Assumes nothing.
-use mathlib.Core.Path.{_≡_, refl, sym, ap, _∙_, subst}
+use mathlib.Core.Path.{_≡_, refl, ap}
 use mathlib.Core.Bool.{true}
 use mathlib.Core.Logic.{_↔_}
 use mathlib.Core.List.{List}
 use mathlib.Core.Option.{Option, none, some}
 use Prim.Native.Nat.{ℕ}
 use native.Mathlib.Omega.{arith}
-use lib.ListN.{length}
 use Rattle.semigroups.specs.Lists.{earlier, Earliest}
-use Rattle.semigroups.specs.Tables.{product, Accepted}
-use Rattle.semigroups.specs.Questions.{Refusal, tableRefusal, searchRefusal}
-use Rattle.semigroups.specs.Maps.{Kind, IsMap, maps, beyond, earliest}
+use Rattle.semigroups.specs.Tables.{product}
+use Rattle.semigroups.specs.Questions.{Refusal}
+use Rattle.semigroups.specs.Maps.{Kind, IsMap, earliest}
 use Rattle.semigroups.specs.Walks.{Said, refused, found, nothing}
-use Rattle.semigroups.proofs.Maps.{earliest-found, earliest-none, first-earliest, first-none, next-earliest, next-none}
-use Rattle.search.specs.Calls.{Lent, Called, Request, theFirst, theNext, askOf, refusalOf, answerOf, scratchOf, answered, asked, call}
+use Rattle.semigroups.proofs.Maps.{first-earliest, first-none, next-earliest, next-none}
+use Rattle.search.specs.Calls.{Lent, Called, Request, theFirst, theNext, refusalOf, answerOf, scratchOf, answered, asked, call}
 
 module _ (kind : Kind) (l : Lent) where
   -- A map of the kind asked for, between the two tables that are lent.

@@ -1,5 +1,10 @@
 -- Demand 3 holds for all accepted pairs of tables of one order, at the call that the contract of `next_isomorphism` cites. Assumes nothing.
-use mathlib.Core.Path.{_≡_, refl, sym, ap, ap₂, _∙_, subst}
+-- What a call of a walk says and leaves is what "next" means for the two tables, or its refusal.
+-- Demand 3.
+-- ---- an instance, to show that it is not empty
+-- The degree 2 table onto itself, with any scratch buffer.
+-- What four calls say and leave, the second with too short a scratch buffer: two maps are found, one call is refused, and then there is none.
+use mathlib.Core.Path.{_≡_, refl, sym, ap, _∙_, subst}
 use mathlib.Core.Logic.{_↔_}
 use mathlib.Core.List.{List, [], _∷_, map, flatMap, List·Memᴰ, Memᴰ·of-map}
 use mathlib.Core.Option.{Option, none, some, orElse}
@@ -17,13 +22,12 @@ use Rattle.semigroups.specs.Cases.{two}
 use Rattle.semigroups.proofs.Tables.{accepted-closed}
 use Rattle.semigroups.proofs.Transformations.{degrees-accepted}
 use Rattle.semigroups.proofs.Maps.{maps-increasing, maps-exactly}
-use Rattle.semigroups.proofs.Isomorphisms as iso
-use Rattle.semigroups.proofs.Walks as walks
-use Rattle.search.specs.Calls.{Lent, Called, theNext, refusalOf, answerOf, scratchOf, answered, asked, call}
+use Rattle.search.specs.Calls.{Called, theNext, refusalOf, answerOf, scratchOf, answered, asked, call}
 use Rattle.search.specs.Walks.{Beside, lentOn, nextIsomorphism, refusal, Lends, IsWalk, zeros, fullList, Demand3}
 use Rattle.search.proofs.Calls.{refused-exactly}
+use Rattle.semigroups.proofs.Isomorphisms as iso
+use Rattle.semigroups.proofs.Walks as walks
 
--- What a call of a walk says and leaves is what "next" means for the two tables, or its refusal.
 next-answers : (m : ℕ) (source target : List ℕ) (c : Beside) → (refusal m c ≡ none → Lends m source target c) → (bytes : List ℕ) → length bytes ≡ m
     → nextIsomorphism c bytes ≡ nextOutcome (refusal m c) (fullList m source target) bytes
 unfolding nextIsomorphism call
@@ -56,7 +60,6 @@ next-answers m source target c lends bytes size =
     by-refusal (some r) h = refl
     by-refusal none h = by-answer (answerOf isomorphisms theNext (lentOn c bytes)) (scratchOf isomorphisms theNext (lentOn c bytes)) ∙ ap (λ (o : Option (List ℕ)). outcomeOf {R = Refusal} o bytes) (full (h refl))
 
--- Demand 3.
 pub demand-3 : (m : ℕ) (source target : List ℕ) → Accepted m source → Accepted m target → Demand3 m source target
 demand-3 m source target a b =
     record {
@@ -85,9 +88,6 @@ demand-3 m source target a b =
         subst (λ (k : ℕ). (call isomorphisms theNext (lentOn c bytes) .says ≡ refused r) ↔ (searchRefusal (c .m) (c .source) (c .n) (c .target) k (length (c .scratch)) ≡ some r)) size
         (refused-exactly isomorphisms (lentOn c bytes) theNext r)
 
--- ---- an instance, to show that it is not empty
-
--- The degree 2 table onto itself, with any scratch buffer.
 ontoItself : List ℕ → Beside
 ontoItself scratch = record { source = two .cells; m = two .order; target = two .cells; n = two .order; scratch = scratch }
 
@@ -110,7 +110,6 @@ lends-two c k e =
       target-order = sym (ap (λ (b : Beside). b .n) q);
     }
 
--- What four calls say and leave, the second with too short a scratch buffer: two maps are found, one call is refused, and then there is none.
 answers-two : List (Outcome Refusal)
 answers-two =
     record { says = found; buffer = 1 ∷ 2 ∷ 3 ∷ 4 ∷ [] } ∷ record { says = refused (no 6 []); buffer = 1 ∷ 2 ∷ 3 ∷ 4 ∷ [] }

@@ -61,8 +61,10 @@ abbrev pub asked : Option Refusal → Lent → Called → Called
 asked (some r) l c = record { says = refused r; map = l .map; scratch = l .scratch }
 asked none l c = c
 
+-- A call behind its questions.
+abbrev pub behind : Kind → Request → Lent → Called
+behind kind request l = answered (answerOf kind request l) (l .map) (scratchOf kind request l)
+
 -- A call of a search.
 unfoldable pub call : Kind → Request → Lent → Called
-call kind request l =
-    let answer = answered (answerOf kind request l) (l .map) (scratchOf kind request l) in
-    asked (refusalOf kind request l) l answer
+call kind request l = let answer = behind kind request l in asked (refusalOf kind request l) l answer

@@ -7,7 +7,7 @@ ghost use Rattle.semigroups.specs.Tables.{product, Accepted};
 ghost use Rattle.semigroups.specs.Scratch.{scratchSize, scratchAfter};
 ghost use Rattle.semigroups.specs.Maps.{embeddings, isomorphisms};
 ghost use Rattle.semigroups.specs.Candidates.{candidate};
-ghost use Rattle.search.specs.Calls.{theFirst, theNext, lend, answerOf, scratchOf, answered, call};
+ghost use Rattle.search.specs.Calls.{theFirst, theNext, lend, behind, call};
 ghost use Rattle.search.specs.Answers.{answerSays, kindOf, requestOf, orderFits};
 use tables::Fault;
 use tables::PairVerdict;
@@ -52,7 +52,7 @@ fn fill(kind: Kind, source: &[u8], m: usize, target: &[u8], n: usize, scratch: &
 
 // Writes the images of the m elements.
 fn write_map(map: &mut [u8], image: &[u8; 120], m: usize)
-    requires { ⌜ (length (now map) ≡ m) × (m ≤ 120) ⌝ }
+    requires { ⌜ (length (now map) ≡ m) × (m ≤ 120) × (length (now image) ≡ 120) ⌝ }
     ensures map { λ _. ⌜ now (map .exit) ≡ take m (now (image .entry)) ⌝ }
 {
     let mut i: usize = 0;
@@ -75,9 +75,9 @@ fn answer(
 ) -> SearchAnswer
     requires { ⌜ Accepted m (now source) × Accepted n (now target) ⌝ }
     requires { ⌜ (length (now map) ≡ m) × (scratchSize m n ≤ length (now scratch)) ⌝ }
-    ensures answer { λ r. ⌜ answerSays r ≡ answered (answerOf (kindOf kind) (requestOf next) (lend (now (source .entry)) m (now (target .entry)) n (now (map .entry)) (now (scratch .entry)))) (now (map .entry)) (now (scratch .entry)) .says ⌝ }
-    ensures map { λ _. ⌜ now (map .exit) ≡ answered (answerOf (kindOf kind) (requestOf next) (lend (now (source .entry)) m (now (target .entry)) n (now (map .entry)) (now (scratch .entry)))) (now (map .entry)) (now (scratch .entry)) .map ⌝ }
-    ensures scratch { λ _. ⌜ now (scratch .exit) ≡ scratchOf (kindOf kind) (requestOf next) (lend (now (source .entry)) m (now (target .entry)) n (now (map .entry)) (now (scratch .entry))) ⌝ }
+    ensures answer { λ r. ⌜ answerSays r ≡ behind (kindOf kind) (requestOf next) (lend (now (source .entry)) m (now (target .entry)) n (now (map .entry)) (now (scratch .entry))) .says ⌝ }
+    ensures map { λ _. ⌜ now (map .exit) ≡ behind (kindOf kind) (requestOf next) (lend (now (source .entry)) m (now (target .entry)) n (now (map .entry)) (now (scratch .entry))) .map ⌝ }
+    ensures scratch { λ _. ⌜ now (scratch .exit) ≡ behind (kindOf kind) (requestOf next) (lend (now (source .entry)) m (now (target .entry)) n (now (map .entry)) (now (scratch .entry))) .scratch ⌝ }
 {
     fill(kind, source, m, target, n, scratch);
     if !order_fits(kind, m, n) {
