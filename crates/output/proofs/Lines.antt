@@ -8,7 +8,7 @@ use native.Mathlib.Omega.{arith}
 use lib.ListN.{length, drop, getD, set, length-append, drop-of-length-le}
 use lib.Seq.{sets, length-sets, drop-cons}
 use Rattle.semigroups.specs.Lists.{range, elements, at}
-use Rattle.semigroups.specs.Questions.{Refusal}
+use Rattle.semigroups.specs.Questions.{Refusal, no, naming}
 use Rattle.csv.specs.Decimals.{numeral}
 use Rattle.csv.specs.Records.{recordText, lineText, rowsText}
 use Rattle.csv.specs.Calls.{refused, overwritten}
@@ -94,6 +94,28 @@ pair-written before start i x q₁ e₁ q₂ e₂ q₃ e₃ =
     let all = write-last w₃ refl in
     (all .1, all .0)
 
+-- The record of a refusal that names no side: its second field is empty.
+sideless : (number : ℕ) → lineText (refusedRecord (no number [])) ≡ (refusedWord ++ 44 ∷ []) ++ ((44 ∷ numeral number) ++ 13 ∷ 10 ∷ [])
+unfolding refusedRecord
+sideless number = three-fields refusedWord [] (numeral number)
+
+pub sideless-short : (number : ℕ) → length (lineText (refusedRecord (no number []))) ≤ 14
+sideless-short number = omega (arith, ap length (sideless number) ∙ length-append (refusedWord ++ 44 ∷ []) ((44 ∷ numeral number) ++ 13 ∷ 10 ∷ []), length-append (44 ∷ numeral number) (13 ∷ 10 ∷ []), digits-few number)
+
+pub sideless-written : (before : List ℕ) (number : ℕ) {o₁ o₂ o₃ : List ℕ} {p₁ p₂ p₃ : ℕ}
+    → p₁ ≡ length (refusedWord ++ 44 ∷ []) → o₁ ≡ sets before 0 (refusedWord ++ 44 ∷ [])
+    → p₂ ≡ p₁ + length (44 ∷ numeral number) → o₂ ≡ sets o₁ p₁ (44 ∷ numeral number)
+    → p₃ ≡ p₂ + 2 → o₃ ≡ sets o₂ p₂ (13 ∷ 10 ∷ [])
+    → (p₃ ≡ length (lineText (refusedRecord (no number [])))) × (o₃ ≡ sets before 0 (lineText (refusedRecord (no number []))))
+sideless-written before number q₁ e₁ q₂ e₂ q₃ e₃ =
+    let whole = lineText (refusedRecord (no number [])) in
+    let z : 0 + length (refusedWord ++ 44 ∷ []) ≡ length (refusedWord ++ 44 ∷ []) = omega arith in
+    let w₁ = written (write-first before 0 whole) (refusedWord ++ 44 ∷ []) ((44 ∷ numeral number) ++ 13 ∷ 10 ∷ []) (sideless number) e₁ (q₁ ∙ sym z) in
+    let w₂ = written w₁ (44 ∷ numeral number) (13 ∷ 10 ∷ []) refl e₂ q₂ in
+    let w₃ = written w₂ (13 ∷ 10 ∷ []) [] refl e₃ q₃ in
+    let all = write-last w₃ refl in
+    (let r = all .1 in omega arith, all .0)
+
 -- ---- a record for each element
 
 module _ (m : ℕ) (f : List ℕ) where
@@ -147,14 +169,25 @@ module _ (m : ℕ) (f : List ℕ) where
 
 -- ---- the whole text, from the start of a buffer on
 
+-- The text of these records, of p bytes, stands in `out`; the buffer's later bytes are as before.
+pub record Written (before : List ℕ) (rs : List (List (List ℕ))) (p : ℕ) (out : List ℕ) : Type 0 where
+  pub size : p ≡ length (rowsText rs)
+  pub room : p ≤ 1095
+  pub text : out ≡ overwritten (rowsText rs) before
+
 -- One record.
-pub one-written : (before : List ℕ) (r : List (List ℕ)) {out : List ℕ} {p : ℕ} → length (lineText r) ≤ length before
-    → p ≡ length (lineText r) → out ≡ sets before 0 (lineText r)
-    → (p ≡ length (rowsText (r ∷ []))) × (out ≡ overwritten (rowsText (r ∷ [])) before)
+pub one-written : (before : List ℕ) (r : List (List ℕ)) (rs : List (List (List ℕ))) → rs ≡ r ∷ [] → length (lineText r) ≤ 17 → 1095 ≤ length before
+    → {p : ℕ} {out : List ℕ} → p ≡ length (lineText r) → out ≡ sets before 0 (lineText r) → Written before rs p out
 unfolding rowsText flatMap
-one-written before r h q e =
+one-written before r rs single short room q e =
     let same : lineText r ++ [] ≡ lineText r = append-nil (lineText r) in
-    (q ∙ ap length (sym same), e ∙ sets-overwritten before (lineText r) h ∙ ap (λ (l : List ℕ). overwritten l before) (sym same))
+    let fits : length (lineText r) ≤ length before = omega arith in
+    rw single
+    (record {
+      size = q ∙ ap length (sym same);
+      room = omega arith;
+      text = e ∙ sets-overwritten before (lineText r) fits ∙ ap (λ (l : List ℕ). overwritten l before) (sym same);
+    })
 
 found-text : (m n : ℕ) (f : List ℕ) → rowsText (foundRecords m n f) ≡ lineText (firstRecord foundWord m n) ++ rowsText (pairRecords m f)
 unfolding rowsText flatMap foundRecords
@@ -163,20 +196,22 @@ found-text m n f = refl
 pub found-short : (m n : ℕ) (f : List ℕ) → m ≤ 120 → length (rowsText (foundRecords m n f)) ≤ 1095
 found-short m n f h = omega (arith, simp length-append at (ap length (found-text m n f)), first-short foundWord m n, pairs-short m f)
 
+pub refused-record : (side a b : ℕ) (r : Refusal) → a ≡ side → b ≡ r .number → refusedRecords (naming side r) ≡ firstRecord refusedWord a b ∷ []
+unfolding refusedRecords refusedRecord firstRecord
+refused-record side a b r ea eb = rw (ea, eb)
+
 -- A file that is accepted has no record, and one that is refused has one.
-pub accepted-written : (before : List ℕ) (side : ℕ) {v : FileVerdict} {n : ℕ} → v ≡ Accepted n
-    → (0 ≡ length (rowsText (fileRecords side (verdictAnswer v)))) × (before ≡ overwritten (rowsText (fileRecords side (verdictAnswer v))) before)
+pub accepted-written : (before : List ℕ) (side : ℕ) {v : FileVerdict} {n : ℕ} → v ≡ Accepted n → Written before (fileRecords side (verdictAnswer v)) 0 before
 unfolding rowsText flatMap
-accepted-written before side e = rw e (refl, refl)
+accepted-written before side e = rw e (record { size = refl; room = omega arith; text = refl })
 
 pub refused-written : (before : List ℕ) (side : ℕ) (v : FileVerdict) (r : Refusal) → verdictAnswer v ≡ refused r → {a b p : ℕ} {out : List ℕ}
-    → a ≡ side → b ≡ r .number → 17 ≤ length before
+    → a ≡ side → b ≡ r .number → 1095 ≤ length before
     → p ≡ length (lineText (firstRecord refusedWord a b)) → out ≡ sets before 0 (lineText (firstRecord refusedWord a b))
-    → (p ≡ length (rowsText (fileRecords side (verdictAnswer v)))) × (out ≡ overwritten (rowsText (fileRecords side (verdictAnswer v))) before)
-unfolding refusedRecords refusedRecord firstRecord
-refused-written before side v r e {a} {b} ea eb h q w =
-    let short = first-short refusedWord a b in
-    rw (e, ← ea, ← eb) (one-written before (firstRecord refusedWord a b) (omega arith) q w)
+    → Written before (fileRecords side (verdictAnswer v)) p out
+refused-written before side v r e {a} {b} ea eb room q w =
+    one-written before (firstRecord refusedWord a b) (fileRecords side (verdictAnswer v)) (ap (fileRecords side) e ∙ refused-record side a b r ea eb)
+    (first-short refusedWord a b) room q w
 
 -- The records of a map that is found.
 pub found-written : (before : List ℕ) (m n : ℕ) (f : List ℕ) {o₁ o₂ : List ℕ} {p₁ p₂ : ℕ} → length (rowsText (foundRecords m n f)) ≤ length before

@@ -8,6 +8,8 @@ use Rattle.semigroups.specs.Questions.{Refusal, naming}
 use Rattle.semigroups.specs.Walks.{Said, refused, found, nothing}
 use Rattle.csv.specs.Decimals.{numeral}
 use Rattle.csv.specs.Calls as csv
+use Rattle.semigroups.specs.Maps.{embeddings}
+use Rattle.search.specs.Calls.{Lent, theFirst, call}
 
 -- ---- the words of the first record, as bytes
 
@@ -63,6 +65,10 @@ abbrev pub saidRecords : ℕ → ℕ → Said Refusal → List ℕ → List (Lis
 saidRecords m n found f = foundRecords m n f
 saidRecords m n nothing f = noneRecords m n
 saidRecords m n (refused r) f = refusedRecords r
+
+-- What the search for the first embedding says, from all that is lent.
+unfoldable pub searchRecords : Lent → List (List (List ℕ))
+searchRecords l = let c = call embeddings theFirst l in saidRecords (l .m) (l .n) (c .says) (c .map)
 
 -- What a file's answer adds, for file 1 or 2: a refusal one record; an accepted file none.
 abbrev pub fileRecords : ℕ → csv.Answer → List (List (List ℕ))

@@ -5,14 +5,18 @@ ghost use mathlib.Core.List.{_∷_, []};
 ghost use Prim.Native.Nat.{_+_, _*_, _≤_, _<_};
 ghost use lib.ListN.{length};
 ghost use lib.Seq.{sets};
+ghost use Rattle.semigroups.specs.Questions.{no};
+ghost use Rattle.semigroups.specs.Maps.{embeddings};
 ghost use Rattle.csv.specs.Decimals.{numeral};
 ghost use Rattle.csv.specs.Records.{lineText, rowsText};
 ghost use Rattle.csv.specs.Calls.{overwritten, cellsAfter};
 ghost use Rattle.tables.specs.Answers.{sideNumber, faultRefusal as tableRefusal};
 ghost use Rattle.text.specs.Answers.{faultRefusal as textRefusal};
-ghost use Rattle.output.specs.Records.{firstRecord, pairRecords, foundRecords, fileRecords};
+ghost use Rattle.search.specs.Calls.{theFirst, lend, call};
+ghost use Rattle.output.specs.Records.{firstRecord, pairRecords, foundRecords, refusedRecord, searchRecords, fileRecords};
 ghost use Rattle.output.specs.Files.{fileAnswer};
 ghost use Rattle.output.specs.Answers.{verdictAnswer};
+use search::SearchAnswer;
 use tables::Fault;
 use tables::Side;
 use tables::Verdict;
@@ -175,14 +179,54 @@ fn put_found(out: &mut [u8], n: usize, map: &[u8]) -> usize
     put_pairs(out, at, map)
 }
 
+// Writes the record of a refusal that names no side to the start of `out`. Answers its length.
+fn put_sideless(out: &mut [u8], number: usize) -> usize
+    requires small { ⌜ number < 1000 ⌝ }
+    requires room { ⌜ 14 ≤ length (now out) ⌝ }
+    ensures answer { λ r. ⌜ r ≡ length (lineText (refusedRecord (no number []))) ⌝ }
+    ensures out { λ _. ⌜ now (out .exit) ≡ sets (now (out .entry)) 0 (lineText (refusedRecord (no number []))) ⌝ }
+{
+    let mut at = put_bytes(out, b"refused,");
+    at = put_field(out, at, number);
+    put_break(out, at)
+}
+
 // Writes the record of a refused file to the start of `out` and answers its length; an accepted file has none.
 pub fn put_refusal(out: &mut [u8; 1095], side: Side, verdict: FileVerdict) -> usize
     ensures answer { λ r. ⌜ r ≡ length (rowsText (fileRecords (sideNumber side) (verdictAnswer verdict))) ⌝ }
+    ensures room { λ r. ⌜ r ≤ 1095 ⌝ }
     ensures out { λ _. ⌜ now (out .exit) ≡ overwritten (rowsText (fileRecords (sideNumber side) (verdictAnswer verdict))) (now (out .entry)) ⌝ }
 {
     match verdict {
         FileVerdict::Accepted(_) => 0,
         FileVerdict::Text(fault) => put_record(out, b"refused", side_number(side), text_number(fault)),
         FileVerdict::Table(fault) => put_record(out, b"refused", side_number(side), table_number(fault)),
+    }
+}
+
+// Asks for the first embedding of the source in the target, as `search::first_embedding` does, writes what it says to the start of `out` and
+// answers the length.
+pub fn put_answer(
+    out: &mut [u8; 1095],
+    source: &[u8],
+    m: usize,
+    target: &[u8],
+    n: usize,
+    map: &mut [u8],
+    scratch: &mut [u8],
+) -> usize
+    ensures answer { λ r. ⌜ r ≡ length (rowsText (searchRecords (lend (now (source .entry)) m (now (target .entry)) n (now (map .entry)) (now (scratch .entry))))) ⌝ }
+    ensures room { λ r. ⌜ r ≤ 1095 ⌝ }
+    ensures out { λ _. ⌜ now (out .exit) ≡ overwritten (rowsText (searchRecords (lend (now (source .entry)) m (now (target .entry)) n (now (map .entry)) (now (scratch .entry))))) (now (out .entry)) ⌝ }
+    ensures map { λ _. ⌜ now (map .exit) ≡ call embeddings theFirst (lend (now (source .entry)) m (now (target .entry)) n (now (map .entry)) (now (scratch .entry))) .map ⌝ }
+    ensures scratch { λ _. ⌜ now (scratch .exit) ≡ call embeddings theFirst (lend (now (source .entry)) m (now (target .entry)) n (now (map .entry)) (now (scratch .entry))) .scratch ⌝ }
+{
+    let said = search::first_embedding(source, m, target, n, map, scratch);
+    match said {
+        SearchAnswer::Found => put_found(out, n, &*map),
+        SearchAnswer::Nothing => put_record(out, b"none", m, n),
+        SearchAnswer::Refused(side, fault) => put_record(out, b"refused", side_number(side), table_number(fault)),
+        SearchAnswer::MapLength => put_sideless(out, 5),
+        SearchAnswer::ScratchLength => put_sideless(out, 6),
     }
 }
