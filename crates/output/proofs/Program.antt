@@ -5,7 +5,7 @@ use mathlib.Core.Bool.{Bool, true, false, _&&_, _||_, not, cond}
 use mathlib.Core.Logic.{_⊎_, inl, inr}
 use mathlib.Core.List.{List, [], _∷_, _++_, map, flatMap, flatten}
 use mathlib.Core.Option.{Option, none, some, orElse}
-use Prim.Native.Nat.{ℕ, _≤_, _<_}
+use Prim.Native.Nat.{ℕ, _*_, _≤_, _<_}
 use native.Mathlib.Omega.{arith}
 use lib.ListN.{length, take}
 use lib.Seq.{length-take-le, take-all}
@@ -13,17 +13,21 @@ use Rattle.semigroups.specs.Lists.{range, elements, at, all, find, keep, member
 use Rattle.semigroups.specs.Tables.{product, isElement, associates, badCell, badTriple}
 use Rattle.semigroups.specs.Questions.{Refusal, no, naming, firstNo}
 use Rattle.semigroups.specs.Maps.{isHomomorphism, isEmbedding, maps, earliest}
+use Rattle.semigroups.specs.Scratch.{scratchSize}
 use Rattle.semigroups.proofs.Booleans.{at-most-or-above}
 use Rattle.csv.specs.Decimals.{isDigit, value, valueFrom, numeralWithin, numeral}
 use Rattle.csv.specs.Records.{isBreak, onto, records, fields, rows, recordText, lineText, rowsText}
 use Rattle.csv.specs.Tables.{fieldsOf, orderOf, cellsOf}
 use Rattle.csv.specs.Questions.{breakAt, inBreak, isAllowed, firstOther, bytesRefusal, endRefusal, fieldRefusal, fieldsRefusal, isSquare, squareRefusal, loadRefusal}
+use Rattle.csv.specs.Calls.{Answer, refused, gives, cellsAfter}
 use Rattle.csv.proofs.Loading.{too-short, too-long}
-use Rattle.output.specs.Records.{firstRecord, pairRecord, pairRecords, foundRecords, noneRecords, refusedRecord, refusedRecords}
-use Rattle.output.specs.Files.{fileRefusal}
+use Rattle.search.specs.Calls.{lend}
+use Rattle.output.specs.Records.{firstRecord, pairRecord, pairRecords, foundRecords, noneRecords, refusedRecord, refusedRecords, searchRecords, fileRecords}
+use Rattle.output.specs.Files.{fileRefusal, fileAnswer}
 use Rattle.output.specs.Program.{room, answerRecords, recueRecords, recueOutput}
 use Rattle.output.specs.Example.{sourceFile, targetFile, printed}
-use Rattle.output.proofs.Files.{loading-refused}
+use Rattle.output.proofs.Files.{loading-refused, refused-file, accepted-file, holds}
+use Rattle.output.proofs.Said.{accepted-records}
 
 -- ---- which file speaks
 
@@ -41,6 +45,32 @@ module _ (source target : List ℕ) where
       → recueOutput source target ≡ rowsText (answerRecords (orderOf source) (cellsOf source) (orderOf target) (cellsOf target))
   unfolding recueOutput recueRecords
   both-accepted e f = rw (e, f)
+
+-- ---- what the program's parts print, together
+
+-- The files are loaded into buffers of the program's size; the record of a refused file is all that is printed.
+module _ (source target cells : List ℕ) (size : length cells ≡ room) (r : Refusal) where
+  pub prints-source-refused : fileAnswer source cells ≡ refused r → rowsText (fileRecords 1 (fileAnswer source cells)) ≡ recueOutput source target
+  prints-source-refused e = ap (λ (a : Answer). rowsText (fileRecords 1 a)) e ∙ sym (source-refused source target r (ap (fileRefusal source) (sym size) ∙ refused-file source cells r e))
+
+  pub prints-target-refused : fileRefusal source room ≡ none → fileAnswer target cells ≡ refused r → rowsText (fileRecords 2 (fileAnswer target cells)) ≡ recueOutput source target
+  prints-target-refused f e = ap (λ (a : Answer). rowsText (fileRecords 2 a)) e ∙ sym (target-refused source target r f (ap (fileRefusal target) (sym size) ∙ refused-file target cells r e))
+
+-- Both files are accepted: the search gets the two tables, and buffers of the right length of any content.
+pub prints-answer : (source target first second : List ℕ) → length first ≡ room → length second ≡ room
+    → (m n : ℕ) → fileAnswer source first ≡ gives m → fileAnswer target second ≡ gives n
+    → (map scratch : List ℕ) → length map ≡ m → scratchSize m n ≤ length scratch
+    → rowsText (searchRecords (lend (take (m * m) (cellsAfter source first)) m (take (n * n) (cellsAfter target second)) n map scratch)) ≡ recueOutput source target
+prints-answer source target first second s₁ s₂ m n e f map scratch size marks =
+    let a = holds source first m e in
+    let b = holds target second n f in
+    let l = lend (take (m * m) (cellsAfter source first)) m (take (n * n) (cellsAfter target second)) n map scratch in
+    let passes₁ = ap (fileRefusal source) (sym s₁) ∙ accepted-file source first m e in
+    let passes₂ = ap (fileRefusal target) (sym s₂) ∙ accepted-file target second n f in
+    ap rowsText (accepted-records l (a .table) (b .table) size marks)
+    ∙ ap₂ (λ (c d : List ℕ). rowsText (answerRecords m c n d)) (a .cells-are) (b .cells-are)
+    ∙ ap₂ (λ (i j : ℕ). rowsText (answerRecords i (cellsOf source) j (cellsOf target))) (sym (a .order)) (sym (b .order))
+    ∙ sym (both-accepted source target passes₁ passes₂)
 
 -- ---- how much of a file decides
 
