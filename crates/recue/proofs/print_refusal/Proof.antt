@@ -1,3 +1,4 @@
+use Rattle.output.proofs.Lines.{written-within}
 use native.Mathlib.Omega.{arith}
 use mathlib.Core.Path.{sym}
 use lib.Seq.{length-take-le}
@@ -15,11 +16,11 @@ put-refusal-requires c κs = search needs
 
 -- src/main.rt:27:34
 array-share-prefix-out : tie.Need-array-share-prefix-out
-array-share-prefix-out c = omega (arith, c .put-refusal .ensures .1 .0)
+array-share-prefix-out c = written-within _ _ (c .put-refusal .ensures .0) (c .put-refusal .ensures .1)
 
 -- src/main.rt:27:34
 slice-aggregate-write-all : tie.Need-slice-aggregate-write-all
-slice-aggregate-write-all c = sym (length-take-le _ _ (omega (arith, c .before .put-refusal .ensures .1 .0)))
+slice-aggregate-write-all c = sym (length-take-le _ _ (written-within _ _ (c .before .put-refusal .ensures .0) (c .before .put-refusal .ensures .1)))
 
 -- src/main.rt:27:5
 write-all-requires : tie.Need-write-all-requires
