@@ -223,7 +223,7 @@ module _ (t : List ℕ) (room : ℕ) (l : Loadable t room) where
       ∙ ap rowsText (rows-back (rows t) whole-rows (numbers-of (flatten (rows t)) (l .grid .numbers)))
       ∙ rowsText-rows t (closed t (l .end))
 
-  first-row : 1 ≤ orderOf t
+  pub first-row : 1 ≤ orderOf t
   unfolding orderOf rowsText flatMap
   first-row = go (rows t) (rowsText-rows t (closed t (l .end))) whole-rows
     where

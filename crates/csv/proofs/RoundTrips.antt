@@ -25,7 +25,7 @@ use Rattle.csv.proofs.Accepted.{table-cells, table-order, table-loads, 
 
 -- ---- what an answer other than a refusal shows
 
-not-refused : (o : Option Refusal) (x y : ℕ) → givenUnless o x ≡ gives y → (o ≡ none) × (x ≡ y)
+pub not-refused : (o : Option Refusal) (x y : ℕ) → givenUnless o x ≡ gives y → (o ≡ none) × (x ≡ y)
 not-refused none x y h = (refl, cc)
 not-refused (some r) x y h = let z : _≡_ {A = ℕ} 0 1 = cc in let w : ⊥ = omega arith in absurd w
 

@@ -289,7 +289,7 @@ fn text_length(cells: &[u8], n: usize) -> usize
 }
 
 // Writes the decimal number of x at `at`. Answers the place behind it.
-fn put_number(text: &mut [u8], at: usize, x: usize) -> usize
+pub fn put_number(text: &mut [u8], at: usize, x: usize) -> usize
     requires small { ⌜ x < 1000 ⌝ }
     requires room { ⌜ at + length (numeral x) ≤ length (now text) ⌝ }
     ensures answer { λ r. ⌜ r ≡ at + length (numeral x) ⌝ }

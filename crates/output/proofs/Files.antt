@@ -1,0 +1,104 @@
+-- The questions about a file in the code's order: those about loading, then the table's four, of which a loaded table passes 1 and 2.
+-- Assumes nothing.
+use mathlib.Core.Path.{_≡_, refl, ap, ap₂, sym, _∙_, subst₂}
+use mathlib.Core.List.{List, [], _∷_}
+use mathlib.Core.Option.{Option, none, some, Option·map, orElse}
+use Prim.Native.Nat.{ℕ, _*_, _≤_, _<_}
+use native.Mathlib.Omega.{arith}
+use lib.ListN.{length, take}
+use Rattle.semigroups.specs.Tables.{product, badCell, badTriple, Accepted}
+use Rattle.semigroups.specs.Questions.{Refusal, no, firstNo, tableRefusal}
+use Rattle.semigroups.proofs.Tables.{orElse-none, accepted}
+use Rattle.tables.proofs.Questions.{right-size}
+use Rattle.csv.specs.Tables.{orderOf, cellsOf}
+use Rattle.csv.specs.Questions.{loadRefusal}
+use Rattle.csv.specs.Calls.{Answer, refused, gives, givenUnless, loadAnswer, cellsAfter}
+use Rattle.csv.proofs.Loading.{cells-length, load-passed}
+use Rattle.csv.proofs.Accepted.{first-row}
+use Rattle.csv.proofs.RoundTrips.{not-refused, loads-given}
+use Rattle.output.specs.Files.{fileRefusal, fileAnswer}
+
+module _ (t : List ℕ) (room : ℕ) where
+  pub loading-refused : {r : Refusal} → loadRefusal t room ≡ some r → fileRefusal t room ≡ some r
+  unfolding fileRefusal firstNo orElse
+  loading-refused e = rw e
+
+  -- A loaded table has an order of 1 to 120 and as many cells as that asks for.
+  pub loaded-table : loadRefusal t room ≡ none → fileRefusal t room ≡ tableRefusal (orderOf t) (cellsOf t)
+  unfolding fileRefusal tableRefusal firstNo orElse
+  loaded-table e =
+      let l = load-passed t room e in
+      rw (e, right-size (orderOf t) (cellsOf t) (first-row t room l) (l .order) (cells-length (orderOf t) t (l .grid)) (badCell (orderOf t) (cellsOf t)) refl)
+
+  -- An accepted file loads.
+  pub refusal-none : fileRefusal t room ≡ none → loadRefusal t room ≡ none
+  unfolding fileRefusal firstNo
+  refusal-none e =
+      let cell = Option·map (λ k. no 3 (k ∷ [])) (badCell (orderOf t) (cellsOf t)) in
+      let triple = Option·map (λ l. no 4 l) (badTriple (orderOf t) (product (orderOf t) (cellsOf t))) in
+      orElse-none (loadRefusal t room) (orElse cell (orElse triple none)) e .0
+
+-- ---- the answer
+
+refusal-given : (q : Option Refusal) (n : ℕ) {r : Refusal} → refused r ≡ givenUnless q n → q ≡ some r
+refusal-given none n e = let z : _≡_ {A = ℕ} 0 1 = cc in let w : ⊥ = omega arith in absurd w
+refusal-given (some r) n e = cc
+
+module _ (t cells : List ℕ) where
+  pub judged-text : {r : Refusal} → refused r ≡ loadAnswer t cells → refused r ≡ fileAnswer t cells
+  unfolding loadAnswer fileAnswer
+  judged-text e = rw (loading-refused t (length cells) (refusal-given (loadRefusal t (length cells)) (orderOf t) e))
+
+  module _ (n : ℕ) (e : loadAnswer t cells ≡ gives n) where
+    loads : loadRefusal t (length cells) ≡ none
+    unfolding loadAnswer
+    loads = not-refused (loadRefusal t (length cells)) (orderOf t) n e .0
+
+    pub judged-table : {after : List ℕ} {q : Option Refusal} → after ≡ cellsAfter t cells → q ≡ tableRefusal n (take (n * n) after) → givenUnless q n ≡ fileAnswer t cells
+    unfolding fileAnswer
+    judged-table {after} {q} same asked =
+        let l = loads-given t cells n e in
+        let whole : fileRefusal t (length cells) ≡ q =
+          loaded-table t (length cells) loads ∙ ap₂ tableRefusal (l .order) (sym (l .cells)) ∙ ap (λ (c : List ℕ). tableRefusal n (take (n * n) c)) (sym same) ∙ sym asked in
+        ap₂ givenUnless (sym whole) (sym (l .order))
+
+    pub loaded-order : n ≤ 120
+    loaded-order = let l = loads-given t cells n e in let p = l .passes .order in rw (l .order) at p
+
+    pub loaded-room : {after : List ℕ} → after ≡ cellsAfter t cells → length after ≡ length cells → n * n ≤ length after
+    loaded-room same kept = let l = loads-given t cells n e in let p = l .passes .room in let q = rw (l .order) at p in omega arith
+
+-- ---- an accepted file
+
+pub record Holds (t cells : List ℕ) (n : ℕ) : Type 0 where
+  pub order : orderOf t ≡ n
+  pub small : n ≤ 120
+  pub room : n * n ≤ length cells
+  pub table : Accepted n (take (n * n) (cellsAfter t cells))
+  pub cells-are : take (n * n) (cellsAfter t cells) ≡ cellsOf t
+
+pub accepted-file : (t cells : List ℕ) (n : ℕ) → fileAnswer t cells ≡ gives n → fileRefusal t (length cells) ≡ none
+unfolding fileAnswer
+accepted-file t cells n e = not-refused (fileRefusal t (length cells)) (orderOf t) n e .0
+
+pub refused-file : (t cells : List ℕ) (r : Refusal) → fileAnswer t cells ≡ refused r → fileRefusal t (length cells) ≡ some r
+unfolding fileAnswer
+refused-file t cells r e = refusal-given (fileRefusal t (length cells)) (orderOf t) (sym e)
+
+pub holds : (t cells : List ℕ) (n : ℕ) → fileAnswer t cells ≡ gives n → Holds t cells n
+unfolding fileAnswer loadAnswer
+holds t cells n e =
+    let p = not-refused (fileRefusal t (length cells)) (orderOf t) n e in
+    let loads = refusal-none t (length cells) (p .0) in
+    let given : givenUnless (loadRefusal t (length cells)) (orderOf t) ≡ gives n = rw loads (ap gives (p .1)) in
+    let l = loads-given t cells n given in
+    let small = l .passes .order in
+    let room = l .passes .room in
+    let table = accepted (orderOf t) (cellsOf t) (sym (loaded-table t (length cells) loads) ∙ p .0) in
+    record {
+      order = p .1;
+      small = rw (p .1) at small;
+      room = rw (p .1) at room;
+      table = subst₂ Accepted (p .1) (sym (l .cells)) table;
+      cells-are = l .cells;
+    }

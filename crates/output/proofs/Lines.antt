@@ -1,0 +1,229 @@
+-- The records of an answer as text, piece by piece: what is left to write, how long it is, and what stands in the buffer once it is written.
+-- Assumes nothing.
+use mathlib.Core.Path.{_≡_, refl, ap, sym, _∙_}
+use mathlib.Core.List.{List, [], _∷_, _++_, map, flatMap, append-assoc, append-nil}
+use Prim.Native.Nat.{ℕ, zero, suc, _+_, _-_, _*_, _≤_, _<_}
+use native.Mathlib.Numerals.{add-one}
+use native.Mathlib.Omega.{arith}
+use lib.ListN.{length, drop, getD, set, length-append, drop-of-length-le}
+use lib.Seq.{sets, length-sets, drop-cons}
+use Rattle.semigroups.specs.Lists.{range, elements, at}
+use Rattle.semigroups.specs.Questions.{Refusal, no, naming}
+use Rattle.csv.specs.Decimals.{numeral}
+use Rattle.csv.specs.Records.{recordText, lineText, rowsText}
+use Rattle.csv.specs.Calls.{refused, overwritten}
+use Rattle.csv.proofs.Decimals.{digits-few}
+use Rattle.csv.proofs.Writing.{Writing, write-first, write-next, write-last, sets-overwritten}
+use Rattle.output.specs.Records.{foundWord, refusedWord, firstRecord, pairRecord, pairRecords, foundRecords, refusedRecord, refusedRecords, fileRecords}
+use Rattle.output.specs.Answers.{verdictAnswer}
+use Rattle.output.specs.declared.FileVerdict.{FileVerdict}
+use Rattle.output.specs.declared.FileVerdict.the-variants.{Accepted}
+
+-- The next piece is written.
+written : {before whole left now : List ℕ} {start at : ℕ} → Writing before start whole left now at → (p q : List ℕ) → left ≡ p ++ q
+    → {later : List ℕ} {next : ℕ} → later ≡ sets now at p → next ≡ at + length p → Writing before start whole q later next
+written w p q e placed next = rw (placed, next) (write-next w p q e)
+
+-- ---- bytes, one by one
+
+pub copied : {before out : List ℕ} (bytes : List ℕ) {i : ℕ} → i < length bytes → Writing before 0 bytes (drop i bytes) out i
+    → Writing before 0 bytes (drop (i + 1) bytes) (set out i (getD bytes i 0)) (i + 1)
+copied bytes {i} h w = rw (add-one i) (rw add-one at (write-next w (getD bytes i 0 ∷ []) (drop (suc i) bytes) (drop-cons bytes i 0 h)))
+
+pub copied-all : {before out : List ℕ} (bytes : List ℕ) {i : ℕ} → length bytes ≤ i → Writing before 0 bytes (drop i bytes) out i
+    → (i ≡ length bytes) × (out ≡ sets before 0 bytes)
+copied-all {before} bytes {i} h w =
+    let all = write-last w (drop-of-length-le bytes h) in
+    (let r = all .1 in omega arith, all .0)
+
+-- ---- a record of three fields, and one of two
+
+three-fields : (a b c : List ℕ) → lineText (a ∷ b ∷ c ∷ []) ≡ a ++ ((44 ∷ b) ++ ((44 ∷ c) ++ 13 ∷ 10 ∷ []))
+unfolding lineText recordText flatMap
+three-fields a b c =
+    let line-end : List ℕ = 13 ∷ 10 ∷ [] in
+    append-assoc a ((44 ∷ b) ++ ((44 ∷ c) ++ [])) line-end
+    ∙ ap (λ (l : List ℕ). a ++ l) (append-assoc (44 ∷ b) ((44 ∷ c) ++ []) line-end ∙ ap (λ (l : List ℕ). (44 ∷ b) ++ (l ++ line-end)) (append-nil (44 ∷ c)))
+
+two-fields : (a b : List ℕ) → lineText (a ∷ b ∷ []) ≡ a ++ ((44 ∷ b) ++ 13 ∷ 10 ∷ [])
+unfolding lineText recordText flatMap
+two-fields a b =
+    let line-end : List ℕ = 13 ∷ 10 ∷ [] in
+    append-assoc a ((44 ∷ b) ++ []) line-end ∙ ap (λ (l : List ℕ). a ++ (l ++ line-end)) (append-nil (44 ∷ b))
+
+pub first-length : (word : List ℕ) (a b : ℕ) → length (lineText (firstRecord word a b)) ≡ length word + length (numeral a) + length (numeral b) + 4
+unfolding firstRecord
+first-length word a b = ap length (three-fields word (numeral a) (numeral b)) ∙ simp length-append (omega arith)
+
+pub first-short : (word : List ℕ) (a b : ℕ) → length (lineText (firstRecord word a b)) ≤ length word + 10
+first-short word a b = omega (arith, first-length word a b, digits-few a, digits-few b)
+
+pub pair-length : (i x : ℕ) → length (lineText (numeral i ∷ numeral x ∷ [])) ≡ length (numeral i) + length (numeral x) + 3
+pair-length i x = ap length (two-fields (numeral i) (numeral x)) ∙ simp length-append (omega arith)
+
+pub pair-short : (i x : ℕ) → length (lineText (numeral i ∷ numeral x ∷ [])) ≤ 9
+pair-short i x = omega (arith, pair-length i x, digits-few i, digits-few x)
+
+pub first-written : (before word : List ℕ) (a b : ℕ) {o₁ o₂ o₃ o₄ : List ℕ} {p₁ p₂ p₃ p₄ : ℕ}
+    → p₁ ≡ length word → o₁ ≡ sets before 0 word
+    → p₂ ≡ p₁ + length (44 ∷ numeral a) → o₂ ≡ sets o₁ p₁ (44 ∷ numeral a)
+    → p₃ ≡ p₂ + length (44 ∷ numeral b) → o₃ ≡ sets o₂ p₂ (44 ∷ numeral b)
+    → p₄ ≡ p₃ + 2 → o₄ ≡ sets o₃ p₃ (13 ∷ 10 ∷ [])
+    → (p₄ ≡ length (lineText (firstRecord word a b))) × (o₄ ≡ sets before 0 (lineText (firstRecord word a b)))
+unfolding firstRecord
+first-written before word a b q₁ e₁ q₂ e₂ q₃ e₃ q₄ e₄ =
+    let whole = lineText (word ∷ numeral a ∷ numeral b ∷ []) in
+    let z : 0 + length word ≡ length word = omega arith in
+    let w₁ = written (write-first before 0 whole) word ((44 ∷ numeral a) ++ ((44 ∷ numeral b) ++ 13 ∷ 10 ∷ [])) (three-fields word (numeral a) (numeral b)) e₁ (q₁ ∙ sym z) in
+    let w₂ = written w₁ (44 ∷ numeral a) ((44 ∷ numeral b) ++ 13 ∷ 10 ∷ []) refl e₂ q₂ in
+    let w₃ = written w₂ (44 ∷ numeral b) (13 ∷ 10 ∷ []) refl e₃ q₃ in
+    let w₄ = written w₃ (13 ∷ 10 ∷ []) [] refl e₄ q₄ in
+    let all = write-last w₄ refl in
+    (let r = all .1 in omega arith, all .0)
+
+pub pair-written : (before : List ℕ) (start i x : ℕ) {o₁ o₂ o₃ : List ℕ} {p₁ p₂ p₃ : ℕ}
+    → p₁ ≡ start + length (numeral i) → o₁ ≡ sets before start (numeral i)
+    → p₂ ≡ p₁ + length (44 ∷ numeral x) → o₂ ≡ sets o₁ p₁ (44 ∷ numeral x)
+    → p₃ ≡ p₂ + 2 → o₃ ≡ sets o₂ p₂ (13 ∷ 10 ∷ [])
+    → (p₃ ≡ start + length (lineText (numeral i ∷ numeral x ∷ []))) × (o₃ ≡ sets before start (lineText (numeral i ∷ numeral x ∷ [])))
+pair-written before start i x q₁ e₁ q₂ e₂ q₃ e₃ =
+    let whole = lineText (numeral i ∷ numeral x ∷ []) in
+    let w₁ = written (write-first before start whole) (numeral i) ((44 ∷ numeral x) ++ 13 ∷ 10 ∷ []) (two-fields (numeral i) (numeral x)) e₁ q₁ in
+    let w₂ = written w₁ (44 ∷ numeral x) (13 ∷ 10 ∷ []) refl e₂ q₂ in
+    let w₃ = written w₂ (13 ∷ 10 ∷ []) [] refl e₃ q₃ in
+    let all = write-last w₃ refl in
+    (all .1, all .0)
+
+-- The record of a refusal that names no side: its second field is empty.
+sideless : (number : ℕ) → lineText (refusedRecord (no number [])) ≡ (refusedWord ++ 44 ∷ []) ++ ((44 ∷ numeral number) ++ 13 ∷ 10 ∷ [])
+unfolding refusedRecord
+sideless number = three-fields refusedWord [] (numeral number)
+
+pub sideless-short : (number : ℕ) → length (lineText (refusedRecord (no number []))) ≤ 14
+sideless-short number = omega (arith, ap length (sideless number) ∙ length-append (refusedWord ++ 44 ∷ []) ((44 ∷ numeral number) ++ 13 ∷ 10 ∷ []), length-append (44 ∷ numeral number) (13 ∷ 10 ∷ []), digits-few number)
+
+pub sideless-written : (before : List ℕ) (number : ℕ) {o₁ o₂ o₃ : List ℕ} {p₁ p₂ p₃ : ℕ}
+    → p₁ ≡ length (refusedWord ++ 44 ∷ []) → o₁ ≡ sets before 0 (refusedWord ++ 44 ∷ [])
+    → p₂ ≡ p₁ + length (44 ∷ numeral number) → o₂ ≡ sets o₁ p₁ (44 ∷ numeral number)
+    → p₃ ≡ p₂ + 2 → o₃ ≡ sets o₂ p₂ (13 ∷ 10 ∷ [])
+    → (p₃ ≡ length (lineText (refusedRecord (no number [])))) × (o₃ ≡ sets before 0 (lineText (refusedRecord (no number []))))
+sideless-written before number q₁ e₁ q₂ e₂ q₃ e₃ =
+    let whole = lineText (refusedRecord (no number [])) in
+    let z : 0 + length (refusedWord ++ 44 ∷ []) ≡ length (refusedWord ++ 44 ∷ []) = omega arith in
+    let w₁ = written (write-first before 0 whole) (refusedWord ++ 44 ∷ []) ((44 ∷ numeral number) ++ 13 ∷ 10 ∷ []) (sideless number) e₁ (q₁ ∙ sym z) in
+    let w₂ = written w₁ (44 ∷ numeral number) (13 ∷ 10 ∷ []) refl e₂ q₂ in
+    let w₃ = written w₂ (13 ∷ 10 ∷ []) [] refl e₃ q₃ in
+    let all = write-last w₃ refl in
+    (let r = all .1 in omega arith, all .0)
+
+-- ---- a record for each element
+
+module _ (m : ℕ) (f : List ℕ) where
+  -- The text of the records from element i on.
+  unfoldable pub pairsLeft : ℕ → List ℕ
+  pairsLeft i = rowsText (map (pairRecord f) (range i (m + 1 - i)))
+
+  pub pairs-first : rowsText (pairRecords m f) ≡ pairsLeft 1
+  unfolding pairRecords pairsLeft elements
+  pairs-first =
+      let e : m + 1 - 1 ≡ m = omega arith in
+      rw e
+
+  pub pairs-step : (i : ℕ) → i ≤ m → pairsLeft i ≡ lineText (pairRecord f i) ++ pairsLeft (i + 1)
+  unfolding pairsLeft rowsText flatMap range
+  pairs-step i h =
+      let e : m + 1 - i ≡ suc (m + 1 - suc i) = omega arith in
+      rw (add-one i, e)
+
+  pub pairs-end : (i : ℕ) → m < i → pairsLeft i ≡ []
+  unfolding pairsLeft rowsText flatMap range
+  pairs-end i h =
+      let e : m + 1 - i ≡ 0 = omega arith in
+      rw e
+
+some-short : (f : List ℕ) (i k : ℕ) → length (rowsText (map (pairRecord f) (range i k))) ≤ 9 * k
+unfolding rowsText flatMap range pairRecord
+some-short f i zero = omega arith
+some-short f i (suc k) =
+    let rest = some-short f (suc i) k in
+    simp length-append (omega (arith, pair-short i (at f i)))
+
+pub pairs-short : (m : ℕ) (f : List ℕ) → length (rowsText (pairRecords m f)) ≤ 9 * m
+unfolding pairRecords elements
+pairs-short m f = some-short f 1 m
+
+module _ (m : ℕ) (f : List ℕ) where
+  pub pairs-begun : (before : List ℕ) (start : ℕ) → Writing before start (rowsText (pairRecords m f)) (pairsLeft m f 1) before start
+  pairs-begun before start = rw (← pairs-first m f) (write-first before start (rowsText (pairRecords m f)))
+
+  pub pair-room : (i at room : ℕ) → i ≤ m → at + length (pairsLeft m f i) ≤ room → at + length (lineText (numeral i ∷ numeral (getD f (i - 1) 0) ∷ [])) ≤ room
+  unfolding pairRecord at
+  pair-room i at room h r = omega (arith, simp length-append at (ap length (pairs-step m f i h)))
+
+  pub pairs-more : {before out : List ℕ} {start place : ℕ} (i : ℕ) {later : List ℕ} {next : ℕ} → i ≤ m
+      → Writing before start (rowsText (pairRecords m f)) (pairsLeft m f i) out place
+      → later ≡ sets out place (lineText (numeral i ∷ numeral (getD f (i - 1) 0) ∷ [])) → next ≡ place + length (lineText (numeral i ∷ numeral (getD f (i - 1) 0) ∷ []))
+      → Writing before start (rowsText (pairRecords m f)) (pairsLeft m f (i + 1)) later next
+  unfolding pairRecord at
+  pairs-more i h w placed next = written w (lineText (numeral i ∷ numeral (getD f (i - 1) 0) ∷ [])) (pairsLeft m f (i + 1)) (pairs-step m f i h) placed next
+
+-- ---- the whole text, from the start of a buffer on
+
+-- The text of these records, of p bytes, stands in `out`; the buffer's later bytes are as before.
+pub record Written (before : List ℕ) (rs : List (List (List ℕ))) (p : ℕ) (out : List ℕ) : Type 0 where
+  pub size : p ≡ length (rowsText rs)
+  pub text : out ≡ overwritten (rowsText rs) before
+
+-- What is written lies within the buffer.
+pub written-within : (rs : List (List (List ℕ))) (before : List ℕ) {p : ℕ} {out : List ℕ} → p ≡ length (rowsText rs) → out ≡ overwritten (rowsText rs) before → p ≤ length out
+written-within rs before q e = omega (arith, ap length e ∙ length-append (rowsText rs) (drop (length (rowsText rs)) before))
+
+-- One record.
+pub one-written : (before : List ℕ) (r : List (List ℕ)) (rs : List (List (List ℕ))) → rs ≡ r ∷ [] → length (lineText r) ≤ 17 → 1095 ≤ length before
+    → {p : ℕ} {out : List ℕ} → p ≡ length (lineText r) → out ≡ sets before 0 (lineText r) → Written before rs p out
+unfolding rowsText flatMap
+one-written before r rs single short room q e =
+    let same : lineText r ++ [] ≡ lineText r = append-nil (lineText r) in
+    let fits : length (lineText r) ≤ length before = omega arith in
+    rw single
+    (record {
+      size = q ∙ ap length (sym same);
+      text = e ∙ sets-overwritten before (lineText r) fits ∙ ap (λ (l : List ℕ). overwritten l before) (sym same);
+    })
+
+found-text : (m n : ℕ) (f : List ℕ) → rowsText (foundRecords m n f) ≡ lineText (firstRecord foundWord m n) ++ rowsText (pairRecords m f)
+unfolding rowsText flatMap foundRecords
+found-text m n f = refl
+
+pub found-short : (m n : ℕ) (f : List ℕ) → m ≤ 120 → length (rowsText (foundRecords m n f)) ≤ 1095
+found-short m n f h = omega (arith, simp length-append at (ap length (found-text m n f)), first-short foundWord m n, pairs-short m f)
+
+pub refused-record : (side a b : ℕ) (r : Refusal) → a ≡ side → b ≡ r .number → refusedRecords (naming side r) ≡ firstRecord refusedWord a b ∷ []
+unfolding refusedRecords refusedRecord firstRecord
+refused-record side a b r ea eb = rw (ea, eb)
+
+-- A file that is accepted has no record, and one that is refused has one.
+pub accepted-written : (before : List ℕ) (side : ℕ) {v : FileVerdict} {n : ℕ} → v ≡ Accepted n → Written before (fileRecords side (verdictAnswer v)) 0 before
+unfolding rowsText flatMap
+accepted-written before side e = rw e (record { size = refl; text = refl })
+
+pub refused-written : (before : List ℕ) (side : ℕ) (v : FileVerdict) (r : Refusal) → verdictAnswer v ≡ refused r → {a b p : ℕ} {out : List ℕ}
+    → a ≡ side → b ≡ r .number → 1095 ≤ length before
+    → p ≡ length (lineText (firstRecord refusedWord a b)) → out ≡ sets before 0 (lineText (firstRecord refusedWord a b))
+    → Written before (fileRecords side (verdictAnswer v)) p out
+refused-written before side v r e {a} {b} ea eb room q w =
+    one-written before (firstRecord refusedWord a b) (fileRecords side (verdictAnswer v)) (ap (fileRecords side) e ∙ refused-record side a b r ea eb)
+    (first-short refusedWord a b) room q w
+
+-- The records of a map that is found.
+pub found-written : (before : List ℕ) (m n : ℕ) (f : List ℕ) {o₁ o₂ : List ℕ} {p₁ p₂ : ℕ} → length (rowsText (foundRecords m n f)) ≤ length before
+    → p₁ ≡ length (lineText (firstRecord foundWord m n)) → o₁ ≡ sets before 0 (lineText (firstRecord foundWord m n))
+    → p₂ ≡ p₁ + length (rowsText (pairRecords m f)) → o₂ ≡ sets o₁ p₁ (rowsText (pairRecords m f))
+    → (p₂ ≡ length (rowsText (foundRecords m n f))) × (o₂ ≡ overwritten (rowsText (foundRecords m n f)) before)
+found-written before m n f h q₁ e₁ q₂ e₂ =
+    let line = lineText (firstRecord foundWord m n) in
+    let z : 0 + length line ≡ length line = omega arith in
+    let w₁ = written (write-first before 0 (rowsText (foundRecords m n f))) line (rowsText (pairRecords m f)) (found-text m n f) e₁ (q₁ ∙ sym z) in
+    let w₂ = written w₁ (rowsText (pairRecords m f)) [] (sym (append-nil (rowsText (pairRecords m f)))) e₂ q₂ in
+    let all = write-last w₂ refl in
+    (let r = all .1 in omega arith, all .0 ∙ sets-overwritten before (rowsText (foundRecords m n f)) h)

@@ -1,0 +1,112 @@
+-- What the definition of the whole output says: which file speaks, how much of a file decides, which numbers can come, and 01's example.
+-- Assumes nothing.
+use mathlib.Core.Path.{_≡_, refl, ap, ap₂, sym, _∙_}
+use mathlib.Core.Bool.{Bool, true, false, _&&_, _||_, not, cond}
+use mathlib.Core.Logic.{_⊎_, inl, inr}
+use mathlib.Core.List.{List, [], _∷_, _++_, map, flatMap, flatten}
+use mathlib.Core.Option.{Option, none, some, orElse}
+use Prim.Native.Nat.{ℕ, _*_, _≤_, _<_}
+use native.Mathlib.Omega.{arith}
+use lib.ListN.{length, take}
+use lib.Seq.{length-take-le, take-all}
+use Rattle.semigroups.specs.Lists.{range, elements, at, all, find, keep, member, distinct, lists}
+use Rattle.semigroups.specs.Tables.{product, isElement, associates, badCell, badTriple}
+use Rattle.semigroups.specs.Questions.{Refusal, no, naming, firstNo}
+use Rattle.semigroups.specs.Maps.{isHomomorphism, isEmbedding, maps, earliest}
+use Rattle.semigroups.specs.Scratch.{scratchSize}
+use Rattle.semigroups.proofs.Booleans.{at-most-or-above}
+use Rattle.csv.specs.Decimals.{isDigit, value, valueFrom, numeralWithin, numeral}
+use Rattle.csv.specs.Records.{isBreak, onto, records, fields, rows, recordText, lineText, rowsText}
+use Rattle.csv.specs.Tables.{fieldsOf, orderOf, cellsOf}
+use Rattle.csv.specs.Questions.{breakAt, inBreak, isAllowed, firstOther, bytesRefusal, endRefusal, fieldRefusal, fieldsRefusal, isSquare, squareRefusal, loadRefusal}
+use Rattle.csv.specs.Calls.{Answer, refused, gives, cellsAfter}
+use Rattle.csv.proofs.Loading.{too-short, too-long}
+use Rattle.search.specs.Calls.{lend}
+use Rattle.output.specs.Records.{firstRecord, pairRecord, pairRecords, foundRecords, noneRecords, refusedRecord, refusedRecords, searchRecords, fileRecords}
+use Rattle.output.specs.Files.{fileRefusal, fileAnswer}
+use Rattle.output.specs.Program.{room, answerRecords, recueRecords, recueOutput}
+use Rattle.output.specs.Example.{sourceFile, targetFile, printed}
+use Rattle.output.proofs.Files.{loading-refused, refused-file, accepted-file, holds}
+use Rattle.output.proofs.Said.{accepted-records}
+
+-- ---- which file speaks
+
+module _ (source target : List ℕ) where
+  -- Where the source is refused, the target does not matter.
+  pub source-refused : (r : Refusal) → fileRefusal source room ≡ some r → recueOutput source target ≡ rowsText (refusedRecords (naming 1 r))
+  unfolding recueOutput recueRecords
+  source-refused r e = rw e
+
+  pub target-refused : (r : Refusal) → fileRefusal source room ≡ none → fileRefusal target room ≡ some r → recueOutput source target ≡ rowsText (refusedRecords (naming 2 r))
+  unfolding recueOutput recueRecords
+  target-refused r e f = rw (e, f)
+
+  pub both-accepted : fileRefusal source room ≡ none → fileRefusal target room ≡ none
+      → recueOutput source target ≡ rowsText (answerRecords (orderOf source) (cellsOf source) (orderOf target) (cellsOf target))
+  unfolding recueOutput recueRecords
+  both-accepted e f = rw (e, f)
+
+-- ---- what the program's parts print, together
+
+-- The files are loaded into buffers of the program's size; the record of a refused file is all that is printed.
+module _ (source target cells : List ℕ) (size : length cells ≡ room) (r : Refusal) where
+  pub prints-source-refused : fileAnswer source cells ≡ refused r → rowsText (fileRecords 1 (fileAnswer source cells)) ≡ recueOutput source target
+  prints-source-refused e = ap (λ (a : Answer). rowsText (fileRecords 1 a)) e ∙ sym (source-refused source target r (ap (fileRefusal source) (sym size) ∙ refused-file source cells r e))
+
+  pub prints-target-refused : fileRefusal source room ≡ none → fileAnswer target cells ≡ refused r → rowsText (fileRecords 2 (fileAnswer target cells)) ≡ recueOutput source target
+  prints-target-refused f e = ap (λ (a : Answer). rowsText (fileRecords 2 a)) e ∙ sym (target-refused source target r f (ap (fileRefusal target) (sym size) ∙ refused-file target cells r e))
+
+-- Both files are accepted: the search gets the two tables, and buffers of the right length of any content.
+pub prints-answer : (source target first second : List ℕ) → length first ≡ room → length second ≡ room
+    → (m n : ℕ) → fileAnswer source first ≡ gives m → fileAnswer target second ≡ gives n
+    → (map scratch : List ℕ) → length map ≡ m → scratchSize m n ≤ length scratch
+    → rowsText (searchRecords (lend (take (m * m) (cellsAfter source first)) m (take (n * n) (cellsAfter target second)) n map scratch)) ≡ recueOutput source target
+prints-answer source target first second s₁ s₂ m n e f map scratch size marks =
+    let a = holds source first m e in
+    let b = holds target second n f in
+    let l = lend (take (m * m) (cellsAfter source first)) m (take (n * n) (cellsAfter target second)) n map scratch in
+    let passes₁ = ap (fileRefusal source) (sym s₁) ∙ accepted-file source first m e in
+    let passes₂ = ap (fileRefusal target) (sym s₂) ∙ accepted-file target second n f in
+    ap rowsText (accepted-records l (a .table) (b .table) size marks)
+    ∙ ap₂ (λ (c d : List ℕ). rowsText (answerRecords m c n d)) (a .cells-are) (b .cells-are)
+    ∙ ap₂ (λ (i j : ℕ). rowsText (answerRecords i (cellsOf source) j (cellsOf target))) (sym (a .order)) (sym (b .order))
+    ∙ sym (both-accepted source target passes₁ passes₂)
+
+-- ---- how much of a file decides
+
+pub empty-file : fileRefusal [] room ≡ some (no 20 [])
+empty-file = loading-refused [] room (too-short [] room (omega arith))
+
+pub long-file : (t : List ℕ) → 57720 < length t → fileRefusal t room ≡ some (no 20 [])
+long-file t h = loading-refused t room (too-long t room h)
+
+-- One byte above the most that a text may have is enough to see that a file is too long.
+data Cut (t : List ℕ) : Type 0 where
+  whole : take 57721 t ≡ t → Cut t
+  too-much : fileRefusal (take 57721 t) room ≡ some (no 20 []) → fileRefusal t room ≡ some (no 20 []) → Cut t
+
+cut : (t : List ℕ) → Cut t
+cut t = go (at-most-or-above (length t) 57721)
+  where
+    go : (length t ≤ 57721) ⊎ (57721 < length t) → Cut t
+    go (inl h) = whole (take-all 57721 t h)
+    go (inr h) = too-much (long-file (take 57721 t) (let e = length-take-le 57721 t (omega arith) in omega arith)) (long-file t (omega arith))
+
+by-target : (source : List ℕ) {target : List ℕ} → Cut target → recueOutput source (take 57721 target) ≡ recueOutput source target
+unfolding recueOutput recueRecords
+by-target source (whole e) = rw e
+by-target source (too-much e f) = rw (e, f)
+
+-- The first 57,721 bytes of each file decide the output.
+pub first-bytes-decide : (source target : List ℕ) → recueOutput (take 57721 source) (take 57721 target) ≡ recueOutput source target
+first-bytes-decide source target = by-source (cut source)
+  where
+    by-source : Cut source → recueOutput (take 57721 source) (take 57721 target) ≡ recueOutput source target
+    by-source (whole e) = ap (λ (s : List ℕ). recueOutput s (take 57721 target)) e ∙ by-target source (cut target)
+    by-source (too-much e f) = source-refused (take 57721 source) (take 57721 target) (no 20 []) e ∙ sym (source-refused source target (no 20 []) f)
+
+-- ---- 01's example
+
+pub example : recueOutput sourceFile targetFile ≡ printed
+unfolding recueOutput recueRecords answerRecords sourceFile targetFile printed fileRefusal firstRecord pairRecord pairRecords foundRecords noneRecords refusedRecord refusedRecords isDigit value valueFrom numeralWithin numeral isBreak onto records fields rows recordText lineText rowsText fieldsOf orderOf cellsOf breakAt inBreak isAllowed firstOther bytesRefusal endRefusal fieldRefusal fieldsRefusal isSquare squareRefusal loadRefusal range elements at all find keep member distinct lists product isElement associates badCell badTriple firstNo isHomomorphism isEmbedding maps earliest orElse flatMap flatten
+example = refl

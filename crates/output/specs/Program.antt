@@ -1,0 +1,39 @@
+-- The whole output of the program, from the bytes of its two files (01, "Program `recue`"). A file that can't be opened counts as empty.
+-- Assumes nothing.
+use mathlib.Core.List.{List}
+use mathlib.Core.Option.{Option, none, some}
+use Prim.Native.Nat.{ℕ}
+use Rattle.semigroups.specs.Tables.{product}
+use Rattle.semigroups.specs.Questions.{Refusal, naming}
+use Rattle.semigroups.specs.Maps.{embeddings, maps, first, earliest}
+use Rattle.csv.specs.Records.{rowsText}
+use Rattle.csv.specs.Tables.{orderOf, cellsOf}
+use Rattle.output.specs.Records.{foundRecords, noneRecords, refusedRecords}
+use Rattle.output.specs.Files.{fileRefusal}
+
+-- The cells that the program has room for: those of order 120.
+abbrev pub room : ℕ
+room = 14400
+
+abbrev pub mapRecords : ℕ → ℕ → Option (List ℕ) → List (List (List ℕ))
+mapRecords m n (some f) = foundRecords m n f
+mapRecords m n none = noneRecords m n
+
+-- The first embedding of one table in another, or none.
+unfoldable pub answerRecords : ℕ → List ℕ → ℕ → List ℕ → List (List (List ℕ))
+answerRecords m source n target = mapRecords m n (earliest first (maps embeddings m (product m source) n (product n target)))
+
+-- The refusal of a file where there is one, else these records.
+abbrev pub refusedUnless : ℕ → Option Refusal → List (List (List ℕ)) → List (List (List ℕ))
+refusedUnless side none rs = rs
+refusedUnless side (some r) rs = refusedRecords (naming side r)
+
+-- The source's questions, then the target's, then the first embedding.
+unfoldable pub recueRecords : List ℕ → List ℕ → List (List (List ℕ))
+recueRecords source target =
+    let answer = answerRecords (orderOf source) (cellsOf source) (orderOf target) (cellsOf target) in
+    let second = refusedUnless 2 (fileRefusal target room) answer in
+    refusedUnless 1 (fileRefusal source room) second
+
+unfoldable pub recueOutput : List ℕ → List ℕ → List ℕ
+recueOutput source target = rowsText (recueRecords source target)
