@@ -59,7 +59,7 @@ module _ (t cells : List ℕ) where
     judged-table {after} {q} same asked =
         let l = loads-given t cells n e in
         let whole : fileRefusal t (length cells) ≡ q =
-          loaded-table t (length cells) loads ∙ ap₂ tableRefusal (l .order) (sym (l .cells)) ∙ ap (λ (c : List ℕ). tableRefusal n (take (n * n) c)) (sym same) ∙ sym asked in
+        loaded-table t (length cells) loads ∙ ap₂ tableRefusal (l .order) (sym (l .cells)) ∙ ap (λ (c : List ℕ). tableRefusal n (take (n * n) c)) (sym same) ∙ sym asked in
         ap₂ givenUnless (sym whole) (sym (l .order))
 
     pub loaded-order : n ≤ 120
