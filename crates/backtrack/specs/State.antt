@@ -4,11 +4,11 @@
 use mathlib.Core.Path.{_≡_}
 use mathlib.Core.Bool.{Bool, true, false, cond, _&&_}
 use mathlib.Core.Option.{Option, none, some}
-use mathlib.Core.List.{List, [], _∷_}
+use mathlib.Core.List.{List}
 use Prim.Native.Nat.{ℕ, suc, _≤_}
 use lib.ListN.{length, getD, take}
 use Rattle.semigroups.specs.Lists.{elements, all, member}
-use Rattle.semigroups.specs.Tables.{Product, Filled}
+use Rattle.semigroups.specs.Tables.{Product}
 use Rattle.semigroups.specs.Scratch.{scratchSize}
 use Rattle.semigroups.specs.Maps.{Ask, first, next}
 use Rattle.semigroups.specs.Search.{passes, Placed}

@@ -15,7 +15,7 @@ use Rattle.semigroups.specs.Invariants.{IndexPeriod, Profile, index, period, in
 use Rattle.semigroups.specs.Maps.{embeddings, isomorphisms}
 use Rattle.semigroups.specs.Candidates.{candidate}
 use Rattle.semigroups.specs.Scratch.{scratchAfter}
-use Rattle.semigroups.proofs.Booleans.{same-truth, both, and-left, and-right, at-most-or-above}
+use Rattle.semigroups.proofs.Booleans.{same-truth, both, and-left, and-right, trichotomy}
 use Rattle.semigroups.proofs.Lists.{length-elements}
 use Rattle.semigroups.proofs.Sums.{count-at-most}
 use Rattle.semigroups.proofs.Tables.{product-element}
@@ -35,12 +35,11 @@ lower base a b x y hb h = let le : suc a * base ≤ x * base = mul-le-mul-right 
 
 high-same : (base a b x y : ℕ) → b < base → y < base → a * base + b ≡ x * base + y → a ≡ x
 high-same base a b x y hb hy e =
-    ⊎-elim
-    (λ (u : a ≤ x).
-    ⊎-elim
-    (λ (v : x ≤ a). let z : a ≡ x = omega arith in z)
-    (λ (v : a < x). absurd (let l = lower base a b x y hb v in let z : ⊥ = omega arith in z)) (at-most-or-above x a))
-    (λ (u : x < a). absurd (let l = lower base x y a b hy u in let z : ⊥ = omega arith in z)) (at-most-or-above a x)
+    ⊎-elim (λ (q : a ≡ x). q)
+    (λ q. absurd
+    (⊎-elim (λ (v : a < x). let l = lower base a b x y hb v in let z : ⊥ = omega arith in z)
+    (λ (v : x < a). let l = lower base x y a b hy v in let z : ⊥ = omega arith in z) q))
+    (trichotomy a x)
 
 -- Two numbers with one digit more are equal exactly where both parts are.
 digit : (base a b x y : ℕ) → b < base → y < base → eqb (a * base + b) (x * base + y) ≡ (eqb a x && eqb b y)

@@ -12,16 +12,14 @@ use Rattle.semigroups.specs.Tables.{Element, grid}
 use Rattle.semigroups.specs.Scratch.{scratchSize, marks, scratchAfter}
 use Rattle.semigroups.proofs.Booleans.{equal-or-not}
 use Rattle.semigroups.proofs.Tables.{place-below, length-grid, grid-at}
+use Rattle.semigroups.proofs.Candidates.{length-marks}
 use Rattle.candidates.specs.Marks.{pairNumber, withMark}
-
-long : (m n : ℕ) (p : ℕ → ℕ → Bool) → length (marks m n p) ≡ m * n
-unfolding marks
-long m n p = length-grid m n (λ i j. cond (p i j) 1 0)
 
 -- The bytes when the pairs before i, j are marked.
 unfoldable pub written : ℕ → ℕ → (ℕ → ℕ → Bool) → ℕ → ℕ → List ℕ → List ℕ
 written m n p i j scratch = paste scratch 0 (marks m n p) (pairNumber n i j)
 
+-- The number of a pair fits.
 pub pair-small : (n i j : ℕ) → Element 120 i → Element n j → n ≤ 120 → (i - 1) * n + (j - 1) < 14400
 pair-small n i j hi hj hn = let size : 120 * n ≤ 120 * 120 = mul-le-mul-left 120 hn in omega (arith, place-below 120 n i j hi hj)
 
@@ -30,6 +28,7 @@ pub pair-below : (n i j : ℕ) (scratch : List ℕ) → 1 ≤ i → Element n j 
 unfolding scratchSize pairNumber
 pair-below n i j scratch hi hj fits = omega (arith, place-below i n i j (omega arith) hj)
 
+-- The rows up to i lie within all rows.
 pub rows-below : (m n i : ℕ) → i ≤ m → scratchSize i n ≤ scratchSize m n
 unfolding scratchSize
 rows-below m n i h = mul-le-mul-right n h
@@ -46,7 +45,7 @@ module _ (m n : ℕ) (p : ℕ → ℕ → Bool) (scratch : List ℕ) where
   written-all =
       let e : (m + 1 - 1) * n ≡ m * n = ap (λ (x : ℕ). x * n) (let z : m + 1 - 1 ≡ m = omega arith in z) in
       ap (paste scratch 0 (marks m n p)) (let z : (m + 1 - 1) * n + (1 - 1) ≡ m * n = omega arith in z)
-      ∙ ap₂ (λ (l : List ℕ) (k : ℕ). l ++ drop k scratch) (take-all (m * n) (marks m n p) (let l = long m n p in omega arith)) (let z : 0 + m * n ≡ m * n = omega arith in z)
+      ∙ ap₂ (λ (l : List ℕ) (k : ℕ). l ++ drop k scratch) (take-all (m * n) (marks m n p) (let l = length-marks m n p scratch in omega arith)) (let z : 0 + m * n ≡ m * n = omega arith in z)
 
 module _ (m n : ℕ) (p : ℕ → ℕ → Bool) (scratch : List ℕ) (fits : scratchSize m n ≤ length scratch) (i : ℕ) (hi : Element m i) where
   -- Pairs of row i, and the end of the row, lie within the marks.
@@ -55,7 +54,7 @@ module _ (m n : ℕ) (p : ℕ → ℕ → Bool) (scratch : List ℕ) (fits : scr
 
   pub length-written : (j : ℕ) → j ≤ n + 1 → length (written m n p i j scratch) ≡ length scratch
   unfolding written pairNumber scratchSize
-  length-written j hj = let l = long m n p in let w = within j hj in length-paste scratch 0 (marks m n p) ((i - 1) * n + (j - 1)) (omega arith) (omega arith)
+  length-written j hj = let l = length-marks m n p scratch in let w = within j hj in length-paste scratch 0 (marks m n p) ((i - 1) * n + (j - 1)) (omega arith) (omega arith)
 
   -- One pair more.
   pub written-pair : (j : ℕ) → Element n j → withMark n (written m n p i j scratch) i j (p i j) ≡ written m n p i (j + 1) scratch
@@ -63,7 +62,7 @@ module _ (m n : ℕ) (p : ℕ → ℕ → Bool) (scratch : List ℕ) (fits : scr
   written-pair j hj =
       let k = (i - 1) * n + (j - 1) in
       let below : k < m * n = place-below m n i j hi hj in
-      let l = long m n p in
+      let l = length-marks m n p scratch in
       ap₂ (λ (x y : ℕ). set (paste scratch 0 (marks m n p) k) x y) (let z : k ≡ 0 + k = omega arith in z) (sym (grid-at m n (λ x y. cond (p x y) 1 0) i j hi hj))
       ∙ paste-suc scratch 0 (marks m n p) k 0 (omega arith) (omega arith)
       ∙ ap (paste scratch 0 (marks m n p)) (let z : suc k ≡ (i - 1) * n + (j + 1 - 1) = omega arith in z)
@@ -74,7 +73,7 @@ module _ (m n : ℕ) (p : ℕ → ℕ → Bool) (scratch : List ℕ) (fits : scr
   written-over j hj =
       let from = (i - 1) * n + (1 - 1) in
       let to = (i - 1) * n + (j - 1) in
-      let l = long m n p in
+      let l = length-marks m n p scratch in
       let w = within j (hj .1) in
       ap (λ (r : List ℕ). take to (marks m n p) ++ r)
       (ap (λ (k : ℕ). drop k (paste scratch 0 (marks m n p) from)) (let z : 0 + to ≡ 0 + from + (j - 1) = omega arith in z)

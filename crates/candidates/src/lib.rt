@@ -51,12 +51,14 @@ fn mark(scratch: &mut [u8], n: usize, i: usize, j: usize, candidate: bool)
 
 // ---- keys
 
+// Index and period as one number, a byte each.
 fn index_period_key(index: u8, period: u8) -> u64
     ensures answer { λ r. ⌜ r ≡ indexPeriodKey (record { index = index; period = period }) ⌝ }
 {
     (index as u64) * 256 + (period as u64)
 }
 
+// The six numbers of a profile as one number: the frequency takes two bytes, the others, which are at most 120, one byte each.
 fn profile_key(index: u8, period: u8, frequency: u16, diagonal: u16, row: u8, column: u8) -> u64
     requires { ⌜ diagonal < 256 ⌝ }
     ensures answer { λ r. ⌜ r ≡ profileKey (record { index = index; period = period; frequency = frequency; diagonal = diagonal; row = row; column = column }) ⌝ }
@@ -105,7 +107,7 @@ fn profile_keys(cells: &[u8], n: usize) -> [u64; 120]
 
 // ---- filling
 
-// Marks the pairs of elements that have the same key.
+// Marks the pairs of elements with equal keys, row by row.
 fn fill(source: &[u64; 120], m: usize, target: &[u64; 120], n: usize, scratch: &mut [u8])
     requires { ⌜ (m ≤ 120) × (n ≤ 120) ⌝ }
     requires { ⌜ scratchSize m n ≤ length (now scratch) ⌝ }
@@ -123,7 +125,7 @@ fn fill(source: &[u64; 120], m: usize, target: &[u64; 120], n: usize, scratch: &
     }
 }
 
-// The candidates for embeddings: equal index-period.
+// Writes the marks of the candidates for embeddings: the pairs of elements with equal index-period.
 pub fn fill_embeddings(source: &[u8], m: usize, target: &[u8], n: usize, scratch: &mut [u8])
     requires { ⌜ Filled m (now source) × Filled n (now target) ⌝ }
     requires { ⌜ scratchSize m n ≤ length (now scratch) ⌝ }
@@ -134,7 +136,7 @@ pub fn fill_embeddings(source: &[u8], m: usize, target: &[u8], n: usize, scratch
     fill(&source_keys, m, &target_keys, n, scratch);
 }
 
-// The candidates for isomorphisms: equal profile.
+// Writes the marks of the candidates for isomorphisms: the pairs of elements with equal profile.
 pub fn fill_isomorphisms(source: &[u8], m: usize, target: &[u8], n: usize, scratch: &mut [u8])
     requires { ⌜ Filled m (now source) × Filled n (now target) ⌝ }
     requires { ⌜ scratchSize m n ≤ length (now scratch) ⌝ }

@@ -5,6 +5,7 @@ use mathlib.Core.Bool.{true}
 use mathlib.Core.List.{List, [], _∷_, _++_, map, flatMap, flatten}
 use mathlib.Core.Option.{none, orElse}
 use Prim.Native.Nat.{ℕ, zero, suc, _+_, _*_, _≤_, _<_}
+use native.Mathlib.Nat.{mul-le-mul}
 use native.Mathlib.Omega.{arith}
 use lib.Dec.{eqb}
 use lib.ListN.{length, getD, length-map}
@@ -12,7 +13,7 @@ use lib.Seq.{take-all}
 use borrow.Author.Tests.{eq-eqb, eqb-true}
 use Rattle.semigroups.specs.Lists.{sum, all}
 use Rattle.semigroups.specs.Tables.{Element, Filled}
-use Rattle.semigroups.specs.Questions.{no, firstNo}
+use Rattle.semigroups.specs.Questions.{firstNo}
 use Rattle.semigroups.proofs.Booleans.{both, and-left, and-right}
 use Rattle.csv.specs.Decimals.{numeral, value}
 use Rattle.csv.specs.Records.{rows, rowsText}
@@ -26,7 +27,7 @@ use Rattle.csv.proofs.Decimals.{numeral-one, numeral-digits, numeral-lo
 use Rattle.csv.proofs.Fields.{Number, field-passes, field-passed, fields-passed}
 use Rattle.csv.proofs.Records.{ends}
 use Rattle.csv.proofs.Tables.{split, Even, length-split, split-even, flatten-split, split-flatten, table-rows, flatten-map, text-length}
-use Rattle.csv.proofs.Loading.{Loadable, square-small, cells-length, loads}
+use Rattle.csv.proofs.Loading.{Loadable, cells-length, loads}
 
 -- ---- the length of a table's text
 
@@ -43,7 +44,7 @@ text-bound n cells f =
 
 -- So every table's text has at most the 57,720 bytes that question 20 allows.
 pub text-fits : (n : ℕ) (cells : List ℕ) → Filled n cells → length (tableText n cells) ≤ 57720
-text-fits n cells f = let order = f .order in omega (arith, text-bound n cells f, square-small n (order .1))
+text-fits n cells f = let order = f .order in omega (arith, text-bound n cells f, mul-le-mul (order .1) (order .1))
 
 pub text-some : (n : ℕ) (cells : List ℕ) → Filled n cells → 1 ≤ length (tableText n cells)
 text-some n cells f = let order = f .order in omega (arith, text-length n cells (order .0) (f .size))

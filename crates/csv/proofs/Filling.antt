@@ -10,7 +10,7 @@ use Rattle.csv.specs.Decimals.{digits, value}
 use Rattle.csv.specs.Records.{rows}
 use Rattle.csv.specs.Tables.{fieldsOf, cellsOf}
 use Rattle.csv.specs.Questions.{bytesRefusal, endRefusal, fieldRefusal, fieldsRefusal}
-use Rattle.csv.specs.Calls.{overwritten}
+use Rattle.semigroups.specs.Calls.{overwritten}
 use Rattle.csv.proofs.Reading.{Left, Turn, comma, line-break, turn, left-none, all-left}
 use Rattle.csv.proofs.Writing.{Writing, write-first, write-length, write-room, write-next, write-last, sets-overwritten}
 use Rattle.csv.proofs.Fields.{fields-passed}

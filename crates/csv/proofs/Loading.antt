@@ -5,7 +5,7 @@ use mathlib.Core.Bool.{true, and-false}
 use mathlib.Core.List.{List, [], _∷_, flatten}
 use mathlib.Core.Option.{Option, none, some, orElse}
 use Prim.Native.Nat.{ℕ, _*_, _≤_, _<_}
-use native.Mathlib.Nat.{mul-le-mul, suc-mul}
+use native.Mathlib.Nat.{suc-mul}
 use native.Mathlib.Omega.{arith}
 use lib.Dec.{eqb, leb}
 use lib.ListN.{length, length-append, length-map}
@@ -18,7 +18,8 @@ use Rattle.semigroups.proofs.Tables.{orElse-none, ask-passed}
 use Rattle.csv.specs.Records.{rows}
 use Rattle.csv.specs.Tables.{fieldsOf, orderOf, cellsOf}
 use Rattle.csv.specs.Questions.{longest, bytesRefusal, endRefusal, fieldsRefusal, isSquare, squareRefusal, gridRefusal, loadRefusal}
-use Rattle.csv.specs.Calls.{refused, gives, overwritten, loadAnswer, cellsAfter}
+use Rattle.semigroups.specs.Calls.{refused, gives, overwritten}
+use Rattle.csv.specs.Calls.{loadAnswer, cellsAfter}
 
 -- ---- a square
 
@@ -35,9 +36,6 @@ unfolding isSquare
 square-length n rs h =
     let many = eqb-true (length rs) n (and-left (eqb (length rs) n) (all (λ r. eqb (length r) n) rs) h) in
     even-length n rs (and-right (eqb (length rs) n) (all (λ r. eqb (length r) n) rs) h) ∙ ap (λ (k : ℕ). k * n) many
-
-pub square-small : (n : ℕ) → n ≤ 120 → n * n ≤ 14400
-square-small n h = mul-le-mul h h
 
 -- ---- 23 to 26 passed
 

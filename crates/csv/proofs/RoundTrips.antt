@@ -15,7 +15,8 @@ use Rattle.semigroups.specs.Questions.{Refusal, no, ask, firstNo, cellsRefusal}
 use Rattle.semigroups.proofs.Tables.{orElse-none, ask-passed, filled, no-cells-refusal}
 use Rattle.csv.specs.Tables.{orderOf, cellsOf, tableText}
 use Rattle.csv.specs.Questions.{loadRefusal, saveRefusal}
-use Rattle.csv.specs.Calls.{refused, gives, givenUnless, overwritten, loadAnswer, cellsAfter, saveAnswer, textAfter}
+use Rattle.semigroups.specs.Calls.{gives, givenUnless, overwritten}
+use Rattle.csv.specs.Calls.{loadAnswer, cellsAfter, saveAnswer, textAfter}
 use Rattle.csv.specs.Rounds.{Buffers, given, held, saved, loadedOrder, loadedCells, round, rounds}
 use Rattle.csv.proofs.Writing.{overwritten-length, overwritten-twice}
 use Rattle.csv.proofs.Loading.{Loadable, load-passed, load-given, cells-length}

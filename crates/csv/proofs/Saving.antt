@@ -16,7 +16,8 @@ use Rattle.csv.specs.Decimals.{numeral}
 use Rattle.csv.specs.Records.{recordText, lineText, rowsText}
 use Rattle.csv.specs.Tables.{rowFields, tableText}
 use Rattle.csv.specs.Questions.{saveRefusal}
-use Rattle.csv.specs.Calls.{refused, gives, overwritten, saveAnswer, textAfter}
+use Rattle.semigroups.specs.Calls.{refused, gives, overwritten}
+use Rattle.csv.specs.Calls.{saveAnswer, textAfter}
 use Rattle.csv.proofs.Writing.{Writing, write-first, write-next, write-last, sets-overwritten}
 
 elements-first : (n : ℕ) → 1 ≤ n → elements n ≡ 1 ∷ range 2 (n + 1 - 2)

@@ -8,7 +8,7 @@ use native.Mathlib.Omega.{arith}
 use lib.ListN.{length, drop, set, length-append, length-drop}
 use lib.Seq.{sets, length-sets, sets-eq, drop-append-seam}
 use Rattle.csv.specs.Decimals.{numeral}
-use Rattle.csv.specs.Calls.{overwritten}
+use Rattle.semigroups.specs.Calls.{overwritten}
 use Rattle.csv.proofs.Decimals.{numeral-one, numeral-two, numeral-three}
 
 sets-append : (b : List ℕ) (i : ℕ) (p q : List ℕ) → sets b i (p ++ q) ≡ sets (sets b i p) (i + length p) q

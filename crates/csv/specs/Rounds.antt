@@ -3,7 +3,8 @@
 use mathlib.Core.List.{List}
 use Prim.Native.Nat.{ℕ, zero, suc, _*_}
 use lib.ListN.{take}
-use Rattle.csv.specs.Calls.{Answer, refused, gives, loadAnswer, cellsAfter, saveAnswer, textAfter}
+use Rattle.semigroups.specs.Calls.{Answer, refused, gives}
+use Rattle.csv.specs.Calls.{loadAnswer, cellsAfter, saveAnswer, textAfter}
 
 -- The two buffers, and how many bytes of the first are the text.
 pub record Buffers : Type 0 where
@@ -12,7 +13,7 @@ pub record Buffers : Type 0 where
   pub cells : List ℕ
 
 -- The number that is given; 0 stands for none.
-abbrev pub given : Answer → ℕ
+abbrev pub given : Answer ℕ → ℕ
 given (refused r) = 0
 given (gives x) = x
 

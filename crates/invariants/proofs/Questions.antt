@@ -6,9 +6,9 @@ use Prim.Native.Nat.{ℕ, _≤_, _<_}
 use borrow.Author.Tests.{le-leb, lt-leb}
 use Rattle.semigroups.specs.Tables.{Element, isElement, Filled}
 use Rattle.semigroups.specs.Questions.{Refusal, no, ask, firstNo, tableRefusal, elementRefusal}
+use Rattle.semigroups.specs.Calls.{Answer, refused, gives, givenUnless}
 use Rattle.semigroups.proofs.Lists.{is-element}
 use Rattle.semigroups.proofs.Tables.{orElse-none, ask-passed, accepted}
-use Rattle.invariants.specs.Answers.{Report, refused, given, report}
 
 -- A table with no failed question is filled.
 pub table-filled : (n : ℕ) (cells : List ℕ) → tableRefusal n cells ≡ none → Filled n cells
@@ -43,8 +43,8 @@ module _ (n : ℕ) (cells : List ℕ) (a : ℕ) where
 -- ---- what a call says
 
 module _ {A : Type 0} (q : Option Refusal) (value : A) where
-  pub report-refused : (r : Refusal) → q ≡ some r → refused r ≡ report q value
-  report-refused r e = sym (ap (λ (o : Option Refusal). report o value) e)
+  pub says-refused : (r : Refusal) → q ≡ some r → refused r ≡ givenUnless q value
+  says-refused r e = sym (ap (λ (o : Option Refusal). givenUnless o value) e)
 
-  pub report-given : (v : A) → q ≡ none → v ≡ value → given v ≡ report q value
-  report-given v e same = ap {B = Report A} given same ∙ sym (ap (λ (o : Option Refusal). report o value) e)
+  pub says-given : (v : A) → q ≡ none → v ≡ value → gives v ≡ givenUnless q value
+  says-given v e same = ap {B = Answer A} gives same ∙ sym (ap (λ (o : Option Refusal). givenUnless o value) e)

@@ -3,6 +3,7 @@
 use mathlib.Core.List.{[]}
 use mathlib.Core.Option.{Option, none, some}
 use Rattle.semigroups.specs.Questions.{Refusal, no}
+use Rattle.semigroups.specs.Calls.{Answer, refused, gives}
 use Rattle.semigroups.specs.Invariants as marks
 use Rattle.tables.specs.Answers.{faultRefusal}
 use Rattle.invariants.specs.declared.ElementFault.{ElementFault}
@@ -30,22 +31,13 @@ elementVerdictRefusal (verdict.Refused fault) = some (elementFaultRefusal fault)
 
 -- ---- answers
 
--- What a call says: the first failed question, or what was asked for.
-pub data Report (A : Type 0) : Type 0 where
-  refused : Refusal → Report A
-  given : A → Report A
-
-abbrev pub report : {A : Type 0} → Option Refusal → A → Report A
-report (some r) value = refused r
-report none value = given value
-
 -- The numbers of an index-period.
 abbrev pub indexPeriodValue : IndexPeriod → marks.IndexPeriod
 indexPeriodValue r = record { index = r .index; period = r .period }
 
-abbrev pub indexPeriodReport : IndexPeriodAnswer → Report marks.IndexPeriod
-indexPeriodReport (index-period.Value r) = given (indexPeriodValue r)
-indexPeriodReport (index-period.Refused fault) = refused (elementFaultRefusal fault)
+abbrev pub indexPeriodSays : IndexPeriodAnswer → Answer marks.IndexPeriod
+indexPeriodSays (index-period.Value r) = gives (indexPeriodValue r)
+indexPeriodSays (index-period.Refused fault) = refused (elementFaultRefusal fault)
 
 -- The numbers of a profile.
 abbrev pub profileValue : ElementProfile → marks.Profile
@@ -59,6 +51,6 @@ profileValue r =
       column = r .column;
     }
 
-abbrev pub profileReport : ProfileAnswer → Report marks.Profile
-profileReport (profile.Value r) = given (profileValue r)
-profileReport (profile.Refused fault) = refused (elementFaultRefusal fault)
+abbrev pub profileSays : ProfileAnswer → Answer marks.Profile
+profileSays (profile.Value r) = gives (profileValue r)
+profileSays (profile.Refused fault) = refused (elementFaultRefusal fault)

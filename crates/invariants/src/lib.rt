@@ -6,7 +6,8 @@ ghost use Prim.Native.Nat.{_≤_};
 ghost use Rattle.semigroups.specs.Tables.{product, Element, Filled};
 ghost use Rattle.semigroups.specs.Questions.{elementRefusal};
 ghost use Rattle.semigroups.specs.Invariants.{index, period, indexPeriod, frequency, diagonalFrequency, rowFrequency, columnFrequency, profile};
-ghost use Rattle.invariants.specs.Answers.{elementVerdictRefusal, report, indexPeriodValue, indexPeriodReport, profileValue, profileReport};
+ghost use Rattle.semigroups.specs.Calls.{givenUnless};
+ghost use Rattle.invariants.specs.Answers.{elementVerdictRefusal, indexPeriodValue, indexPeriodSays, profileValue, profileSays};
 ghost use Rattle.invariants.specs.PerElement.{perElement};
 ghost use Rattle.invariants.specs.Counts.{every, occurrences, Reached};
 use tables::Fault;
@@ -74,7 +75,7 @@ fn index_period_of(cells: &[u8], n: usize, a: usize) -> IndexPeriod
 
 // The index and the period of element a; or the first question that fails.
 pub fn index_period(cells: &[u8], n: usize, a: usize) -> IndexPeriodAnswer
-    ensures answer { λ r. ⌜ indexPeriodReport r ≡ report (elementRefusal n (now (cells .entry)) a) (indexPeriod n (product n (now (cells .entry))) a) ⌝ }
+    ensures answer { λ r. ⌜ indexPeriodSays r ≡ givenUnless (elementRefusal n (now (cells .entry)) a) (indexPeriod n (product n (now (cells .entry))) a) ⌝ }
 {
     match check_element(cells, n, a) {
         ElementVerdict::Refused(fault) => IndexPeriodAnswer::Refused(fault),
@@ -213,7 +214,7 @@ fn profile_of(cells: &[u8], n: usize, a: usize) -> ElementProfile
 
 // The profile of element a; or the first question that fails.
 pub fn profile(cells: &[u8], n: usize, a: usize) -> ProfileAnswer
-    ensures answer { λ r. ⌜ profileReport r ≡ report (elementRefusal n (now (cells .entry)) a) (profile n (product n (now (cells .entry))) a) ⌝ }
+    ensures answer { λ r. ⌜ profileSays r ≡ givenUnless (elementRefusal n (now (cells .entry)) a) (profile n (product n (now (cells .entry))) a) ⌝ }
 {
     match check_element(cells, n, a) {
         ElementVerdict::Refused(fault) => ProfileAnswer::Refused(fault),

@@ -12,7 +12,8 @@ use Rattle.semigroups.proofs.Tables.{orElse-none, accepted}
 use Rattle.tables.proofs.Questions.{right-size}
 use Rattle.csv.specs.Tables.{orderOf, cellsOf}
 use Rattle.csv.specs.Questions.{loadRefusal}
-use Rattle.csv.specs.Calls.{Answer, refused, gives, givenUnless, loadAnswer, cellsAfter}
+use Rattle.semigroups.specs.Calls.{Answer, refused, gives, givenUnless}
+use Rattle.csv.specs.Calls.{loadAnswer, cellsAfter}
 use Rattle.csv.proofs.Loading.{cells-length, load-passed}
 use Rattle.csv.proofs.Accepted.{first-row}
 use Rattle.csv.proofs.RoundTrips.{not-refused, loads-given}
@@ -90,7 +91,7 @@ unfolding fileAnswer loadAnswer
 holds t cells n e =
     let p = not-refused (fileRefusal t (length cells)) (orderOf t) n e in
     let loads = refusal-none t (length cells) (p .0) in
-    let given : givenUnless (loadRefusal t (length cells)) (orderOf t) ≡ gives n = rw loads (ap gives (p .1)) in
+    let given : givenUnless (loadRefusal t (length cells)) (orderOf t) ≡ gives n = rw loads (ap {B = Answer ℕ} gives (p .1)) in
     let l = loads-given t cells n given in
     let small = l .passes .order in
     let room = l .passes .room in

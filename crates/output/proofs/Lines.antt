@@ -11,7 +11,7 @@ use Rattle.semigroups.specs.Lists.{range, elements, at}
 use Rattle.semigroups.specs.Questions.{Refusal, no, naming}
 use Rattle.csv.specs.Decimals.{numeral}
 use Rattle.csv.specs.Records.{recordText, lineText, rowsText}
-use Rattle.csv.specs.Calls.{refused, overwritten}
+use Rattle.semigroups.specs.Calls.{refused, overwritten}
 use Rattle.csv.proofs.Decimals.{digits-few}
 use Rattle.csv.proofs.Writing.{Writing, write-first, write-next, write-last, sets-overwritten}
 use Rattle.output.specs.Records.{foundWord, refusedWord, firstRecord, pairRecord, pairRecords, foundRecords, refusedRecord, refusedRecords, fileRecords}

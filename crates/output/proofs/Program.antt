@@ -19,7 +19,8 @@ use Rattle.csv.specs.Decimals.{isDigit, value, valueFrom, numeralWithin, numera
 use Rattle.csv.specs.Records.{isBreak, onto, records, fields, rows, recordText, lineText, rowsText}
 use Rattle.csv.specs.Tables.{fieldsOf, orderOf, cellsOf}
 use Rattle.csv.specs.Questions.{breakAt, inBreak, isAllowed, firstOther, bytesRefusal, endRefusal, fieldRefusal, fieldsRefusal, isSquare, squareRefusal, loadRefusal}
-use Rattle.csv.specs.Calls.{Answer, refused, gives, cellsAfter}
+use Rattle.semigroups.specs.Calls.{Answer, refused, gives}
+use Rattle.csv.specs.Calls.{cellsAfter}
 use Rattle.csv.proofs.Loading.{too-short, too-long}
 use Rattle.search.specs.Calls.{lend}
 use Rattle.output.specs.Records.{firstRecord, pairRecord, pairRecords, foundRecords, noneRecords, refusedRecord, refusedRecords, searchRecords, fileRecords}
@@ -51,10 +52,10 @@ module _ (source target : List ℕ) where
 -- The files are loaded into buffers of the program's size; the record of a refused file is all that is printed.
 module _ (source target cells : List ℕ) (size : length cells ≡ room) (r : Refusal) where
   pub prints-source-refused : fileAnswer source cells ≡ refused r → rowsText (fileRecords 1 (fileAnswer source cells)) ≡ recueOutput source target
-  prints-source-refused e = ap (λ (a : Answer). rowsText (fileRecords 1 a)) e ∙ sym (source-refused source target r (ap (fileRefusal source) (sym size) ∙ refused-file source cells r e))
+  prints-source-refused e = ap (λ (a : Answer ℕ). rowsText (fileRecords 1 a)) e ∙ sym (source-refused source target r (ap (fileRefusal source) (sym size) ∙ refused-file source cells r e))
 
   pub prints-target-refused : fileRefusal source room ≡ none → fileAnswer target cells ≡ refused r → rowsText (fileRecords 2 (fileAnswer target cells)) ≡ recueOutput source target
-  prints-target-refused f e = ap (λ (a : Answer). rowsText (fileRecords 2 a)) e ∙ sym (target-refused source target r f (ap (fileRefusal target) (sym size) ∙ refused-file target cells r e))
+  prints-target-refused f e = ap (λ (a : Answer ℕ). rowsText (fileRecords 2 a)) e ∙ sym (target-refused source target r f (ap (fileRefusal target) (sym size) ∙ refused-file target cells r e))
 
 -- Both files are accepted: the search gets the two tables, and buffers of the right length of any content.
 pub prints-answer : (source target first second : List ℕ) → length first ≡ room → length second ≡ room

@@ -17,7 +17,7 @@ use Rattle.semigroups.specs.Walks.{Said, refused, found, nothing}
 use Rattle.semigroups.proofs.Tables.{orElse-none, ask-passed, no-refusal}
 use Rattle.tables.proofs.Questions.{both-pass, tables-accepted}
 use Rattle.csv.specs.Records.{lineText, rowsText}
-use Rattle.csv.specs.Calls.{overwritten}
+use Rattle.semigroups.specs.Calls.{overwritten}
 use Rattle.search.specs.Calls.{Lent, Called, theFirst, refusalOf, answerOf, scratchOf, answered, asked, call}
 use Rattle.search.proofs.Answering.{none-refused}
 use Rattle.search.proofs.Calls.{not-refused, refused-exactly}

@@ -8,7 +8,7 @@ use Rattle.semigroups.specs.Tables.{product, badCell, badTriple}
 use Rattle.semigroups.specs.Questions.{Refusal, no, firstNo}
 use Rattle.csv.specs.Tables.{orderOf, cellsOf}
 use Rattle.csv.specs.Questions.{loadRefusal}
-use Rattle.csv.specs.Calls.{Answer, givenUnless}
+use Rattle.semigroups.specs.Calls.{Answer, givenUnless}
 
 -- The earliest failed question about a file with these bytes and a buffer of so many cells: those about loading; then 3, is every cell 1 to n?
 -- Then 4, is the table associative?
@@ -20,5 +20,5 @@ fileRefusal t room =
     firstNo (loading ∷ cell ∷ triple ∷ [])
 
 -- The order is given.
-unfoldable pub fileAnswer : List ℕ → List ℕ → Answer
+unfoldable pub fileAnswer : List ℕ → List ℕ → Answer ℕ
 fileAnswer t cells = givenUnless (fileRefusal t (length cells)) (orderOf t)

@@ -7,7 +7,7 @@ use Rattle.semigroups.specs.Lists.{elements, at}
 use Rattle.semigroups.specs.Questions.{Refusal, naming}
 use Rattle.semigroups.specs.Walks.{Said, refused, found, nothing}
 use Rattle.csv.specs.Decimals.{numeral}
-use Rattle.csv.specs.Calls as csv
+use Rattle.semigroups.specs.Calls as answers
 use Rattle.semigroups.specs.Maps.{embeddings}
 use Rattle.search.specs.Calls.{Lent, theFirst, call}
 
@@ -71,6 +71,6 @@ unfoldable pub searchRecords : Lent → List (List (List ℕ))
 searchRecords l = let c = call embeddings theFirst l in saidRecords (l .m) (l .n) (c .says) (c .map)
 
 -- What a file's answer adds, for file 1 or 2: a refusal one record; an accepted file none.
-abbrev pub fileRecords : ℕ → csv.Answer → List (List (List ℕ))
-fileRecords side (csv.refused r) = refusedRecords (naming side r)
-fileRecords side (csv.gives n) = []
+abbrev pub fileRecords : ℕ → answers.Answer ℕ → List (List (List ℕ))
+fileRecords side (answers.refused r) = refusedRecords (naming side r)
+fileRecords side (answers.gives n) = []

@@ -10,7 +10,7 @@ use native.Mathlib.Omega.{arith}
 use Rattle.semigroups.specs.Lists.{earlier, Earliest}
 use Rattle.semigroups.specs.Tables.{product}
 use Rattle.semigroups.specs.Questions.{Refusal}
-use Rattle.semigroups.specs.Maps.{Kind, IsMap, earliest}
+use Rattle.semigroups.specs.Maps.{Kind, IsMap}
 use Rattle.semigroups.specs.Walks.{Said, refused, found, nothing}
 use Rattle.semigroups.proofs.Maps.{first-earliest, first-none, next-earliest, next-none}
 use Rattle.search.specs.Calls.{Lent, Called, Request, theFirst, theNext, refusalOf, answerOf, scratchOf, answered, asked, call}

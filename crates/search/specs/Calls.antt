@@ -4,7 +4,7 @@ use mathlib.Core.List.{List}
 use mathlib.Core.Option.{Option, none, some}
 use Prim.Native.Nat.{ℕ}
 use lib.ListN.{length}
-use Rattle.semigroups.specs.Tables.{Product, product}
+use Rattle.semigroups.specs.Tables.{product}
 use Rattle.semigroups.specs.Scratch.{scratchAfter}
 use Rattle.semigroups.specs.Questions.{Refusal, searchRefusal}
 use Rattle.semigroups.specs.Maps.{Kind, maps, Ask, first, next, earliest}

@@ -12,7 +12,7 @@ use Rattle.semigroups.specs.Questions.{Refusal, searchRefusal}
 use Rattle.semigroups.specs.Maps.{Isomorphism, isomorphisms, maps}
 use Rattle.semigroups.specs.Isomorphisms.{IsGroup, EachOnce}
 use Rattle.semigroups.specs.Walks.{refused, Outcome, held, walk, claim, answered, finally}
-use Rattle.search.specs.Calls.{Lent, Called, theNext, call}
+use Rattle.search.specs.Calls.{Lent, theNext, call}
 
 -- What a call of a walk lends beside the map buffer.
 pub record Beside : Type 0 where

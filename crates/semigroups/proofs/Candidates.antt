@@ -1,17 +1,17 @@
 -- Candidates lose no map: an embedding keeps the index-period, an isomorphism the profile. So the search with them finds what first and next mean.
 -- Scratch marks read back as the candidates. Assumes nothing.
-use mathlib.Core.Path.{_≡_, refl, sym, ap, _∙_, subst}
+use mathlib.Core.Path.{_≡_, refl, sym, ap, _∙_}
 use mathlib.Core.Bool.{Bool, true, false, cond}
-use mathlib.Core.List.{List, [], _++_}
+use mathlib.Core.List.{List, []}
 use Prim.Native.Nat.{ℕ, _+_, _-_, _*_, _≤_, _<_}
 use native.Mathlib.Omega.{arith}
 use lib.Dec.{eqb}
-use lib.ListN.{length, getD, drop, length-append, length-drop, List·getD-append}
+use lib.ListN.{length, drop, length-append, length-drop, List·getD-append}
 use Rattle.semigroups.specs.Lists.{at}
-use Rattle.semigroups.specs.Tables.{Product, Element, Closed, grid}
+use Rattle.semigroups.specs.Tables.{Product, Element, Closed}
 use Rattle.semigroups.specs.Scratch.{scratchSize, marks, marked, scratchAfter}
 use Rattle.semigroups.specs.Invariants.{indexPeriod, profile}
-use Rattle.semigroups.specs.Maps.{Embedding, embeddings, isomorphisms, maps, Ask, earliest}
+use Rattle.semigroups.specs.Maps.{embeddings, isomorphisms, maps, Ask, earliest}
 use Rattle.semigroups.specs.Candidates.{candidate}
 use Rattle.semigroups.specs.Search.{search}
 use Rattle.semigroups.proofs.Tables.{place-below, length-grid, grid-at}

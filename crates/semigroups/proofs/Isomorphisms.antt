@@ -3,11 +3,11 @@
 use mathlib.Core.Path.{_≡_, refl, sym, ap, _∙_, subst, subst₂}
 use mathlib.Core.Logic.{_⊎_, inl, inr}
 use mathlib.Core.List.{List, [], _∷_, map, List·Memᴰ, List·Memᴰ·head, Memᴰ·cast, Memᴰ·of-map, Memᴰ·map}
-use Prim.Native.Nat.{ℕ, _≤_, _<_}
+use Prim.Native.Nat.{ℕ, _≤_}
 use native.Mathlib.Nat.{le-antisymm}
 use lib.ListN.{length, getD, length-map}
 use Rattle.semigroups.specs.Lists.{NoRepeats}
-use Rattle.semigroups.specs.Tables.{Product, Element, Closed}
+use Rattle.semigroups.specs.Tables.{Product, Closed}
 use Rattle.semigroups.specs.Maps.{Embedding, embeddings, isomorphisms, maps, identity, after, inverse}
 use Rattle.semigroups.specs.Isomorphisms.{IsGroup, EachOnce}
 use Rattle.semigroups.proofs.NoRepeats.{length-inside, mem-place, place-mem, place-unique, map-no-repeats}

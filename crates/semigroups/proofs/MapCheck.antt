@@ -1,17 +1,17 @@
 -- The map check of m bytes says "holds" exactly for embeddings, and otherwise the earliest fault. The idea: where nothing is found among all elements
 -- or all pairs, every one of them is right. Assumes nothing.
-use mathlib.Core.Path.{_≡_, refl, sym, ap, _∙_, subst}
-use mathlib.Core.Bool.{Bool, true, false, _&&_, not}
+use mathlib.Core.Path.{_≡_, refl, sym}
+use mathlib.Core.Bool.{Bool, _&&_, not}
 use mathlib.Core.Logic.{_⊎_, inl, inr, ⊎-elim, _↔_}
 use mathlib.Core.Option.{Option, none, some}
-use mathlib.Core.List.{List, [], _∷_, List·Memᴰ, List·Memᴰ·head, List·Memᴰ·tail, List·Memᴰ·not-nil, List·Memᴰ·cases-cons}
-use Prim.Native.Nat.{ℕ, _-_, _≤_, _<_}
+use mathlib.Core.List.{List, [], _∷_}
+use Prim.Native.Nat.{ℕ, _<_}
 use native.Mathlib.Omega.{arith}
 use borrow.Author.Tests.{eqb-true, eqb-false, eq-eqb, ltb-true, lt-ltb, not-true, not-false}
 use lib.Dec.{eqb, ltb}
 use lib.ListN.{length}
-use Rattle.semigroups.specs.Lists.{range, elements, at, find, lists, Earliest}
-use Rattle.semigroups.specs.Tables.{Product, Element, IsList, isElement}
+use Rattle.semigroups.specs.Lists.{range, elements, at, Earliest}
+use Rattle.semigroups.specs.Tables.{Product, Element, isElement}
 use Rattle.semigroups.specs.Maps.{Embedding}
 use Rattle.semigroups.specs.MapCheck.{Checked, holds, outside, equalImages, wrongProduct, unless, firstOutside, firstEqual, firstWrong, checkMap, EqualPair, WrongPair, IsChecked, an-embedding, an-outsider, an-equal-pair, a-wrong-pair}
 use Rattle.semigroups.proofs.Booleans.{clash, untrue, both, and-left, and-right, not-of-false, trichotomy}

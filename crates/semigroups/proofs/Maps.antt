@@ -1,7 +1,7 @@
 -- Maps: the tests and the plain statements agree, both ways; the full lists are increasing and hold exactly the maps of their kind; what first and next
 -- find is the earliest, and none means that there is none; more elements do not fit into fewer. Assumes nothing.
 use mathlib.Core.Path.{_≡_, refl, ap}
-use mathlib.Core.Bool.{Bool, true, false, _&&_}
+use mathlib.Core.Bool.{Bool, true, _&&_}
 use mathlib.Core.Logic.{_↔_}
 use mathlib.Core.Option.{none, some}
 use mathlib.Core.List.{List, [], _∷_, List·Memᴰ, List·Memᴰ·head}
@@ -11,12 +11,12 @@ use borrow.Author.Tests.{eqb-true, eq-eqb}
 use lib.Dec.{eqb}
 use lib.ListN.{length}
 use Rattle.semigroups.specs.Lists.{elements, at, all, distinct, earlier, lists, Increasing, Earliest}
-use Rattle.semigroups.specs.Tables.{Product, Element, IsList, isElement}
+use Rattle.semigroups.specs.Tables.{Product, IsList, isElement}
 use Rattle.semigroups.specs.Maps.{Homomorphism, Embedding, Isomorphism, isHomomorphism, isEmbedding, isIsomorphism, Kind, embeddings, isomorphisms, IsMap, isMap, maps, Ask, first, next, beyond, earliest}
 use Rattle.semigroups.proofs.Booleans.{clash, both, and-left, and-right}
 use Rattle.semigroups.proofs.Lists.{all-at, all-of, pairs-at, pairs-of, is-element, element-is, find-some, find-none, find-first, keep-same, mem-keep, keep-mem, sorted-keep}
 use Rattle.semigroups.proofs.NoRepeats.{distinct-places, distinct-of, one-to-one, one-to-one-no-repeats, within-mem, no-more, place-mem}
-use Rattle.semigroups.proofs.ListOrder.{lists-increasing, mem-lists, lists-mem}
+use Rattle.semigroups.proofs.ListOrder.{lists-increasing, lists-mem}
 
 -- ---- tests and plain statements
 

@@ -1,17 +1,16 @@
 -- Lists with no entry twice: one inside another is no longer and sums to no more; the pigeonhole. Assumes nothing.
-use mathlib.Core.Path.{_≡_, refl, sym, ap, ap₂, _∙_, subst}
-use mathlib.Core.Bool.{Bool, true, false, cond, not, _&&_}
+use mathlib.Core.Path.{_≡_, refl, sym, ap, _∙_, subst}
+use mathlib.Core.Bool.{true, not}
 use mathlib.Core.Logic.{_⊎_, inl, inr, ⊎-elim}
 use mathlib.Core.List.{List, [], _∷_, map, List·Memᴰ, List·Memᴰ·head, List·Memᴰ·tail, List·Memᴰ·cases-cons, Memᴰ·cast, Memᴰ·of-map}
 use Prim.Native.Nat.{ℕ, zero, suc, _+_, _-_, _≤_, _<_, zero-le, suc-le-suc}
 use native.Mathlib.Omega.{arith}
-use borrow.Author.Tests.{eq-eqb, ne-eqb, not-true}
-use lib.Dec.{eqb}
+use borrow.Author.Tests.{not-true}
 use lib.ListN.{length, getD, length-map}
-use Rattle.semigroups.specs.Lists.{range, elements, at, sum, count, member, distinct, Sorted, NoRepeats}
+use Rattle.semigroups.specs.Lists.{range, elements, at, sum, member, distinct, Sorted, NoRepeats}
 use Rattle.semigroups.specs.Tables.{Element}
 use Rattle.semigroups.proofs.Booleans.{both, and-left, and-right, not-of-false, trichotomy}
-use Rattle.semigroups.proofs.Lists.{length-range, getD-range, length-elements, mem-elements, elements-mem, at-suc, getD-map, sorted-range, sorted-weaken, not-member, unmember, mem-or-not}
+use Rattle.semigroups.proofs.Lists.{length-range, getD-range, length-elements, elements-mem, at-suc, getD-map, sorted-range, sorted-weaken, not-member, unmember, mem-or-not}
 
 module _ {A : Type 0} where
   -- The list without the one entry that a membership points at.

@@ -1,23 +1,23 @@
 -- Tables: what stands in a grid; products of elements are elements; a table has no failed question exactly where it is accepted, and a failed one is
 -- the earliest, with the earliest cell or triple. Assumes nothing.
 use mathlib.Core.Path.{_≡_, refl, sym, ap, ap₂, _∙_, subst}
-use mathlib.Core.Bool.{Bool, true, false, cond, not, _&&_}
-use mathlib.Core.Logic.{_⊎_, inl, inr, _↔_, ⊎-elim}
+use mathlib.Core.Bool.{Bool, true, false, not}
+use mathlib.Core.Logic.{_⊎_, inl, inr, ⊎-elim}
 use mathlib.Core.Option.{Option, none, some, Option·map, orElse}
-use mathlib.Core.List.{List, [], _∷_, map, flatMap, List·Memᴰ, List·Memᴰ·head, List·Memᴰ·tail, List·Memᴰ·not-nil, List·Memᴰ·cases-cons}
-use Prim.Native.Nat.{ℕ, zero, suc, _+_, _-_, _*_, _≤_, _<_}
+use mathlib.Core.List.{List, [], _∷_, map, List·Memᴰ·not-nil, List·Memᴰ·cases-cons}
+use Prim.Native.Nat.{ℕ, suc, _+_, _-_, _*_, _≤_, _<_}
 use native.Mathlib.Nat.{mul-le-mul-right, suc-mul}
 use native.Mathlib.Omega.{arith}
 use borrow.Author.Tests.{eqb-true, eqb-false, eq-eqb, not-true, not-false}
-use lib.Dec.{eqb, leb}
+use lib.Dec.{eqb}
 use lib.ListN.{length, getD, length-map}
-use Rattle.semigroups.specs.Lists.{range, elements, at, find, lists, Earliest}
+use Rattle.semigroups.specs.Lists.{range, elements, at, lists, Earliest}
 use Rattle.semigroups.specs.Tables.{Product, product, grid, Element, IsList, Closed, Associative, FailingTriple, Filled, Accepted, isElement, associates, badCell, badTriple}
 use Rattle.semigroups.specs.Questions.{Refusal, no, ask, firstNo, cellsRefusal, tableRefusal, Refused, wrong-order, wrong-size, wrong-cell, wrong-triple}
-use Rattle.semigroups.proofs.Booleans.{clash, untrue, not-of-true, not-of-false, trichotomy}
-use Rattle.semigroups.proofs.Lists.{length-elements, getD-map, mem-elements, elements-mem, mem-range, range-mem, sorted-range, at-suc, at-elements, is-element, element-is, find-some, find-none, none-find, find-first}
+use Rattle.semigroups.proofs.Booleans.{clash, untrue, not-of-true, not-of-false}
+use Rattle.semigroups.proofs.Lists.{length-elements, getD-map, mem-range, range-mem, sorted-range, at-suc, at-elements, is-element, element-is, find-some, find-none, none-find, find-first}
 use Rattle.semigroups.proofs.FlatMap.{length-flatMap, getD-flatMap}
-use Rattle.semigroups.proofs.NoRepeats.{mem-place, place-mem}
+use Rattle.semigroups.proofs.NoRepeats.{place-mem}
 use Rattle.semigroups.proofs.ListOrder.{mem-lists, find-earliest, find-nowhere}
 
 -- ---- cells row after row

@@ -1,14 +1,14 @@
 -- The table of all transformations of d points, for any d: a number and its image list belong to each other, the product is composition, s first,
 -- then t; it is associative and its cells are in range, so the tables of degree 1 to 3 are accepted. Assumes nothing.
-use mathlib.Core.Path.{_≡_, refl, sym, ap, ap₂, _∙_, subst}
-use mathlib.Core.Bool.{Bool, true, false, cond}
-use mathlib.Core.List.{List, [], _∷_, map, flatMap, List·Memᴰ, List·Memᴰ·head, List·Memᴰ·tail, Memᴰ·of-map}
+use mathlib.Core.Path.{_≡_, refl, sym, ap, _∙_, subst}
+use mathlib.Core.Bool.{true, cond}
+use mathlib.Core.List.{List, [], _∷_, map, List·Memᴰ, List·Memᴰ·head, List·Memᴰ·tail, Memᴰ·of-map}
 use Prim.Native.Nat.{ℕ, zero, suc, _+_, _-_, _*_, _^_, _≤_, _<_}
-use native.Mathlib.Nat.{le-trans, pow-le-pow-left, pow-le-pow-right, one-le-pow}
+use native.Mathlib.Nat.{pow-le-pow-left, pow-le-pow-right, one-le-pow}
 use native.Mathlib.Omega.{arith}
 use lib.ListN.{length, getD}
 use Rattle.semigroups.specs.Lists.{elements, at, sum, count, earlier, lists, Increasing}
-use Rattle.semigroups.specs.Tables.{Product, product, grid, Element, IsList, Closed, Associative, Accepted}
+use Rattle.semigroups.specs.Tables.{product, grid, Element, IsList, Closed, Associative, Accepted}
 use Rattle.semigroups.specs.Maps.{after}
 use Rattle.semigroups.specs.Transformations.{transformations, transformationOrder, transformation, numberOf, transformationProduct, transformationCells}
 use Rattle.semigroups.proofs.Lists.{mem-elements}

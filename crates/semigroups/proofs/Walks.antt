@@ -1,6 +1,6 @@
 -- Walks: calls that answer as "next" is defined, on one buffer of zeros, find the entries of the full list in turn and then nothing each time.
 -- The idea: after k calls not refused the buffer holds entry k, behind which stands the next. Assumes nothing.
-use mathlib.Core.Path.{_≡_, refl, sym, ap, _∙_, subst}
+use mathlib.Core.Path.{_≡_, refl, sym, ap, _∙_}
 use mathlib.Core.Bool.{Bool, true, false, cond}
 use mathlib.Core.Logic.{_⊎_, inl, inr, ⊎-elim}
 use mathlib.Core.Option.{Option, none, some}
@@ -10,11 +10,11 @@ use native.Mathlib.Omega.{arith}
 use borrow.Author.Tests.{leb-true, leb-false}
 use lib.Dec.{leb}
 use lib.ListN.{length, getD, replicate, length-replicate}
-use Rattle.semigroups.specs.Lists.{at, find, earlier, Increasing}
+use Rattle.semigroups.specs.Lists.{find, earlier, Increasing}
 use Rattle.semigroups.specs.Tables.{Product, Element}
-use Rattle.semigroups.specs.Maps.{Embedding, Kind, IsMap, maps, Ask, next, beyond, earliest}
-use Rattle.semigroups.specs.Walks.{Said, refused, found, nothing, Outcome, held, outcomeOf, nextOutcome, counted, claimed, walk, claim, answered, finally}
-use Rattle.semigroups.proofs.Booleans.{clash, untrue, at-most-or-above, trichotomy}
+use Rattle.semigroups.specs.Maps.{Embedding, Kind, maps, next, earliest}
+use Rattle.semigroups.specs.Walks.{found, nothing, Outcome, held, outcomeOf, nextOutcome, counted, claimed, walk, claim, answered, finally}
+use Rattle.semigroups.proofs.Booleans.{trichotomy}
 use Rattle.semigroups.proofs.Lists.{at-suc, none-find}
 use Rattle.semigroups.proofs.NoRepeats.{mem-place, place-mem, sorted-places}
 use Rattle.semigroups.proofs.ListOrder.{earlier-head, earlier-irreflexive, earlier-asymmetric}

@@ -1,6 +1,6 @@
 -- Candidates: which target elements a source element may go to, for each kind of map (arXiv 1603.06204, definitions 3.3 and 4.1).
 -- Assumes nothing.
-use mathlib.Core.Bool.{Bool, true, false}
+use mathlib.Core.Bool.{Bool}
 use Prim.Native.Nat.{ℕ}
 use Rattle.semigroups.specs.Tables.{Product}
 use Rattle.semigroups.specs.Invariants.{indexPeriod, sameIndexPeriod, profile, sameProfile}

@@ -1,7 +1,7 @@
 -- Invariants of an element (arXiv 1603.06204, sections 3 and 4), which 01 calls its marks: powers, index and period, profile.
 -- Assumes nothing.
 use mathlib.Core.Path.{_≡_}
-use mathlib.Core.Bool.{Bool, true, false, _&&_}
+use mathlib.Core.Bool.{Bool, _&&_}
 use Prim.Native.Nat.{ℕ, zero, suc, _+_, _≤_}
 use lib.Dec.{eqb, leb}
 use Rattle.semigroups.specs.Lists.{elements, sum, count, least}

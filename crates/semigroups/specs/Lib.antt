@@ -2,6 +2,7 @@ pub mod Lists
 pub mod Tables
 pub mod Scratch
 pub mod Questions
+pub mod Calls
 pub mod Invariants
 pub mod Maps
 pub mod Isomorphisms

@@ -1,7 +1,7 @@
 -- The questions that a call asks in order (01, "The questions"): the first "no" gives its number, the side that it names, and what is said with it.
 -- Questions 8 and 9 stand with the tables of transformations (Transformations), and those about a text with the text.
 -- Assumes nothing.
-use mathlib.Core.Bool.{Bool, true, false, _&&_, cond}
+use mathlib.Core.Bool.{Bool, cond}
 use mathlib.Core.List.{List, [], _∷_}
 use mathlib.Core.Option.{Option, none, some, Option·map, orElse}
 use mathlib.Core.Path.{_≡_}

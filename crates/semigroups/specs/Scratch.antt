@@ -1,6 +1,6 @@
 -- The layout of the scratch buffer (01, "Maps"): the one place that knows where the mark of a pair stands and how many bytes the marks take.
 -- Assumes nothing.
-use mathlib.Core.Bool.{Bool, true, false, cond}
+use mathlib.Core.Bool.{Bool, cond}
 use mathlib.Core.List.{List, _++_}
 use Prim.Native.Nat.{ℕ, _+_, _-_, _*_}
 use lib.Dec.{eqb}

@@ -2,7 +2,7 @@
 -- placing tested before the next. It takes any candidates. What it finds is a theorem about it and no part of what first and next mean.
 -- The paper prints φ(i)φ(k) for the undefined product that it means, φ(i)φ(j).
 -- Assumes nothing.
-use mathlib.Core.Bool.{Bool, true, false, _&&_, not, cond}
+use mathlib.Core.Bool.{Bool, true, _&&_, not, cond}
 use mathlib.Core.List.{List, [], _∷_, _++_, List·Memᴰ}
 use mathlib.Core.Option.{Option, none, some}
 use Prim.Native.Nat.{ℕ, zero, suc}

@@ -1,11 +1,10 @@
 -- Walks (01, "Walks"): lists of calls on one map buffer, each of which is refused or asks for the next entry of a list.
 -- R is what a refusal says, C a call with all that it lends apart from the map buffer.
 -- Assumes nothing.
-use mathlib.Core.Path.{_≡_}
 use mathlib.Core.Bool.{cond}
 use mathlib.Core.List.{List, [], _∷_}
 use mathlib.Core.Option.{Option, none, some}
-use Prim.Native.Nat.{ℕ, zero, suc, min}
+use Prim.Native.Nat.{ℕ, suc, min}
 use lib.Dec.{leb}
 use lib.ListN.{length, getD}
 use Rattle.semigroups.specs.Maps.{next, earliest}

@@ -1,6 +1,6 @@
 -- The questions about a table, one by one: what each way out of them answers. Assumes nothing.
-use mathlib.Core.Path.{_≡_, refl, sym, ap, _∙_}
-use mathlib.Core.Bool.{Bool, true, false, cond, not}
+use mathlib.Core.Path.{_≡_, refl, ap, _∙_}
+use mathlib.Core.Bool.{Bool, cond, not}
 use mathlib.Core.List.{List, [], _∷_}
 use mathlib.Core.Option.{Option, none, some, Option·map, orElse}
 use Prim.Native.Nat.{ℕ, _+_, _-_, _*_, _≤_, _<_}

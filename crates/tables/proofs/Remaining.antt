@@ -6,7 +6,7 @@ use mathlib.Core.List.{List, [], _∷_, _++_}
 use mathlib.Core.Option.{Option, none, some, orElse}
 use Prim.Native.Nat.{ℕ, zero, suc, _+_, _≤_, _<_}
 use native.Mathlib.Omega.{arith}
-use Rattle.semigroups.specs.Lists.{find, lists, elements}
+use Rattle.semigroups.specs.Lists.{find, lists}
 use Rattle.semigroups.specs.Tables.{Element}
 use Rattle.semigroups.proofs.Completions.{findBehind, find-all, find-whole, find-entry, firstFrom, first-start, first-step, first-end}
 

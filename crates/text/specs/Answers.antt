@@ -2,9 +2,10 @@
 -- Assumes nothing.
 use mathlib.Core.List.{[], _∷_}
 use mathlib.Core.Option.{Option, none, some}
+use Prim.Native.Nat.{ℕ}
 use Rattle.semigroups.specs.Questions.{Refusal, no}
 use Rattle.tables.specs.Answers.{faultRefusal as tableRefusal}
-use Rattle.csv.specs.Calls.{Answer, refused, gives}
+use Rattle.semigroups.specs.Calls.{Answer, refused, gives}
 use Rattle.text.specs.declared.TextFault.{TextFault}
 use Rattle.text.specs.declared.TextFault.the-variants.{Length, Byte, End, FieldLength, LeadingZero, FieldValue, Shape, Order, Room}
 use Rattle.text.specs.declared.Judged.{Judged}
@@ -30,11 +31,11 @@ abbrev pub judgedRefusal : Judged → Option Refusal
 judgedRefusal Passed = none
 judgedRefusal (Failed f) = some (faultRefusal f)
 
-abbrev pub loadedAnswer : Loaded → Answer
+abbrev pub loadedAnswer : Loaded → Answer ℕ
 loadedAnswer (LoadedOrder n) = gives n
 loadedAnswer (LoadRefused f) = refused (faultRefusal f)
 
-abbrev pub savedAnswer : Saved → Answer
+abbrev pub savedAnswer : Saved → Answer ℕ
 savedAnswer (SavedLength k) = gives k
 savedAnswer (SaveRefused f) = refused (tableRefusal f)
 savedAnswer SavedRoom = refused (no 28 [])

@@ -1,5 +1,6 @@
 // Cayley tables as RFC 4180 text: a record for each row, a decimal field for each cell, each record closed by CR LF.
-// `load` asks questions 20 to 27 and 1 of a text, `save` asks 1, 2, 3 and 28; a refusal changes no byte.
+// `load` asks questions 20 to 27 and 1 of a text, `save` asks 1, 2, 3 and 28; a refusal changes no byte. What the contracts cite, and that saving
+// and loading undo each other, is in the crate `csv`.
 ghost use mathlib.Core.Path.{_≡_};
 ghost use mathlib.Core.Option.{none};
 ghost use Prim.Native.Nat.{_+_, _≤_, _<_};
@@ -10,13 +11,13 @@ ghost use Rattle.csv.specs.Decimals.{digits, value, numeral};
 ghost use Rattle.csv.specs.Records.{lineText};
 ghost use Rattle.csv.specs.Tables.{fieldsOf, orderOf, cellsOf, rowFields, tableText};
 ghost use Rattle.csv.specs.Questions.{bytesRefusal, endRefusal, fieldRefusal, fieldsRefusal, gridRefusal};
-ghost use Rattle.csv.specs.Calls.{overwritten, loadAnswer, cellsAfter, saveAnswer, textAfter};
+ghost use Rattle.semigroups.specs.Calls.{overwritten};
+ghost use Rattle.csv.specs.Calls.{loadAnswer, cellsAfter, saveAnswer, textAfter};
 ghost use Rattle.text.specs.Answers.{judgedRefusal, loadedAnswer, savedAnswer};
 
-// Why a text is refused.
+// Why a text is refused: questions 20 to 26, 1 and 27. 21 carries the place of the byte, from 0.
 pub enum TextFault {
     Length,
-    // The place of the byte, from 0.
     Byte(usize),
     End,
     FieldLength,

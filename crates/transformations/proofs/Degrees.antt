@@ -1,25 +1,24 @@
 -- Transformations of d points by their digits, for any d; that orders and places are small for the degrees 1 to 3; and what each way out of the
 -- questions says. Assumes nothing.
 use mathlib.Core.Path.{_≡_, refl, sym, ap, ap₂, _∙_, subst}
-use mathlib.Core.Bool.{true, false}
 use mathlib.Core.List.{List, [], _++_}
-use mathlib.Core.Option.{Option, none, some, orElse}
+use mathlib.Core.Option.{none, some, orElse}
 use Prim.Native.Nat.{ℕ, suc, _+_, _-_, _*_, _/_, _%_, _^_, _≤_, _<_}
-use native.Mathlib.Nat.{pow-zero, pow-suc, pow-le-pow-left, pow-le-pow-right, one-le-pow, mul-le-mul, le-trans}
+use native.Mathlib.Nat.{pow-suc, pow-le-pow-left, pow-le-pow-right, one-le-pow, mul-le-mul}
 use native.Mathlib.Omega.{arith}
 use borrow.Author.Tests.{le-leb, lt-leb}
-use lib.ListN.{length, take, drop, getD}
-use lib.Seq.{take-all, getD-take}
+use lib.ListN.{length, take, drop, getD, replicate, List·getD-append}
+use lib.Seq.{take-all}
 use Rattle.semigroups.specs.Lists.{at}
-use Rattle.semigroups.specs.Tables.{Element, IsList, isElement, grid}
+use Rattle.semigroups.specs.Tables.{Element, isElement, grid}
 use Rattle.semigroups.specs.Maps.{after}
 use Rattle.semigroups.specs.Questions.{Refusal, no, firstNo}
-use Rattle.semigroups.specs.Transformations.{transformationOrder, transformation, numberOf, transformationProduct, transformationCells, transformationRefusal}
+use Rattle.semigroups.specs.Calls.{refused, gives}
+use Rattle.semigroups.specs.Transformations.{transformationOrder, transformation, transformationProduct, transformationCells, transformationRefusal}
 use Rattle.semigroups.proofs.Composition.{at-after, length-after}
 use Rattle.semigroups.proofs.Tables.{list-at, length-grid, grid-at, place-below}
 use Rattle.semigroups.proofs.Transformations.{transformation-list, product-composite, transformations-closed, length-cells}
-use Rattle.transformations.specs.Answers.{refused, order, transformationReport, cellsAfter, imageLists}
-use Rattle.transformations.proofs.Writing.{row-of, column-of, grid-place}
+use Rattle.transformations.specs.Answers.{transformationSays, cellsAfter, imageBytes}
 use Rattle.transformations.proofs.Digits.{digits, digit-below, digits-number, digits-take, drop-digit, last-digit}
 
 -- ---- one transformation
@@ -42,18 +41,17 @@ module _ (d k : ℕ) (hk : Element (transformationOrder d) k) where
     pub image-last : rest % d ≡ at (transformation d k) x - 1
     image-last = ap (λ (q : ℕ). q % d) e ∙ last-digit d (transformation d k) x (let l = list-long in omega arith) (image-element x hx)
 
--- Looked up in the image lists.
+-- Looked up among the image lists.
 module _ (d : ℕ) where
-  pub length-images : length (imageLists d) ≡ transformationOrder d * d
-  unfolding imageLists
-  length-images = length-grid (transformationOrder d) d (λ k x. at (transformation d k) x)
-
-  pub look-up : (l : List ℕ) → take (transformationOrder d * d) l ≡ imageLists d → (k x : ℕ) → Element (transformationOrder d) k → Element d x → getD l ((k - 1) * d + (x - 1)) 0 ≡ at (transformation d k) x
-  unfolding imageLists
+  pub look-up : (l : List ℕ) → l ≡ imageBytes d → (k x : ℕ) → Element (transformationOrder d) k → Element d x → getD l ((k - 1) * d + (x - 1)) 0 ≡ at (transformation d k) x
+  unfolding imageBytes
   look-up l e k x hk hx =
       let n = transformationOrder d in
       let p = (k - 1) * d + (x - 1) in
-      sym (getD-take (n * d) l p 0 (place-below n d k x hk hx)) ∙ ap (λ (q : List ℕ). getD q p 0) e ∙ grid-at n d (λ k x. at (transformation d k) x) k x hk hx
+      let images : ℕ → ℕ → ℕ = λ k x. at (transformation d k) x in
+      ap (λ (q : List ℕ). getD q p 0) e
+      ∙ List·getD-append (grid n d images) (drop (n * d) (replicate 81 0)) 0 p (let h = place-below n d k x hk hx in let s = length-grid n d images in omega arith)
+      ∙ grid-at n d images k x hk hx
 
 -- ---- the product of two
 
@@ -119,11 +117,14 @@ module _ (d : ℕ) (h : Element 3 d) where
   unfolding transformationOrder
   order-range = (one-le-pow d d (let z : 0 < d = omega arith in z), power-small d d (h .1) (h .1))
 
--- ---- places of the image lists and of the table, whose order is n
+-- ---- the image lists and the table, whose order is n
 
 module _ (d : ℕ) (h : Element 3 d) (n : ℕ) (e : n ≡ transformationOrder d) where
   pub order-small : Element 27 n
   order-small = subst (Element 27) (sym e) (order-range d h)
+
+  pub number-of : (k : ℕ) → Element n k → Element (transformationOrder d) k
+  number-of k hk = subst (λ (m : ℕ). Element m k) e hk
 
   pub image-room : n * d ≤ 81
   image-room = mul-le-mul (order-small .1) (h .1)
@@ -131,44 +132,22 @@ module _ (d : ℕ) (h : Element 3 d) (n : ℕ) (e : n ≡ transformationOrder d)
   pub cell-room : n * n ≤ 729
   cell-room = mul-le-mul (order-small .1) (order-small .1)
 
-  pub image-size : n * d ≡ length (imageLists d)
-  image-size = ap (λ (m : ℕ). m * d) e ∙ sym (length-images d)
+  pub images-written : grid n d (λ k x. at (transformation d k) x) ++ drop (n * d) (replicate 81 0) ≡ imageBytes d
+  unfolding imageBytes
+  images-written = ap (λ (m : ℕ). grid m d (λ k x. at (transformation d k) x) ++ drop (m * d) (replicate 81 0)) e
 
-  pub cell-size : n * n ≡ length (transformationCells d)
-  cell-size = ap (λ (m : ℕ). m * m) e ∙ sym (length-cells d)
-
-  module _ (p : ℕ) (u : p < n * d) where
-    pub image-row : Element (transformationOrder d) (p / d + 1)
-    image-row = subst (λ (m : ℕ). Element m (p / d + 1)) e (row-of n d p u (h .0))
-
-    pub image-column : Element d (p % d + 1)
-    image-column = column-of n d p u (h .0)
-
-    pub image-at : at (transformation d (p / d + 1)) (p % d + 1) ≡ getD (imageLists d) p 0
-    unfolding imageLists
-    image-at =
-        let images : ℕ → ℕ → ℕ = λ k x. at (transformation d k) x in
-        sym (ap (λ (m : ℕ). getD (grid m d images) p 0) (sym e) ∙ grid-place n d p u (h .0) images)
-
-  module _ (p : ℕ) (u : p < n * n) where
-    pub cell-row : Element (transformationOrder d) (p / n + 1)
-    cell-row = subst (λ (m : ℕ). Element m (p / n + 1)) e (row-of n n p u (order-small .0))
-
-    pub cell-column : Element (transformationOrder d) (p % n + 1)
-    cell-column = subst (λ (m : ℕ). Element m (p % n + 1)) e (column-of n n p u (order-small .0))
-
-    pub cell-at : transformationProduct d (p / n + 1) (p % n + 1) ≡ getD (transformationCells d) p 0
-    unfolding transformationCells
-    cell-at = sym (ap (λ (m : ℕ). getD (grid m m (transformationProduct d)) p 0) (sym e) ∙ grid-place n n p u (order-small .0) (transformationProduct d))
+  pub table-written : (b : List ℕ) → grid n n (transformationProduct d) ++ drop (n * n) b ≡ transformationCells d ++ drop (n * n) b
+  unfolding transformationCells
+  table-written b = ap (λ (m : ℕ). grid m m (transformationProduct d) ++ drop (n * n) b) e
 
 -- ---- what each way out of the questions says, of the answer and of the buffer
 
 module _ (d : ℕ) (before : List ℕ) where
   abbrev Refused : Refusal → Type 0
-  Refused r = (refused r ≡ transformationReport d (length before)) × (before ≡ cellsAfter d before)
+  Refused r = (refused r ≡ transformationSays d (length before)) × (before ≡ cellsAfter d before)
 
   by-question : (r : Refusal) → transformationRefusal d (length before) ≡ some r → Refused r
-  unfolding transformationReport cellsAfter
+  unfolding transformationSays cellsAfter
   by-question r e = (rw e, rw e)
 
   pub degree-low : d < 1 → Refused (no 8 [])
@@ -194,6 +173,6 @@ module _ (d : ℕ) (before : List ℕ) where
         let room : size ≤ length before = subst (λ (m : ℕ). m * m ≤ length before) s h in
         rw (le-leb 1 d (e .0), le-leb d 3 (e .1), le-leb size (length before) room)
 
-    pub cells-enough : n * n ≤ length before → (order n ≡ transformationReport d (length before)) × (transformationCells d ++ drop (n * n) before ≡ cellsAfter d before)
-    unfolding transformationReport cellsAfter
-    cells-enough h = (rw (none-failed h, s), rw (none-failed h, s))
+    pub cells-enough : n * n ≤ length before → (gives n ≡ transformationSays d (length before)) × (transformationCells d ++ drop (n * n) before ≡ cellsAfter d before)
+    unfolding transformationSays cellsAfter
+    cells-enough h = (rw (none-failed h, s), rw (none-failed h, s, length-cells d))

@@ -1,7 +1,7 @@
 -- A list of entries from 1 to n as a number in base n: its entries less one are the digits. This number is the list's place, from 0, among all lists
 -- of its length; so it is one less than the number of a transformation. Assumes nothing.
 use mathlib.Core.Path.{_≡_, refl, sym, ap, _∙_, subst}
-use mathlib.Core.List.{List, [], _∷_, _++_, map, List·Memᴰ, List·Memᴰ·head, List·Memᴰ·tail}
+use mathlib.Core.List.{List, [], _∷_, _++_, map, List·Memᴰ·head, List·Memᴰ·tail}
 use Prim.Native.Nat.{ℕ, zero, suc, _+_, _-_, _*_, _/_, _%_, _^_, _≤_, _<_}
 use native.Mathlib.Nat.{zero-mul, suc-mul, add-mul, mul-assoc, mul-le-mul-right, mul-add-div-right, div-eq-of-lt, mul-add-mod-self-right, mod-eq-of-lt}
 use native.Mathlib.Nat.{pow-zero, pow-succ', pow-suc}
@@ -14,7 +14,6 @@ use Rattle.semigroups.specs.Transformations.{transformations, transformationOrd
 use Rattle.semigroups.proofs.Lists.{length-elements, at-elements}
 use Rattle.semigroups.proofs.FlatMap.{getD-flatMap}
 use Rattle.semigroups.proofs.ListOrder.{length-lists}
-use Rattle.semigroups.proofs.Tables.{list-at}
 use Rattle.semigroups.proofs.Transformations.{transformation-list, number-transformation}
 
 -- The number whose digits in base n are those of a, then the entries of the list less one.

@@ -7,7 +7,7 @@ ghost use lib.ListN.{length, drop};
 ghost use Rattle.semigroups.specs.Lists.{at};
 ghost use Rattle.semigroups.specs.Tables.{Element};
 ghost use Rattle.semigroups.specs.Transformations.{transformationOrder, transformation, transformationProduct, transformationCells};
-ghost use Rattle.transformations.specs.Answers.{transformationReport, answerReport, cellsAfter, Listed};
+ghost use Rattle.transformations.specs.Answers.{transformationSays, answerSays, cellsAfter, imageBytes};
 
 pub enum TransformationAnswer {
     // Questions 8 and 9.
@@ -48,21 +48,26 @@ fn image(degree: usize, k: usize, x: usize) -> usize
 // The image lists of all n transformations, one after another.
 fn image_lists(degree: usize, n: usize) -> [u8; 81]
     requires { ⌜ Element 3 degree ⌝ ∗ ⌜ n ≡ transformationOrder degree ⌝ }
-    ensures answer { λ r. ⌜ Listed degree r ⌝ }
+    ensures answer { λ r. ⌜ r ≡ imageBytes degree ⌝ }
 {
     let mut images = [0u8; 81];
-    let size = n * degree;
     let mut place: usize = 0;
-    while place < size {
-        images[place] = image(degree, place / degree + 1, place % degree + 1) as u8;
-        place += 1;
+    let mut k: usize = 1;
+    while k <= n {
+        let mut x: usize = 1;
+        while x <= degree {
+            images[place] = image(degree, k, x) as u8;
+            place += 1;
+            x += 1;
+        }
+        k += 1;
     }
     images
 }
 
 // Where transformation number k takes the point x, looked up.
 fn looked_up(images: &[u8; 81], degree: usize, k: usize, x: usize) -> usize
-    requires { ⌜ Element 3 degree ⌝ ∗ ⌜ Listed degree (now images) ⌝ ∗ ⌜ Element (transformationOrder degree) k ⌝ ∗ ⌜ Element degree x ⌝ }
+    requires { ⌜ Element 3 degree ⌝ ∗ ⌜ now images ≡ imageBytes degree ⌝ ∗ ⌜ Element (transformationOrder degree) k ⌝ ∗ ⌜ Element degree x ⌝ }
     ensures answer { λ r. ⌜ r ≡ at (transformation degree k) x ⌝ }
 {
     images[(k - 1) * degree + (x - 1)] as usize
@@ -70,7 +75,7 @@ fn looked_up(images: &[u8; 81], degree: usize, k: usize, x: usize) -> usize
 
 // The product of transformations: s first, then t.
 fn product(images: &[u8; 81], degree: usize, s: usize, t: usize) -> usize
-    requires { ⌜ Element 3 degree ⌝ ∗ ⌜ Listed degree (now images) ⌝ ∗ ⌜ Element (transformationOrder degree) s ⌝ ∗ ⌜ Element (transformationOrder degree) t ⌝ }
+    requires { ⌜ Element 3 degree ⌝ ∗ ⌜ now images ≡ imageBytes degree ⌝ ∗ ⌜ Element (transformationOrder degree) s ⌝ ∗ ⌜ Element (transformationOrder degree) t ⌝ }
     ensures answer { λ r. ⌜ r ≡ transformationProduct degree s t ⌝ }
 {
     let mut number: usize = 0;
@@ -84,22 +89,27 @@ fn product(images: &[u8; 81], degree: usize, s: usize, t: usize) -> usize
     number + 1
 }
 
-// Writes the cells of the table of order n.
+// Writes the cells of the table of order n, row after row.
 fn write(images: &[u8; 81], degree: usize, n: usize, cells: &mut [u8])
-    requires { ⌜ Element 3 degree ⌝ ∗ ⌜ Listed degree (now images) ⌝ ∗ ⌜ n ≡ transformationOrder degree ⌝ ∗ ⌜ n * n ≤ length (now cells) ⌝ }
+    requires { ⌜ Element 3 degree ⌝ ∗ ⌜ now images ≡ imageBytes degree ⌝ ∗ ⌜ n ≡ transformationOrder degree ⌝ ∗ ⌜ n * n ≤ length (now cells) ⌝ }
     ensures cells { λ r. ⌜ now (cells .exit) ≡ transformationCells degree ++ drop (n * n) (now (cells .entry)) ⌝ }
 {
-    let end = n * n;
     let mut place: usize = 0;
-    while place < end {
-        cells[place] = product(images, degree, place / n + 1, place % n + 1) as u8;
-        place += 1;
+    let mut s: usize = 1;
+    while s <= n {
+        let mut t: usize = 1;
+        while t <= n {
+            cells[place] = product(images, degree, s, t) as u8;
+            place += 1;
+            t += 1;
+        }
+        s += 1;
     }
 }
 
 // Writes the table of all transformations of `degree` points into `cells` and answers its order.
 pub fn fill(degree: usize, cells: &mut [u8]) -> TransformationAnswer
-    ensures answer { λ r. ⌜ answerReport r ≡ transformationReport degree (length (now (cells .entry))) ⌝ }
+    ensures answer { λ r. ⌜ answerSays r ≡ transformationSays degree (length (now (cells .entry))) ⌝ }
     ensures cells { λ r. ⌜ now (cells .exit) ≡ cellsAfter degree (now (cells .entry)) ⌝ }
 {
     if degree < 1 {

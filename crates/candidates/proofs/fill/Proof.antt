@@ -1,11 +1,11 @@
 -- `fill` meets its contract: at each pair the marks of the pairs before it are written, over the bytes as the row found them, and at each row over the
 -- bytes as they were at first. The measures are how many rows, and how many pairs of the row, are left. Assumes nothing.
-use native.Mathlib.Omega.{arith}
-use denote.Ref.{now}
 use mathlib.Core.Path.{_≡_, sym, ap, _∙_}
 use mathlib.Core.Bool.{Bool}
 use mathlib.Core.List.{List}
 use Prim.Native.Nat.{ℕ, _+_, _-_, _≤_}
+use native.Mathlib.Omega.{arith}
+use denote.Ref.{now}
 use lib.ListN.{length}
 use Rattle.semigroups.specs.Lists.{at}
 use Rattle.semigroups.specs.Tables.{Element}
@@ -38,7 +38,7 @@ module _ (r : tie.In-loop Inv-loop2 μ-loop2 Inv-loop μ-loop) where
   same = sameKey (now (start .args .source)) (now (start .args .target))
 
   row : Element (start .args .m) (r .before .loop .i)
-  row = (r .before .loop .inv .0, r .loop-test .taken)
+  row = let h = r .loop-test .taken in (r .before .loop .inv .0, omega arith)
 
   -- The row finds as many bytes as were lent.
   found : length (r .before .loop .scratch) ≡ length (now (start .args .scratch))
@@ -61,7 +61,7 @@ module _ (t : tie.In-loop2 Inv-loop2 μ-loop2 Inv-loop μ-loop) where
   in-row = t .before .before .before
 
   pair : Element (start in-row .args .n) (t .before .loop2 .j)
-  pair = (t .before .loop2 .inv .0, t .loop2-test .taken)
+  pair = let h = t .loop2-test .taken in (t .before .loop2 .inv .0, omega arith)
 
   long-enough : scratchSize (in-row .before .loop .i) (start in-row .args .n) ≤ length (t .before .loop2 .scratch)
   long-enough =

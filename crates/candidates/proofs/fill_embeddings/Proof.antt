@@ -1,8 +1,8 @@
 -- `fill_embeddings` meets its contract: equal keys are equal index-periods. Assumes nothing.
-use denote.Ref.{now}
 use mathlib.Core.Path.{_∙_}
-use Rattle.candidates.proofs.Keys.{embedding-marks}
 use borrow.Author.Needs.{needs}
+use denote.Ref.{now}
+use Rattle.candidates.proofs.Keys.{embedding-marks}
 use Rattle.candidates.proofs.fill_embeddings.Statement.{statement}
 use Rattle.candidates.proofs.fill_embeddings.Tie as tie
 

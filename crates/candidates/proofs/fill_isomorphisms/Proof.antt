@@ -1,8 +1,8 @@
 -- `fill_isomorphisms` meets its contract: equal keys are equal profiles. Assumes nothing.
-use denote.Ref.{now}
 use mathlib.Core.Path.{_∙_}
-use Rattle.candidates.proofs.Keys.{isomorphism-marks}
 use borrow.Author.Needs.{needs}
+use denote.Ref.{now}
+use Rattle.candidates.proofs.Keys.{isomorphism-marks}
 use Rattle.candidates.proofs.fill_isomorphisms.Statement.{statement}
 use Rattle.candidates.proofs.fill_isomorphisms.Tie as tie
 

@@ -1,7 +1,7 @@
 -- `index_period_key` meets its contract: two bytes fit. Assumes nothing.
 use mathlib.Core.Path.{refl}
-use Rattle.candidates.specs.Keys.{indexPeriodKey}
 use borrow.Author.Needs.{needs}
+use Rattle.candidates.specs.Keys.{indexPeriodKey}
 use Rattle.candidates.proofs.index_period_key.Statement.{statement}
 use Rattle.candidates.proofs.index_period_key.Tie as tie
 

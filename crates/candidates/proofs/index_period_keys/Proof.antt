@@ -1,17 +1,16 @@
 -- `index_period_keys` meets its contract: the array holds the keys of the first k elements, then zeros. The measure is how many elements are left.
 -- Assumes nothing.
-use Rattle.candidates.proofs.Keys.{index-period-at}
-use native.Mathlib.Omega.{arith}
-use denote.Ref.{now}
 use mathlib.Core.Path.{_≡_, ap, _∙_}
 use Prim.Native.Nat.{ℕ, _-_, _≤_, _<_}
+use native.Mathlib.Omega.{arith}
 use borrow.Author.Needs.{needs}
+use denote.Ref.{now}
 use Rattle.semigroups.specs.Tables.{Product, product}
 use Rattle.semigroups.specs.Invariants as marks
 use Rattle.invariants.specs.PerElement.{perElement}
 use Rattle.invariants.proofs.PerElement.{fill-start}
 use Rattle.candidates.specs.Keys.{indexPeriodKey}
-use Rattle.candidates.proofs.Keys.{value-next}
+use Rattle.candidates.proofs.Keys.{index-period-at, value-next}
 use Rattle.candidates.proofs.index_period_keys.Statement.{statement}
 use Rattle.candidates.proofs.index_period_keys.Tie as tie
 

@@ -1,12 +1,12 @@
 -- `mark` meets its contract: the pair's number is a place in the buffer. Assumes nothing.
-use native.Mathlib.Omega.{arith}
-use denote.Ref.{now}
-use mir.Val.{boolByte}
 use mathlib.Core.Path.{_≡_, refl, ap₂}
 use mathlib.Core.Bool.{Bool, true, false, cond}
 use Prim.Native.Nat.{ℕ}
-use lib.ListN.{set}
+use native.Mathlib.Omega.{arith}
 use borrow.Author.Needs.{needs}
+use denote.Ref.{now}
+use mir.Val.{boolByte}
+use lib.ListN.{set}
 use Rattle.candidates.specs.Marks.{withMark}
 use Rattle.candidates.proofs.Marks.{pair-below}
 use Rattle.candidates.proofs.mark.Statement.{statement}

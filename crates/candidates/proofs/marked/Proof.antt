@@ -1,11 +1,11 @@
 -- `marked` meets its contract: the pair's number is a place in the buffer. Assumes nothing.
-use native.Mathlib.Omega.{arith}
-use denote.Ref.{now}
 use mathlib.Core.Path.{ap}
 use Prim.Native.Nat.{ℕ}
+use native.Mathlib.Omega.{arith}
+use borrow.Author.Needs.{needs}
+use denote.Ref.{now}
 use lib.Dec.{eqb}
 use lib.ListN.{getD}
-use borrow.Author.Needs.{needs}
 use Rattle.semigroups.specs.Scratch.{marked}
 use Rattle.candidates.specs.Marks.{pairNumber}
 use Rattle.candidates.proofs.Marks.{pair-below}

@@ -1,9 +1,9 @@
 -- `pair_number` meets its contract: the number is below 120 × 120, so nothing wraps. Assumes nothing.
-use native.Mathlib.Omega.{arith}
 use mathlib.Core.Path.{refl}
+use native.Mathlib.Omega.{arith}
+use borrow.Author.Needs.{needs}
 use Rattle.candidates.specs.Marks.{pairNumber}
 use Rattle.candidates.proofs.Marks.{pair-small}
-use borrow.Author.Needs.{needs}
 use Rattle.candidates.proofs.pair_number.Statement.{statement}
 use Rattle.candidates.proofs.pair_number.Tie as tie
 

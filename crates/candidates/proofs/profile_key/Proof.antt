@@ -1,7 +1,7 @@
 -- `profile_key` meets its contract: six bytes and a number of two bytes fit. Assumes nothing.
 use native.Mathlib.Omega.{arith}
-use Rattle.candidates.specs.Keys.{indexPeriodKey, profileKey}
 use borrow.Author.Needs.{needs}
+use Rattle.candidates.specs.Keys.{indexPeriodKey, profileKey}
 use Rattle.candidates.proofs.profile_key.Statement.{statement}
 use Rattle.candidates.proofs.profile_key.Tie as tie
 

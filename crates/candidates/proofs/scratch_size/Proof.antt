@@ -1,8 +1,8 @@
 -- `candidates::scratch_size` meets its contract: the product of two orders fits. Assumes nothing.
+use mathlib.Core.Path.{refl}
 use Prim.Native.Nat.{_*_, _≤_}
 use native.Mathlib.Nat.{mul-le-mul}
 use native.Mathlib.Omega.{arith}
-use mathlib.Core.Path.{refl}
 use Rattle.semigroups.specs.Scratch.{scratchSize}
 use Rattle.candidates.proofs.scratch_size.Statement.{statement}
 use Rattle.candidates.proofs.scratch_size.Tie as tie

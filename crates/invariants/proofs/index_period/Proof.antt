@@ -5,7 +5,7 @@ use Rattle.semigroups.specs.Tables.{product}
 use Rattle.semigroups.specs.Questions.{elementRefusal}
 use Rattle.semigroups.specs.Invariants.{indexPeriod}
 use Rattle.invariants.specs.Answers.{elementFaultRefusal, elementVerdictRefusal}
-use Rattle.invariants.proofs.Questions.{asked, report-refused, report-given}
+use Rattle.invariants.proofs.Questions.{asked, says-refused, says-given}
 use borrow.Author.Needs.{needs}
 use Rattle.invariants.proofs.index_period.Statement.{statement}
 use Rattle.invariants.proofs.index_period.Tie as tie
@@ -27,7 +27,7 @@ returns c =
     let v = c .before in
     let a = v .before .before .before .before .args in
     let cells = now (a .cells) in
-    report-refused (elementRefusal (a .n) cells (a .a)) (indexPeriod (a .n) (product (a .n) cells) (a .a)) (elementFaultRefusal (v .fault .given .0 .0))
+    says-refused (elementRefusal (a .n) cells (a .a)) (indexPeriod (a .n) (product (a .n) cells) (a .a)) (elementFaultRefusal (v .fault .given .0 .0))
     (sym (v .before .before .check-element .ensures) ∙ ap elementVerdictRefusal (v .fault .given .1))
 
 returns-2 : tie.Need-returns-2
@@ -35,7 +35,7 @@ returns-2 c =
     let v = c .before in
     let a = v .before .before .before .before .args in
     let cells = now (a .cells) in
-    report-given (elementRefusal (a .n) cells (a .a)) (indexPeriod (a .n) (product (a .n) cells) (a .a)) _
+    says-given (elementRefusal (a .n) cells (a .a)) (indexPeriod (a .n) (product (a .n) cells) (a .a)) _
     (sym (v .before .before .check-element .ensures) ∙ ap elementVerdictRefusal (v .enum-told .given .1)) (c .index-period-of .ensures)
 
 pub index-period-spec : {M : Type 1} → statement M

@@ -6,9 +6,10 @@ use borrow.Author.Needs.{needs}
 use lib.ListN.{length}
 use denote.Ref.{now}
 use Rattle.semigroups.specs.Tables.{Product, badCell}
-use Rattle.semigroups.specs.MapCheck.{firstEqual}
+use Rattle.semigroups.specs.MapCheck.{Checked, firstEqual}
 use Rattle.tables.specs.Answers.{placeOption}
-use Rattle.maps.specs.Answers.{checked, pairOption}
+use Rattle.semigroups.specs.Calls.{Answer, gives}
+use Rattle.maps.specs.Answers.{pairOption}
 use Rattle.maps.proofs.Faults.{images-inside, says-outside, says-equal, says-product}
 use Rattle.maps.proofs.examine.Statement.{statement}
 use Rattle.maps.proofs.examine.Tie as tie
@@ -23,7 +24,7 @@ returns : tie.Need-returns
 returns c =
     let k = c .before in
     let o = k .before .before in
-    ap checked (sym (says-outside _ _ _ _ _ (o .before .before .before .before .pre .1 .1) _ (sym (o .outside .ensures) ∙ ap placeOption (k .place .given .1))))
+    ap {B = Answer Checked} gives (sym (says-outside _ _ _ _ _ (o .before .before .before .before .pre .1 .1) _ (sym (o .outside .ensures) ∙ ap placeOption (k .place .given .1))))
 
 enum-told : tie.Need-enum-told
 enum-told c = search needs
@@ -40,7 +41,7 @@ returns-2 c =
     let q = k .before .before in
     let e = q .before in
     let o = e .before .before in
-    ap checked (sym (says-equal _ _ _ _ _ (o .before .before .before .before .pre .1 .1) _ (sym (o .outside .ensures) ∙ ap placeOption (e .enum-told .given .1)) (sym (q .equal-images .ensures _ _ _) ∙ ap pairOption (k .equal .given .1))))
+    ap {B = Answer Checked} gives (sym (says-equal _ _ _ _ _ (o .before .before .before .before .pre .1 .1) _ (sym (o .outside .ensures) ∙ ap placeOption (e .enum-told .given .1)) (sym (q .equal-images .ensures _ _ _) ∙ ap pairOption (k .equal .given .1))))
 
 enum-told-2 : tie.Need-enum-told-2
 enum-told-2 c = search needs
@@ -73,13 +74,13 @@ returns-3 c =
     let k = c .before in
     let w = k .before .before in
     let t = w .before in
-    ap checked (sym (says-product _ _ _ _ _ (start t .pre .1 .1) (no-outside t) (no-equal t _ _ _) _ (sym (w .wrong-product .ensures) ∙ ap pairOption (k .i .given .1))))
+    ap {B = Answer Checked} gives (sym (says-product _ _ _ _ _ (start t .pre .1 .1) (no-outside t) (no-equal t _ _ _) _ (sym (w .wrong-product .ensures) ∙ ap pairOption (k .i .given .1))))
 
 returns-4 : tie.Need-returns-4
 returns-4 c =
     let w = c .before .before in
     let t = w .before in
-    ap checked (sym (says-product _ _ _ _ _ (start t .pre .1 .1) (no-outside t) (no-equal t _ _ _) _ (sym (w .wrong-product .ensures) ∙ ap pairOption (c .enum-told3 .given .1))))
+    ap {B = Answer Checked} gives (sym (says-product _ _ _ _ _ (start t .pre .1 .1) (no-outside t) (no-equal t _ _ _) _ (sym (w .wrong-product .ensures) ∙ ap pairOption (c .enum-told3 .given .1))))
 
 pub examine-spec : {M : Type 1} → statement M
 examine-spec =

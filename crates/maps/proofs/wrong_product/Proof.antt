@@ -1,6 +1,6 @@
 -- `wrong_product` meets its contract. The invariant of each loop: the earliest pair whose product fails is what is left of the search from here.
 -- Assumes nothing.
-use mathlib.Core.Path.{_≡_, sym, subst, ap, ap₂, _∙_}
+use mathlib.Core.Path.{_≡_, sym, subst, _∙_}
 use Prim.Native.Nat.{suc, _-_, _≤_}
 use native.Mathlib.Omega.{arith}
 use borrow.Author.Needs.{needs}

@@ -6,8 +6,9 @@ use native.Mathlib.Omega.{arith}
 use borrow.Author.Needs.{needs}
 use lib.ListN.{length, length-take}
 use denote.Ref.{now}
-use Rattle.csv.specs.Calls.{gives, loadAnswer}
-use Rattle.csv.proofs.Loading.{square-small}
+use Rattle.semigroups.specs.Calls.{gives}
+use Rattle.csv.specs.Calls.{loadAnswer}
+use Rattle.tables.proofs.Questions.{square-small}
 use Rattle.tables.specs.Answers.{verdictRefusal}
 use Rattle.text.specs.Answers.{loadedAnswer}
 use Rattle.output.proofs.Files.{judged-text, judged-table, loaded-order, loaded-room}

@@ -1,31 +1,31 @@
 -- `times` meets its contract: the place of a product lies in the table, and what stands there is an element. Assumes nothing.
+use Prim.Native.Nat.{_+_, _-_, _*_, _<_}
 use native.Mathlib.Omega.{arith}
 use borrow.Author.Needs.{needs}
 use Rattle.tables.proofs.Questions.{square-small, place-in, product-found, found-element}
 use Rattle.tables.proofs.times.Statement.{statement}
 use Rattle.tables.proofs.times.Tie as tie
 
-sub-result : tie.Need-sub-result
-sub-result c = search needs
-
-mul-result : tie.Need-mul-result
-mul-result c =
+-- The place is below 14,400.
+place-small : (c : tie.Start) → (c .args .i - 1) * c .args .n + (c .args .j - 1) < 14400
+place-small c =
     let p = c .pre in
     let f = p .0 in
     let o = f .order in
     let z = f .size in
     omega (arith, place-in _ _ f _ _ (p .1 .0) (p .1 .1), square-small _ (o .1))
+
+sub-result : tie.Need-sub-result
+sub-result c = search needs
+
+mul-result : tie.Need-mul-result
+mul-result c = omega (arith, place-small c)
 
 sub-result-2 : tie.Need-sub-result-2
 sub-result-2 c = search needs
 
 add-result : tie.Need-add-result
-add-result c =
-    let p = c .pre in
-    let f = p .0 in
-    let o = f .order in
-    let z = f .size in
-    omega (arith, place-in _ _ f _ _ (p .1 .0) (p .1 .1), square-small _ (o .1))
+add-result c = omega (arith, place-small c)
 
 shared-slice-read-result : tie.Need-shared-slice-read-result
 shared-slice-read-result c =

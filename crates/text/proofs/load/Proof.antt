@@ -7,10 +7,11 @@ use Prim.Native.Nat.{ℕ}
 use native.Mathlib.Omega.{arith}
 use denote.Ref.{now}
 use borrow.Author.Needs.{needs}
-use Rattle.csv.specs.Calls.{gives}
+use Rattle.tables.proofs.Questions.{square-small}
+use Rattle.semigroups.specs.Calls.{Answer, gives}
 use Rattle.csv.specs.Questions.{bytesRefusal, endRefusal, gridRefusal}
 use Rattle.text.specs.Answers.{judgedRefusal}
-use Rattle.csv.proofs.Loading.{too-short, too-long, bad-byte, bad-end, bad-grid, bad-order, bad-room, loads, load-refused, load-given, grid-passed, cells-length, square-small}
+use Rattle.csv.proofs.Loading.{too-short, too-long, bad-byte, bad-end, bad-grid, bad-order, bad-room, loads, load-refused, load-given, grid-passed, cells-length}
 use Rattle.text.proofs.load.Statement.{statement}
 use Rattle.text.proofs.load.Tie as tie
 
@@ -137,7 +138,7 @@ returns-8 c =
     load-given _ _
     (loads _ _ (sized x .before .if1 .left) (sized x .if2 .left) (bytes-pass x) (end-pass y) n (grid-pass z) (c .before .before .before .before .before .if3 .left)
     (c .before .before .before .before .if4 .left)) in
-    (ap gives n ∙ given .0, c .before .before .fill .ensures ∙ given .1)
+    (ap {B = Answer ℕ} gives n ∙ given .0, c .before .before .fill .ensures ∙ given .1)
 
 pub load-spec : {M : Type 1} → statement M
 load-spec =

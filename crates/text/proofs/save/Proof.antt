@@ -2,12 +2,13 @@
 -- Assumes nothing.
 use mathlib.Core.Path.{_≡_, ap, sym, _∙_}
 use mathlib.Core.Option.{none}
+use Prim.Native.Nat.{ℕ}
 use denote.Ref.{now}
 use borrow.Author.Needs.{needs}
 use Rattle.semigroups.specs.Questions.{cellsRefusal}
 use Rattle.semigroups.proofs.Tables.{filled}
 use Rattle.tables.specs.Answers.{verdictRefusal}
-use Rattle.csv.specs.Calls.{gives}
+use Rattle.semigroups.specs.Calls.{Answer, gives}
 use Rattle.csv.proofs.Saving.{bad-table, bad-room, save-given}
 use Rattle.text.proofs.save.Statement.{statement}
 use Rattle.text.proofs.save.Tie as tie
@@ -53,7 +54,7 @@ returns-3 c =
     let x = c .before .before .before .before .before .before in
     let room = rw (c .before .before .before .before .before .text-length .ensures) at (c .before .before .before .before .if1 .left) in
     let given = save-given _ _ _ (table-passes x) room in
-    (ap gives (c .before .before .put-rows .ensures .0) ∙ given .0, c .before .before .put-rows .ensures .1 ∙ given .1)
+    (ap {B = Answer ℕ} gives (c .before .before .put-rows .ensures .0) ∙ given .0, c .before .before .put-rows .ensures .1 ∙ given .1)
 
 pub save-spec : {M : Type 1} → statement M
 save-spec =

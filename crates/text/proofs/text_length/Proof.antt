@@ -5,9 +5,9 @@ use Prim.Native.Nat.{_+_, _-_, _*_, _≤_}
 use native.Mathlib.Omega.{arith}
 use lib.ListN.{length, getD}
 use denote.Ref.{now}
+use Rattle.tables.proofs.Questions.{square-small}
 use Rattle.csv.specs.Tables.{tableText}
 use Rattle.csv.proofs.Decimals.{digits-few}
-use Rattle.csv.proofs.Loading.{square-small}
 use Rattle.csv.proofs.Tables.{widthsFrom, widths-first, widths-step, widths-end}
 use Rattle.text.proofs.text_length.Statement.{statement}
 use Rattle.text.proofs.text_length.Tie as tie

@@ -1,5 +1,6 @@
 -- `looked_up` meets its contract: image x of list k stands in row k, column x of the image lists. Assumes nothing.
 use mathlib.Core.Path.{refl}
+use Prim.Native.Nat.{_+_, _-_, _*_, _<_}
 use native.Mathlib.Omega.{arith}
 use borrow.Author.Needs.{needs}
 use Rattle.semigroups.proofs.Tables.{place-below}
@@ -7,26 +8,26 @@ use Rattle.transformations.proofs.Degrees.{image-element, look-up, imag
 use Rattle.transformations.proofs.looked_up.Statement.{statement}
 use Rattle.transformations.proofs.looked_up.Tie as tie
 
+-- The place is below 81.
+place-small : (c : tie.Start) → (c .args .k - 1) * c .args .degree + (c .args .x - 1) < 81
+place-small c =
+    let p = c .pre in
+    omega (arith, place-below _ _ _ _ (p .1 .1 .0) (p .1 .1 .1), image-room _ (p .0) _ refl)
+
 sub-result : tie.Need-sub-result
 sub-result c = search needs
 
 mul-result : tie.Need-mul-result
-mul-result c =
-    let p = c .pre in
-    omega (arith, place-below _ _ _ _ (p .1 .1 .0) (p .1 .1 .1), image-room _ (p .0) _ refl)
+mul-result c = omega (arith, place-small c)
 
 sub-result-2 : tie.Need-sub-result-2
 sub-result-2 c = search needs
 
 add-result : tie.Need-add-result
-add-result c =
-    let p = c .pre in
-    omega (arith, place-below _ _ _ _ (p .1 .1 .0) (p .1 .1 .1), image-room _ (p .0) _ refl)
+add-result c = omega (arith, place-small c)
 
 element-copy-out-result : tie.Need-element-copy-out-result
-element-copy-out-result c =
-    let p = c .pre in
-    omega (arith, place-below _ _ _ _ (p .1 .1 .0) (p .1 .1 .1), image-room _ (p .0) _ refl)
+element-copy-out-result c = omega (arith, place-small c)
 
 cast-result : tie.Need-cast-result
 cast-result c =
