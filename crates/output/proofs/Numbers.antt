@@ -16,7 +16,7 @@ use Rattle.csv.specs.Decimals.{value}
 use Rattle.csv.specs.Records.{rows}
 use Rattle.csv.specs.Tables.{fieldsOf, orderOf, cellsOf}
 use Rattle.csv.specs.Questions.{longest, breakAt, firstOther, bytesRefusal, endRefusal, fieldRefusal, fieldsRefusal, isSquare, squareRefusal, loadRefusal}
-use Rattle.csv.proofs.Loading.{square-small}
+use Rattle.tables.proofs.Questions.{square-small}
 use Rattle.output.specs.Files.{fileRefusal}
 use Rattle.output.specs.Program.{room}
 
