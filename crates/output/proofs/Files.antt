@@ -3,7 +3,7 @@
 use mathlib.Core.Path.{_≡_, refl, ap, ap₂, sym, _∙_, subst₂}
 use mathlib.Core.List.{List, [], _∷_}
 use mathlib.Core.Option.{Option, none, some, Option·map, orElse}
-use Prim.Native.Nat.{ℕ, _*_, _≤_, _<_}
+use Prim.Native.Nat.{ℕ, _*_, _≤_}
 use native.Mathlib.Omega.{arith}
 use lib.ListN.{length, take}
 use Rattle.semigroups.specs.Tables.{product, badCell, badTriple, Accepted}
@@ -60,7 +60,7 @@ module _ (t cells : List ℕ) where
     judged-table {after} {q} same asked =
         let l = loads-given t cells n e in
         let whole : fileRefusal t (length cells) ≡ q =
-          loaded-table t (length cells) loads ∙ ap₂ tableRefusal (l .order) (sym (l .cells)) ∙ ap (λ (c : List ℕ). tableRefusal n (take (n * n) c)) (sym same) ∙ sym asked in
+        loaded-table t (length cells) loads ∙ ap₂ tableRefusal (l .order) (sym (l .cells)) ∙ ap (λ (c : List ℕ). tableRefusal n (take (n * n) c)) (sym same) ∙ sym asked in
         ap₂ givenUnless (sym whole) (sym (l .order))
 
     pub loaded-order : n ≤ 120

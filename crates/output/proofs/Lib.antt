@@ -2,3 +2,4 @@ pub mod Lines
 pub mod Files
 pub mod Said
 pub mod Program
+pub mod Numbers

@@ -6,7 +6,7 @@ use Prim.Native.Nat.{ℕ, zero, suc, _+_, _-_, _*_, _≤_, _<_}
 use native.Mathlib.Numerals.{add-one}
 use native.Mathlib.Omega.{arith}
 use lib.ListN.{length, drop, getD, set, length-append, drop-of-length-le}
-use lib.Seq.{sets, length-sets, drop-cons}
+use lib.Seq.{sets, drop-cons}
 use Rattle.semigroups.specs.Lists.{range, elements, at}
 use Rattle.semigroups.specs.Questions.{Refusal, no, naming}
 use Rattle.csv.specs.Decimals.{numeral}

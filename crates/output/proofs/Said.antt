@@ -1,24 +1,24 @@
 -- What the search for the first embedding says, as records: one law for each way that it ends; and at two accepted tables the records of the
 -- earliest embedding or of none. Assumes nothing.
-use mathlib.Core.Path.{_≡_, refl, ap, sym, _∙_, subst}
+use mathlib.Core.Path.{_≡_, refl, _∙_}
 use mathlib.Core.List.{List, [], _∷_}
 use mathlib.Core.Option.{Option, none, some, orElse}
-use Prim.Native.Nat.{ℕ, _*_, _≤_}
+use Prim.Native.Nat.{ℕ, _≤_}
 use native.Mathlib.Omega.{arith}
 use borrow.Author.Tests.{eqb-true}
 use lib.Dec.{eqb, leb}
 use lib.ListN.{length}
 use lib.Seq.{sets}
-use Rattle.semigroups.specs.Tables.{product, Accepted}
+use Rattle.semigroups.specs.Tables.{Accepted}
 use Rattle.semigroups.specs.Scratch.{scratchSize}
 use Rattle.semigroups.specs.Questions.{Refusal, no, naming, ask, firstNo, tablesRefusal, checkRefusal, searchRefusal}
-use Rattle.semigroups.specs.Maps.{embeddings, maps, first, earliest}
-use Rattle.semigroups.specs.Walks.{Said, refused, found, nothing}
+use Rattle.semigroups.specs.Maps.{embeddings}
+use Rattle.semigroups.specs.Walks.{refused, found, nothing}
 use Rattle.semigroups.proofs.Tables.{orElse-none, ask-passed, no-refusal}
 use Rattle.tables.proofs.Questions.{both-pass, tables-accepted}
 use Rattle.csv.specs.Records.{lineText, rowsText}
 use Rattle.semigroups.specs.Calls.{overwritten}
-use Rattle.search.specs.Calls.{Lent, Called, theFirst, refusalOf, answerOf, scratchOf, answered, asked, call}
+use Rattle.search.specs.Calls.{Lent, Called, theFirst, refusalOf, answerOf, scratchOf, answered, call}
 use Rattle.search.proofs.Answering.{none-refused}
 use Rattle.search.proofs.Calls.{not-refused, refused-exactly}
 use Rattle.output.specs.Records.{noneWord, refusedWord, firstRecord, foundRecords, noneRecords, refusedRecord, refusedRecords, saidRecords, searchRecords}

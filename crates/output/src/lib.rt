@@ -199,8 +199,18 @@ pub fn put_refusal(out: &mut [u8; 1095], side: Side, verdict: FileVerdict) -> us
 {
     match verdict {
         FileVerdict::Accepted(_) => 0,
-        FileVerdict::Text(fault) => put_record(out, b"refused", side_number(side), text_number(fault)),
-        FileVerdict::Table(fault) => put_record(out, b"refused", side_number(side), table_number(fault)),
+        FileVerdict::Text(fault) => put_record(
+            out,
+            b"refused",
+            side_number(side),
+            text_number(fault),
+        ),
+        FileVerdict::Table(fault) => put_record(
+            out,
+            b"refused",
+            side_number(side),
+            table_number(fault),
+        ),
     }
 }
 
@@ -224,7 +234,12 @@ pub fn put_answer(
     match said {
         SearchAnswer::Found => put_found(out, n, &*map),
         SearchAnswer::Nothing => put_record(out, b"none", m, n),
-        SearchAnswer::Refused(side, fault) => put_record(out, b"refused", side_number(side), table_number(fault)),
+        SearchAnswer::Refused(side, fault) => put_record(
+            out,
+            b"refused",
+            side_number(side),
+            table_number(fault),
+        ),
         SearchAnswer::MapLength => put_sideless(out, 5),
         SearchAnswer::ScratchLength => put_sideless(out, 6),
     }

@@ -1,7 +1,9 @@
+-- `judge` loads a text, asks the four questions about the table that it holds, and answers the earliest failed one.
+-- Assumes nothing.
 use mathlib.Core.Path.{_≡_, ap, sym, _∙_}
-use mathlib.Core.List.{List}
 use Prim.Native.Nat.{ℕ, _≤_, _*_}
 use native.Mathlib.Omega.{arith}
+use borrow.Author.Needs.{needs}
 use lib.ListN.{length, length-take}
 use denote.Ref.{now}
 use Rattle.semigroups.specs.Calls.{gives}
@@ -10,13 +12,8 @@ use Rattle.tables.proofs.Questions.{square-small}
 use Rattle.tables.specs.Answers.{verdictRefusal}
 use Rattle.text.specs.Answers.{loadedAnswer}
 use Rattle.output.proofs.Files.{judged-text, judged-table, loaded-order, loaded-room}
-use borrow.Author.Needs.{needs}
 use Rattle.output.proofs.judge.Statement.{statement}
 use Rattle.output.proofs.judge.Tie as tie
-use Rattle.output.proofs.judge.Reads as reads
-use Rattle.output.proofs.judge.Lts as lts
-use Rattle.tables.proofs.check.Reads as check-reads
-use Rattle.text.proofs.load.Reads as load-reads
 
 -- The text is loaded.
 module _ (c : tie.After-known-told2) where
@@ -35,59 +32,46 @@ module _ (c : tie.After-known-told2) where
   fits : order-of * order-of ≤ length (loading-of .load .last .1 .0)
   fits = loaded-room _ _ _ given-order (loading-of .load .ensures .1) (loading-of .load .kept .1 .0)
 
--- src/lib.rt:36:9
 load-requires : tie.Need-load-requires
 load-requires c κs = search needs
 
--- src/lib.rt:38:25
 enum-known-loaded : tie.Need-enum-known-loaded
 enum-known-loaded c = search needs
 
--- src/lib.rt:39:23
 enum-known-loaded-2 : tie.Need-enum-known-loaded-2
 enum-known-loaded-2 c = search needs
 
--- src/lib.rt:40:24
 mul-size : tie.Need-mul-size
 mul-size c = omega (arith, square-small _ (loaded-order _ _ _ (given-order c)))
 
--- src/lib.rt:41:41
 slice-reshare-prefix-check : tie.Need-slice-reshare-prefix-check
 slice-reshare-prefix-check c = omega (arith, fits c)
 
--- src/lib.rt:41:41
 slice-aggregate-check : tie.Need-slice-aggregate-check
 slice-aggregate-check c =
     let f = fits (c .before) in
     simp length-take (omega arith)
 
--- src/lib.rt:41:17
 check-requires : tie.Need-check-requires
 check-requires c κs = search needs
 
--- src/lib.rt:43:34
 enum-known-verdict : tie.Need-enum-known-verdict
 enum-known-verdict c = search needs
 
--- src/lib.rt:44:38
 enum-told : tie.Need-enum-told
 enum-told c = search needs
 
--- src/lib.rt:32:1
 same-length : tie.Need-same-length
 same-length c = search needs
 
--- src/lib.rt:32:1
 returns : tie.Need-returns
 returns c =
     let loading = c .before .before .before .before .before in
     (judged-text _ _ (sym (ap loadedAnswer (c .before .loaded .given .1)) ∙ loading .load .ensures .0), loading .load .ensures .1)
 
--- src/lib.rt:32:1
 same-length-2 : tie.Need-same-length-2
 same-length-2 c = search needs
 
--- src/lib.rt:32:1
 returns-2 : tie.Need-returns-2
 returns-2 c =
     let told = c .before .before .before .before .before in
@@ -96,11 +80,9 @@ returns-2 c =
       loading .load .ensures .1,
     )
 
--- src/lib.rt:32:1
 same-length-3 : tie.Need-same-length-3
 same-length-3 c = search needs
 
--- src/lib.rt:32:1
 returns-3 : tie.Need-returns-3
 returns-3 c =
     let told = c .before .before .before .before in

@@ -1,25 +1,18 @@
-use native.Mathlib.Omega.{arith}
-use Prim.Native.Nat.{ℕ, _≤_}
+-- `put_answer` writes what the search says, by the case of its answer. Found and nothing show that no question failed, so that the orders are
+-- at most 120 and the map has the source order. Assumes nothing.
 use mathlib.Core.Path.{_≡_, ap, sym, _∙_}
 use mathlib.Core.List.{List}
+use Prim.Native.Nat.{ℕ}
+use native.Mathlib.Omega.{arith}
+use borrow.Author.Needs.{needs}
 use lib.ListN.{length}
 use denote.Ref.{now}
 use Rattle.semigroups.specs.Maps.{embeddings}
-use Rattle.semigroups.specs.Walks.{Said, found, nothing, refused}
 use Rattle.search.specs.Calls.{Lent, lend, theFirst, call}
 use Rattle.search.specs.Answers.{answerSays}
-use Rattle.output.proofs.Said.{Sized, found-sized, nothing-sized, found-answer, nothing-answer, refused-answer, sideless-answer}
-use borrow.Author.Needs.{needs}
+use Rattle.output.proofs.Said.{found-sized, nothing-sized, found-answer, nothing-answer, refused-answer, sideless-answer}
 use Rattle.output.proofs.put_answer.Statement.{statement}
 use Rattle.output.proofs.put_answer.Tie as tie
-use Rattle.output.proofs.put_answer.Reads as reads
-use Rattle.output.proofs.put_answer.Lts as lts
-use Rattle.output.proofs.put_found.Reads as put-found-reads
-use Rattle.output.proofs.put_record.Reads as put-record-reads
-use Rattle.output.proofs.put_sideless.Reads as put-sideless-reads
-use Rattle.output.proofs.side_number.Reads as side-number-reads
-use Rattle.output.proofs.table_number.Reads as table-number-reads
-use Rattle.search.proofs.first_embedding.Reads as first-embedding-reads
 
 -- The search has answered.
 module _ (c : tie.After-slice-known4) where
@@ -48,15 +41,12 @@ module _ (c : tie.After-slice-known4) where
   kept-map : length map-left ≡ length (now (start-of .args .map))
   kept-map = searched .first-embedding .kept .1 .1 .1 .1 .0
 
--- src/lib.rt:224:9
 first-embedding-requires : tie.Need-first-embedding-requires
 first-embedding-requires c κs = search needs
 
--- src/lib.rt:226:42
 enum-told : tie.Need-enum-told
 enum-told c = search needs
 
--- src/lib.rt:226:32
 put-found-requires : tie.Need-put-found-requires
 put-found-requires c κs =
     let known = c .before .before .before .before in
@@ -65,15 +55,12 @@ put-found-requires c κs =
     let whole = kept-map known ∙ size .map in
     ((omega arith, size .target), search needs)
 
--- src/lib.rt:227:45
 enum-told-2 : tie.Need-enum-told-2
 enum-told-2 c = search needs
 
--- src/lib.rt:227:50
 slice-aggregate-put-record : tie.Need-slice-aggregate-put-record
 slice-aggregate-put-record c = search needs
 
--- src/lib.rt:227:34
 put-record-requires : tie.Need-put-record-requires
 put-record-requires c κs =
     let known = c .before .before .before .before in
@@ -82,51 +69,39 @@ put-record-requires c κs =
     let few-more = size .target in
     ((omega arith, omega arith), search needs)
 
--- src/lib.rt:228:31
 enum-known-said : tie.Need-enum-known-said
 enum-known-said c = search needs
 
--- src/lib.rt:228:63
 slice-aggregate-put-record-2 : tie.Need-slice-aggregate-put-record-2
 slice-aggregate-put-record-2 c = search needs
 
--- src/lib.rt:228:75
 side-number-requires : tie.Need-side-number-requires
 side-number-requires c κs = search needs
 
--- src/lib.rt:228:94
 table-number-requires : tie.Need-table-number-requires
 table-number-requires c κs = search needs
 
--- src/lib.rt:228:47
 put-record-requires-2 : tie.Need-put-record-requires-2
 put-record-requires-2 c κs = search needs
 
--- src/lib.rt:229:49
 enum-told-3 : tie.Need-enum-told-3
 enum-told-3 c = search needs
 
--- src/lib.rt:229:36
 put-sideless-requires : tie.Need-put-sideless-requires
 put-sideless-requires c κs = search needs
 
--- src/lib.rt:230:53
 enum-told-4 : tie.Need-enum-told-4
 enum-told-4 c = search needs
 
--- src/lib.rt:230:40
 put-sideless-requires-2 : tie.Need-put-sideless-requires-2
 put-sideless-requires-2 c κs = search needs
 
--- src/lib.rt:209:1
 same-length : tie.Need-same-length
 same-length c = search needs
 
--- src/lib.rt:209:1
 same-length-2 : tie.Need-same-length-2
 same-length-2 c = search needs
 
--- src/lib.rt:209:1
 returns : tie.Need-returns
 returns c =
     let told = c .before .before .before in
@@ -134,15 +109,12 @@ returns c =
     let w = found-answer (lent known) _ _ (sym (ap answerSays (told .enum-told .given .1)) ∙ says known) (left-map known) (kept-map known) (c .put-found .ensures .0) (c .put-found .ensures .1) in
     (w .size, (w .text, (left-map known, left-scratch known)))
 
--- src/lib.rt:209:1
 same-length-3 : tie.Need-same-length-3
 same-length-3 c = search needs
 
--- src/lib.rt:209:1
 same-length-4 : tie.Need-same-length-4
 same-length-4 c = search needs
 
--- src/lib.rt:209:1
 returns-2 : tie.Need-returns-2
 returns-2 c =
     let told = c .before .before .before in
@@ -150,15 +122,12 @@ returns-2 c =
     let w = nothing-answer (lent known) _ (sym (ap answerSays (told .enum-told2 .given .1)) ∙ says known) (search needs) (c .put-record .ensures .0) (c .put-record .ensures .1) in
     (w .size, (w .text, (left-map known, left-scratch known)))
 
--- src/lib.rt:209:1
 same-length-5 : tie.Need-same-length-5
 same-length-5 c = search needs
 
--- src/lib.rt:209:1
 same-length-6 : tie.Need-same-length-6
 same-length-6 c = search needs
 
--- src/lib.rt:209:1
 returns-3 : tie.Need-returns-3
 returns-3 c =
     let told = c .before .before .before .before .before .before in
@@ -168,15 +137,12 @@ returns-3 c =
     (c .put-record2 .ensures .0) (c .put-record2 .ensures .1) in
     (w .size, (w .text, (left-map known, left-scratch known)))
 
--- src/lib.rt:209:1
 same-length-7 : tie.Need-same-length-7
 same-length-7 c = search needs
 
--- src/lib.rt:209:1
 same-length-8 : tie.Need-same-length-8
 same-length-8 c = search needs
 
--- src/lib.rt:209:1
 returns-4 : tie.Need-returns-4
 returns-4 c =
     let told = c .before .before in
@@ -184,15 +150,12 @@ returns-4 c =
     let w = sideless-answer (lent known) _ 5 (sym (ap answerSays (told .enum-told3 .given .1)) ∙ says known) (search needs) (c .put-sideless .ensures .0) (c .put-sideless .ensures .1) in
     (w .size, (w .text, (left-map known, left-scratch known)))
 
--- src/lib.rt:209:1
 same-length-9 : tie.Need-same-length-9
 same-length-9 c = search needs
 
--- src/lib.rt:209:1
 same-length-10 : tie.Need-same-length-10
 same-length-10 c = search needs
 
--- src/lib.rt:209:1
 returns-5 : tie.Need-returns-5
 returns-5 c =
     let told = c .before .before in

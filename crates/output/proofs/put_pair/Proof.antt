@@ -1,28 +1,21 @@
+-- `put_pair` writes a record of two fields: number, field, line break. Assumes nothing.
 use native.Mathlib.Omega.{arith}
-use Rattle.output.proofs.Lines.{pair-length, pair-written}
 use borrow.Author.Needs.{needs}
+use Rattle.output.proofs.Lines.{pair-length, pair-written}
 use Rattle.output.proofs.put_pair.Statement.{statement}
 use Rattle.output.proofs.put_pair.Tie as tie
-use Rattle.output.proofs.put_pair.Reads as reads
-use Rattle.output.proofs.put_pair.Lts as lts
-use Rattle.output.proofs.put_break.Reads as put-break-reads
-use Rattle.output.proofs.put_field.Reads as put-field-reads
-use Rattle.text.proofs.put_number.Reads as put-number-reads
 
--- src/lib.rt:146:9
 put-number-requires : tie.Need-put-number-requires
 put-number-requires c κs =
     let s = c .before .before in
     (s .pre .0 .0, omega (arith, s .pre .1, pair-length (s .args .i) (s .args .image)))
 
--- src/lib.rt:147:5
 put-field-requires : tie.Need-put-field-requires
 put-field-requires c κs =
     let number = c .before .before .before .put-number in
     let s = c .before .before .before .before .before .before in
     (s .pre .0 .1, omega (arith, s .pre .1, pair-length (s .args .i) (s .args .image), number .ensures .0, number .kept .0))
 
--- src/lib.rt:148:5
 put-break-requires : tie.Need-put-break-requires
 put-break-requires c κs =
     let field = c .before .before .before .put-field in
@@ -30,11 +23,9 @@ put-break-requires c κs =
     let s = c .before .before .before .before .before .before .before .before .before .before in
     omega (arith, s .pre .1, pair-length (s .args .i) (s .args .image), number .ensures .0, number .kept .0, field .ensures .0, field .kept .0)
 
--- src/lib.rt:140:1
 same-length : tie.Need-same-length
 same-length c = search needs
 
--- src/lib.rt:140:1
 returns : tie.Need-returns
 returns c =
     let line-end = c .before .before .put-break in

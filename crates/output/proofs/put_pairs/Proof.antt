@@ -1,5 +1,7 @@
+-- `put_pairs` writes a record for each element. The loop's invariant: the records before that of element i are written, the others are left.
+-- Assumes nothing.
+use Prim.Native.Nat.{_≤_, _+_, _-_}
 use native.Mathlib.Omega.{arith}
-use Prim.Native.Nat.{ℕ, _≤_, _+_, _-_}
 use lib.ListN.{length}
 use denote.Ref.{now}
 use Rattle.csv.specs.Records.{rowsText}
@@ -8,9 +10,6 @@ use Rattle.output.specs.Records.{pairRecords}
 use Rattle.output.proofs.Lines.{pairsLeft, pairs-begun, pairs-short, pairs-more, pairs-end, pair-room}
 use Rattle.output.proofs.put_pairs.Statement.{statement}
 use Rattle.output.proofs.put_pairs.Tie as tie
-use Rattle.output.proofs.put_pairs.Reads as reads
-use Rattle.output.proofs.put_pairs.Lts as lts
-use Rattle.output.proofs.put_pair.Reads as put-pair-reads
 
 abbrev Inv-loop : tie.InvT-loop
 Inv-loop out₀ start map at₀ i₀ out at i = Writing out₀ start (rowsText (pairRecords (length map) map)) (pairsLeft (length map) map i) out at × (1 ≤ i) × (i ≤ length map + 1)
@@ -18,23 +17,18 @@ Inv-loop out₀ start map at₀ i₀ out at i = Writing out₀ start (rowsText (
 abbrev μ-loop : tie.MeasureT-loop
 μ-loop out₀ start map at₀ i₀ out at i = length map + 1 - i
 
--- src/lib.rt:160:5
 loop-holds : tie.Need-loop-holds Inv-loop μ-loop
 loop-holds c = (pairs-begun _ _ _ _, omega arith, omega arith)
 
--- src/lib.rt:161:39
 sub-put-pair : tie.Need-sub-put-pair Inv-loop μ-loop
 sub-put-pair c = omega arith
 
--- src/lib.rt:161:35
 shared-slice-read-put-pair : tie.Need-shared-slice-read-put-pair Inv-loop μ-loop
 shared-slice-read-put-pair c = omega arith
 
--- src/lib.rt:161:35
 cast-put-pair : tie.Need-cast-put-pair Inv-loop μ-loop
 cast-put-pair c = omega (arith, c .shared-slice-known2 .given (c .before .before .before .loop .i - 1))
 
--- src/lib.rt:161:9
 put-pair-requires : tie.Need-put-pair-requires Inv-loop μ-loop
 put-pair-requires c κs =
     let l = c .before .before .before in
@@ -44,26 +38,21 @@ put-pair-requires c κs =
     let byte = c .shared-slice-known2 .given (l .loop .i - 1) in
     ((omega arith, omega arith), pair-room _ _ _ _ _ h (write-room (l .loop .inv .0) (omega (arith, s .pre .1, pairs-short (length (now (s .args .map))) (now (s .args .map))))))
 
--- src/lib.rt:162:9
 add-i : tie.Need-add-i Inv-loop μ-loop
 add-i c = omega arith
 
--- src/lib.rt:160:5
 loop-less : tie.Need-loop-less Inv-loop μ-loop
 loop-less c = omega arith
 
--- src/lib.rt:160:5
 loop-again : tie.Need-loop-again Inv-loop μ-loop
 loop-again c =
     let l = c .before .before .before .before .before .before in
     let h = c .before .before .before .before .before .loop-test .taken in
     (pairs-more _ _ _ h (l .loop .inv .0) (c .before .before .put-pair .ensures .1) (c .before .before .put-pair .ensures .0), omega arith, omega arith)
 
--- src/lib.rt:152:1
 same-length : tie.Need-same-length Inv-loop μ-loop
 same-length c = write-length (c .before .loop .inv .0)
 
--- src/lib.rt:152:1
 returns : tie.Need-returns Inv-loop μ-loop
 returns c =
     let all = write-last (c .before .loop .inv .0) (pairs-end _ _ _ (c .loop-test .left)) in

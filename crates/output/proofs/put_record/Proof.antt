@@ -1,27 +1,20 @@
+-- `put_record` writes a record of three fields: word, field, field, line break. Assumes nothing.
 use native.Mathlib.Omega.{arith}
+use borrow.Author.Needs.{needs}
 use Rattle.csv.proofs.Decimals.{digits-few}
 use Rattle.output.proofs.Lines.{first-written}
-use borrow.Author.Needs.{needs}
 use Rattle.output.proofs.put_record.Statement.{statement}
 use Rattle.output.proofs.put_record.Tie as tie
-use Rattle.output.proofs.put_record.Reads as reads
-use Rattle.output.proofs.put_record.Lts as lts
-use Rattle.output.proofs.put_break.Reads as put-break-reads
-use Rattle.output.proofs.put_bytes.Reads as put-bytes-reads
-use Rattle.output.proofs.put_field.Reads as put-field-reads
 
--- src/lib.rt:133:9
 put-bytes-requires : tie.Need-put-bytes-requires
 put-bytes-requires c κs = search needs
 
--- src/lib.rt:134:5
 put-field-requires : tie.Need-put-field-requires
 put-field-requires c κs =
     let bytes = c .before .before .before .put-bytes in
     let s = c .before .before .before .before .before .before .before in
     (s .pre .0 .0, omega (arith, s .pre .1, bytes .ensures .0, bytes .kept .0, digits-few (s .args .a)))
 
--- src/lib.rt:135:5
 put-field-requires-2 : tie.Need-put-field-requires-2
 put-field-requires-2 c κs =
     let first = c .before .before .before .put-field in
@@ -29,7 +22,6 @@ put-field-requires-2 c κs =
     let s = c .before .before .before .before .before .before .before .before .before .before .before in
     (s .pre .0 .1, omega (arith, s .pre .1, bytes .ensures .0, bytes .kept .0, first .ensures .0, first .kept .0, digits-few (s .args .a), digits-few (s .args .b)))
 
--- src/lib.rt:136:5
 put-break-requires : tie.Need-put-break-requires
 put-break-requires c κs =
     let second = c .before .before .before .put-field2 in
@@ -38,11 +30,9 @@ put-break-requires c κs =
     let s = c .before .before .before .before .before .before .before .before .before .before .before .before .before .before .before in
     omega (arith, s .pre .1, bytes .ensures .0, bytes .kept .0, first .ensures .0, first .kept .0, second .ensures .0, second .kept .0, digits-few (s .args .a), digits-few (s .args .b))
 
--- src/lib.rt:127:1
 same-length : tie.Need-same-length
 same-length c = search needs
 
--- src/lib.rt:127:1
 returns : tie.Need-returns
 returns c =
     let line-end = c .before .before .put-break .ensures in

@@ -1,75 +1,55 @@
-use native.Mathlib.Omega.{arith}
+-- `put_refusal` writes nothing for an accepted file, and one record for a refused one. Assumes nothing.
 use mathlib.Core.Path.{ap}
+use borrow.Author.Needs.{needs}
 use Rattle.output.specs.Answers.{verdictAnswer}
 use Rattle.output.proofs.Lines.{accepted-written, refused-written}
-use borrow.Author.Needs.{needs}
 use Rattle.output.proofs.put_refusal.Statement.{statement}
 use Rattle.output.proofs.put_refusal.Tie as tie
-use Rattle.output.proofs.put_refusal.Reads as reads
-use Rattle.output.proofs.put_refusal.Lts as lts
-use Rattle.output.proofs.put_record.Reads as put-record-reads
-use Rattle.output.proofs.side_number.Reads as side-number-reads
-use Rattle.output.proofs.table_number.Reads as table-number-reads
-use Rattle.output.proofs.text_number.Reads as text-number-reads
 
--- src/lib.rt:184:37
 enum-told : tie.Need-enum-told
 enum-told c = search needs
 
--- src/lib.rt:185:27
 enum-known-verdict : tie.Need-enum-known-verdict
 enum-known-verdict c = search needs
 
--- src/lib.rt:185:53
 slice-aggregate-put-record : tie.Need-slice-aggregate-put-record
 slice-aggregate-put-record c = search needs
 
--- src/lib.rt:185:65
 side-number-requires : tie.Need-side-number-requires
 side-number-requires c κs = search needs
 
--- src/lib.rt:185:84
 text-number-requires : tie.Need-text-number-requires
 text-number-requires c κs = search needs
 
--- src/lib.rt:185:37
 put-record-requires : tie.Need-put-record-requires
 put-record-requires c κs = search needs
 
--- src/lib.rt:186:28
 enum-known-verdict-2 : tie.Need-enum-known-verdict-2
 enum-known-verdict-2 c = search needs
 
--- src/lib.rt:186:54
 slice-aggregate-put-record-2 : tie.Need-slice-aggregate-put-record-2
 slice-aggregate-put-record-2 c = search needs
 
--- src/lib.rt:186:66
 side-number-requires-2 : tie.Need-side-number-requires-2
 side-number-requires-2 c κs = search needs
 
--- src/lib.rt:186:85
 table-number-requires : tie.Need-table-number-requires
 table-number-requires c κs = search needs
 
--- src/lib.rt:186:38
 put-record-requires-2 : tie.Need-put-record-requires-2
 put-record-requires-2 c κs = search needs
 
--- src/lib.rt:179:1
 returns : tie.Need-returns
 returns c =
     let w = accepted-written _ _ (c .enum-told .given .1) in
     (w .size, w .text)
 
--- src/lib.rt:179:1
 returns-2 : tie.Need-returns-2
 returns-2 c =
     let s = c .before .before .before .before .before .before .before .before in
     let w = refused-written _ _ (s .args .verdict) _ (ap verdictAnswer (c .before .before .before .before .before .before .verdict .given .1)) (c .before .before .side-number .ensures .0) (c .before .text-number .ensures .0) (search needs) (c .put-record .ensures .0) (c .put-record .ensures .1) in
     (w .size, w .text)
 
--- src/lib.rt:179:1
 returns-3 : tie.Need-returns-3
 returns-3 c =
     let s = c .before .before .before .before .before .before .before .before in

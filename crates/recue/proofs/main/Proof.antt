@@ -1,106 +1,78 @@
-use native.Mathlib.Omega.{arith}
+-- `main` hands on what an accepted file is known to hold: an order of at most 120, and as many cells as that asks for. Assumes nothing.
 use mathlib.Core.Path.{ap, sym, _∙_}
-use Rattle.output.specs.Answers.{verdictAnswer}
-use Rattle.output.proofs.Files.{Holds, holds}
+use native.Mathlib.Omega.{arith}
 use borrow.Author.Needs.{needs}
+use Rattle.output.specs.Answers.{verdictAnswer}
+use Rattle.output.proofs.Files.{holds}
 use Rattle.recue.proofs.main.Statement.{statement}
 use Rattle.recue.proofs.main.Tie as tie
-use Rattle.recue.proofs.main.Reads as reads
-use Rattle.recue.proofs.main.Lts as lts
-use Rattle.output.proofs.judge.Reads as judge-reads
-use Rattle.recue.proofs.print_answer.Reads as print-answer-reads
-use Rattle.recue.proofs.print_refusal.Reads as print-refusal-reads
-use Rattle.recue.proofs.read_file.Reads as read-file-reads
 
--- src/main.rt:57:35
 slice-aggregate-read-file : tie.Need-slice-aggregate-read-file
 slice-aggregate-read-file c = search needs
 
--- src/main.rt:57:50
 slice-aggregate-read-file-2 : tie.Need-slice-aggregate-read-file-2
 slice-aggregate-read-file-2 c = search needs
 
--- src/main.rt:57:9
 read-file-requires : tie.Need-read-file-requires
 read-file-requires c κs = search needs
 
--- src/main.rt:58:31
 array-share-prefix-text : tie.Need-array-share-prefix-text
 array-share-prefix-text c = search needs
 
--- src/main.rt:58:31
 slice-aggregate-judge : tie.Need-slice-aggregate-judge
 slice-aggregate-judge c = search needs
 
--- src/main.rt:58:55
 slice-aggregate-judge-2 : tie.Need-slice-aggregate-judge-2
 slice-aggregate-judge-2 c = search needs
 
--- src/main.rt:58:9
 judge-requires : tie.Need-judge-requires
 judge-requires c κs = search needs
 
--- src/main.rt:59:31
 enum-known-first : tie.Need-enum-known-first
 enum-known-first c = search needs
 
--- src/main.rt:60:9
 print-refusal-requires : tie.Need-print-refusal-requires
 print-refusal-requires c κs = search needs
 
--- src/main.rt:61:9
 returns : tie.Need-returns
 returns c = search needs
 
--- src/main.rt:63:35
 slice-aggregate-read-file-3 : tie.Need-slice-aggregate-read-file-3
 slice-aggregate-read-file-3 c = search needs
 
--- src/main.rt:63:50
 slice-aggregate-read-file-4 : tie.Need-slice-aggregate-read-file-4
 slice-aggregate-read-file-4 c = search needs
 
--- src/main.rt:63:9
 read-file-requires-2 : tie.Need-read-file-requires-2
 read-file-requires-2 c κs = search needs
 
--- src/main.rt:64:32
 array-share-prefix-text-2 : tie.Need-array-share-prefix-text-2
 array-share-prefix-text-2 c = search needs
 
--- src/main.rt:64:32
 slice-aggregate-judge-3 : tie.Need-slice-aggregate-judge-3
 slice-aggregate-judge-3 c = search needs
 
--- src/main.rt:64:56
 slice-aggregate-judge-4 : tie.Need-slice-aggregate-judge-4
 slice-aggregate-judge-4 c = search needs
 
--- src/main.rt:64:9
 judge-requires-2 : tie.Need-judge-requires-2
 judge-requires-2 c κs = search needs
 
--- src/main.rt:65:31
 enum-known-second : tie.Need-enum-known-second
 enum-known-second c = search needs
 
--- src/main.rt:66:9
 print-refusal-requires-2 : tie.Need-print-refusal-requires-2
 print-refusal-requires-2 c κs = search needs
 
--- src/main.rt:67:9
 returns-2 : tie.Need-returns-2
 returns-2 c = search needs
 
--- src/main.rt:69:18
 slice-aggregate-print-answer : tie.Need-slice-aggregate-print-answer
 slice-aggregate-print-answer c = search needs
 
--- src/main.rt:69:30
 slice-aggregate-print-answer-2 : tie.Need-slice-aggregate-print-answer-2
 slice-aggregate-print-answer-2 c = search needs
 
--- src/main.rt:69:5
 print-answer-requires : tie.Need-print-answer-requires
 print-answer-requires c κs =
     let second = c .before .before .before in
@@ -111,7 +83,6 @@ print-answer-requires c κs =
     let b = holds _ _ _ (sym (target .judge2 .ensures .0) ∙ ap verdictAnswer (second .second .given .1)) in
     ((a .small, omega (arith, a .room, source .judge .kept .1 .0)), (b .small, omega (arith, b .room, target .judge2 .kept .1 .0)))
 
--- src/main.rt:53:1
 returns-3 : tie.Need-returns-3
 returns-3 c = search needs
 
