@@ -1,7 +1,6 @@
 -- What the definition of the whole output says: which file speaks, how much of a file decides, which numbers can come, and 01's example.
 -- Assumes nothing.
 use mathlib.Core.Path.{_≡_, refl, ap, ap₂, sym, _∙_}
-use mathlib.Core.Bool.{not}
 use mathlib.Core.Logic.{_⊎_, inl, inr}
 use mathlib.Core.List.{List, [], map, flatMap, flatten}
 use mathlib.Core.Option.{none, some, orElse}
