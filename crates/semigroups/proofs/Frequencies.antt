@@ -1,6 +1,6 @@
 -- Frequencies of elements: what they sum to, what an isomorphism keeps, and how they are counted over the cells of a table. The idea: a sum over
 -- all elements is one over their images. Assumes nothing.
-use mathlib.Core.Path.{_≡_, sym, ap, ap₂, _∙_, subst}
+use mathlib.Core.Path.{_≡_, refl, sym, ap, ap₂, _∙_, subst}
 use mathlib.Core.Bool.{true, cond, _&&_}
 use mathlib.Core.Logic.{_⊎_, inl, inr}
 use mathlib.Core.List.{List, _++_, map, flatMap, List·Memᴰ, Memᴰ·of-map, Memᴰ·cast, Memᴰ·map}
@@ -15,7 +15,7 @@ use Rattle.semigroups.specs.Lists.{range, elements, at, sum, count, NoRe
 use Rattle.semigroups.specs.Tables.{Product, product, grid, Element, Closed}
 use Rattle.semigroups.specs.Invariants.{index, period, frequency, diagonalFrequency, rowFrequency, columnFrequency, Profile, profile, sameProfile}
 use Rattle.semigroups.specs.Maps.{Embedding}
-use Rattle.semigroups.proofs.Booleans.{both, and-left, and-right, equal-or-not}
+use Rattle.semigroups.proofs.Booleans.{and-left, and-right, equal-or-not}
 use Rattle.semigroups.proofs.Lists.{length-elements, mem-elements, elements-mem, getD-map, at-elements, at-suc}
 use Rattle.semigroups.proofs.NoRepeats.{sum-inside, map-no-repeats, elements-no-repeats, onto}
 use Rattle.semigroups.proofs.Sums.{sum-same, count-same, sum-constant, sum-map, count-map, sum-flatMap, sum-swap, count-element}
@@ -144,20 +144,13 @@ same-profile x y e =
     let e6 : x .column ≡ y .column = eqb-true (x .column) (y .column) (and-right b5 b6 r4) in
     profile-equal x y e1 e2 e3 e4 e5 e6
 
-pub profile-same : (x y : Profile) → x ≡ y → sameProfile x y ≡ true
+profile-itself : (x : Profile) → sameProfile x x ≡ true
 unfolding sameProfile
-profile-same x y e =
-    let b1 = eqb (x .index) (y .index) in
-    let b2 = eqb (x .period) (y .period) in
-    let b3 = eqb (x .frequency) (y .frequency) in
-    let b4 = eqb (x .diagonal) (y .diagonal) in
-    let b5 = eqb (x .row) (y .row) in
-    let b6 = eqb (x .column) (y .column) in
-    both b1 (b2 && (b3 && (b4 && (b5 && b6)))) (eq-eqb (x .index) (y .index) (ap (λ (z : Profile). z .index) e))
-    (both b2 (b3 && (b4 && (b5 && b6))) (eq-eqb (x .period) (y .period) (ap (λ (z : Profile). z .period) e))
-    (both b3 (b4 && (b5 && b6)) (eq-eqb (x .frequency) (y .frequency) (ap (λ (z : Profile). z .frequency) e))
-    (both b4 (b5 && b6) (eq-eqb (x .diagonal) (y .diagonal) (ap (λ (z : Profile). z .diagonal) e))
-    (both b5 b6 (eq-eqb (x .row) (y .row) (ap (λ (z : Profile). z .row) e)) (eq-eqb (x .column) (y .column) (ap (λ (z : Profile). z .column) e))))))
+profile-itself x =
+    rw (eq-eqb (x .index) (x .index) refl, eq-eqb (x .period) (x .period) refl, eq-eqb (x .frequency) (x .frequency) refl, eq-eqb (x .diagonal) (x .diagonal) refl, eq-eqb (x .row) (x .row) refl, eq-eqb (x .column) (x .column) refl)
+
+pub profile-same : (x y : Profile) → x ≡ y → sameProfile x y ≡ true
+profile-same x y e = subst (λ (z : Profile). sameProfile x z ≡ true) e (profile-itself x)
 
 -- ---- a table given by its cells
 
