@@ -1,0 +1,23 @@
+-- `tickdrizzle_transformations` meets its contract: it writes what `transformations::fill` answers, and the cells are as that leaves them.
+-- Assumes nothing.
+use borrow.Author.Needs.{needs}
+use Rattle.exports.proofs.tickdrizzle_transformations.Statement.{statement}
+use Rattle.exports.proofs.tickdrizzle_transformations.Tie as tie
+
+fill-requires : tie.Need-fill-requires
+fill-requires c κs = search needs
+
+transformation-words-requires : tie.Need-transformation-words-requires
+transformation-words-requires c κs = search needs
+
+same-length : tie.Need-same-length
+same-length c = search needs
+
+returns : tie.Need-returns
+returns c =
+    let called = c .before .before .before .fill .ensures in
+    (rw (called .0) at (c .transformation-words .ensures), called .1)
+
+pub tickdrizzle-transformations-spec : {M : Type 1} → statement M
+tickdrizzle-transformations-spec =
+    tie.close (tie.spec fill-requires transformation-words-requires same-length returns)

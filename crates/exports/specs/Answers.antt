@@ -1,0 +1,69 @@
+-- The eight numbers that a call from another language gets as its answer: the number of the failed question or 0, the side that it names or 0, the
+-- values, and zeros. Assumes nothing.
+use mathlib.Core.List.{List, [], _∷_, _++_}
+use mathlib.Core.Option.{Option, none, some}
+use Prim.Native.Nat.{ℕ}
+use lib.ListN.{take, replicate}
+use Rattle.semigroups.specs.Questions.{Refusal}
+use Rattle.semigroups.specs.Calls.{Answer, refused, gives}
+use Rattle.semigroups.specs.Invariants.{IndexPeriod, Profile}
+use Rattle.semigroups.specs.MapCheck.{Checked, holds, outside, equalImages, wrongProduct}
+use Rattle.semigroups.specs.Walks as walks
+
+-- ---- the layout
+
+-- The side that is named; 0 stands for none.
+abbrev pub sideWord : Option ℕ → ℕ
+sideWord none = 0
+sideWord (some side) = side
+
+-- A number, a side and up to six values, then zeros: eight numbers in all.
+abbrev pub words : ℕ → ℕ → List ℕ → List ℕ
+words number side values = number ∷ side ∷ take 6 (values ++ replicate 6 0)
+
+-- What is said with a refusal.
+abbrev pub refusalWords : Refusal → List ℕ
+refusalWords r = words (r .number) (sideWord (r .side)) (r .values)
+
+-- A call that is not refused has number 0 and names no side.
+abbrev pub valueWords : List ℕ → List ℕ
+valueWords values = words 0 0 values
+
+-- ---- what a call says
+
+-- Where questions are all that a call asks, there are no values.
+abbrev pub questionWords : Option Refusal → List ℕ
+questionWords none = valueWords []
+questionWords (some r) = refusalWords r
+
+-- What is given, by the values that it has.
+abbrev pub answerWords : {A : Type 0} → (A → List ℕ) → Answer A → List ℕ
+answerWords values (refused r) = refusalWords r
+answerWords values (gives x) = valueWords (values x)
+
+-- Of a search: 1 for found, 0 for none.
+abbrev pub searchWords : walks.Said Refusal → List ℕ
+searchWords (walks.refused r) = refusalWords r
+searchWords walks.found = valueWords (1 ∷ [])
+searchWords walks.nothing = valueWords (0 ∷ [])
+
+-- ---- values
+
+-- The two numbers of an index-period.
+abbrev pub indexPeriodValues : IndexPeriod → List ℕ
+indexPeriodValues r = r .index ∷ r .period ∷ []
+
+-- The six numbers of a profile.
+abbrev pub profileValues : Profile → List ℕ
+profileValues r = r .index ∷ r .period ∷ r .frequency ∷ r .diagonal ∷ r .row ∷ r .column ∷ []
+
+-- 0 for a map that holds; 1 and the element whose image is outside; 2 and the pair with equal images; 3 and the pair whose product fails.
+abbrev pub checkedValues : Checked → List ℕ
+checkedValues holds = 0 ∷ []
+checkedValues (outside i) = 1 ∷ i ∷ []
+checkedValues (equalImages pair) = 2 ∷ pair
+checkedValues (wrongProduct pair) = 3 ∷ pair
+
+-- An order or a length.
+abbrev pub numberValues : ℕ → List ℕ
+numberValues x = x ∷ []
