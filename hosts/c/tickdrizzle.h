@@ -1,0 +1,146 @@
+/*
+ * Multiplication tables of finite semigroups, from C: checks, invariants, embeddings, isomorphisms, CSV text.
+ * The functions are proved, for every input, in crates/exports; docs/HOSTS.md tells how to link them.
+ *
+ * A table of order n is n * n bytes, row after row, each 1 to n: the cell in row i, column j is the product i.j.
+ * A map is one byte for each source element, its image. Elements count from 1, and byte 0 stands for no element.
+ *
+ * Every buffer is a pointer and a length in bytes; any content and any length, order, element or degree is allowed.
+ * What the caller must see to: no pointer is NULL, each points to as many bytes as its length says (answer: to eight
+ * numbers), and no buffer that is written overlaps another one. The functions keep no pointer and no state.
+ *
+ * Each call writes all eight numbers of answer:
+ *   answer[0]     0, or where the call is refused the number of the earliest failed question (TICKDRIZZLE_NO_...)
+ *   answer[1]     the table that a refusal names (TICKDRIZZLE_SOURCE, TICKDRIZZLE_TARGET), else 0
+ *   answer[2..7]  the values said below, then zeros
+ * A refused call changes no byte of any buffer. Bytes behind the part that a call is said to write stay as they were.
+ */
+#ifndef TICKDRIZZLE_H
+#define TICKDRIZZLE_H
+
+#include <stddef.h>
+#include <stdint.h>
+
+#ifdef __cplusplus
+#define TICKDRIZZLE_RESTRICT
+extern "C" {
+#else
+#define TICKDRIZZLE_RESTRICT restrict
+#endif
+
+/* Sizes. */
+#define TICKDRIZZLE_GREATEST_ORDER 120
+#define TICKDRIZZLE_GREATEST_DEGREE 3
+#define TICKDRIZZLE_MOST_CELLS 14400   /* cells of a table of order 120 */
+#define TICKDRIZZLE_LONGEST_TEXT 57720 /* text of a table of order 120 whose cells have three digits each */
+#define TICKDRIZZLE_ANSWERS 8          /* numbers in an answer */
+
+/* The questions, by number, each with the values that its refusal carries from answer[2] on. */
+#define TICKDRIZZLE_NO_ORDER 1          /* is the order 1 to 120? */
+#define TICKDRIZZLE_NO_CELL_COUNT 2     /* are there exactly n * n cells? */
+#define TICKDRIZZLE_NO_CELL_RANGE 3     /* is every cell 1 to n? the first that is not, counted from 1 */
+#define TICKDRIZZLE_NO_ASSOCIATIVITY 4  /* is (i.j).k = i.(j.k) for all i, j, k? the first i, j, k that fail */
+#define TICKDRIZZLE_NO_MAP_LENGTH 5     /* has the map exactly one byte for each source element? */
+#define TICKDRIZZLE_NO_SCRATCH_LENGTH 6 /* has the scratch buffer at least source order * target order bytes? */
+#define TICKDRIZZLE_NO_ELEMENT 7        /* is the element 1 to n? */
+#define TICKDRIZZLE_NO_DEGREE 8         /* is the degree 1 to 3? */
+#define TICKDRIZZLE_NO_TABLE_ROOM 9     /* has the buffer room for the table of transformations? */
+#define TICKDRIZZLE_NO_TEXT_LENGTH 20   /* is the text 1 to 57720 bytes long? */
+#define TICKDRIZZLE_NO_TEXT_BYTE 21     /* are all bytes digits, commas, CR LF pairs? the first other's place, from 0 */
+#define TICKDRIZZLE_NO_TEXT_END 22      /* does the text end in CR LF? */
+#define TICKDRIZZLE_NO_FIELD_LENGTH 23  /* is each field 1 to 3 bytes long? */
+#define TICKDRIZZLE_NO_FIELD_START 24   /* is its first byte other than 0? */
+#define TICKDRIZZLE_NO_FIELD_RANGE 25   /* is it at most 120? */
+#define TICKDRIZZLE_NO_SQUARE 26        /* as many records as the first has fields, each with that many? */
+#define TICKDRIZZLE_NO_CELL_ROOM 27     /* has the buffer room for the cells? */
+#define TICKDRIZZLE_NO_TEXT_ROOM 28     /* has the buffer room for the text? */
+
+/* The table that a refusal by questions 1 to 4 names, in a call with two tables. */
+#define TICKDRIZZLE_SOURCE 1
+#define TICKDRIZZLE_TARGET 2
+
+/* What a map check says: answer[2], with the values from answer[3] on. */
+#define TICKDRIZZLE_MAP_HOLDS 0         /* the map is an embedding */
+#define TICKDRIZZLE_MAP_OUTSIDE 1       /* the first element whose image is no target element */
+#define TICKDRIZZLE_MAP_EQUAL_IMAGES 2  /* the earliest i < j with one image */
+#define TICKDRIZZLE_MAP_WRONG_PRODUCT 3 /* the earliest i, j whose product does not go to the product of their images */
+
+/* What a search says: answer[2]. */
+#define TICKDRIZZLE_NONE 0
+#define TICKDRIZZLE_FOUND 1
+
+/* Asks whether the cells are a table of this order (questions 1 to 4).
+   Says no values; writes nothing but the answer. */
+void tickdrizzle_check_table(const uint8_t *cells, size_t cells_length, size_t order, uint64_t *TICKDRIZZLE_RESTRICT answer);
+
+/* The least index p and period r of an element, for which power p + r equals power p (questions 1 to 4, 7).
+   Says index, period; writes nothing but the answer. */
+void tickdrizzle_index_period(const uint8_t *cells, size_t cells_length, size_t order, size_t element,
+                              uint64_t *TICKDRIZZLE_RESTRICT answer);
+
+/* The profile of an element: index, period, and how often it stands in the table, its diagonal, row and column (1 to 4, 7).
+   Says these six numbers in this order; writes nothing but the answer. */
+void tickdrizzle_profile(const uint8_t *cells, size_t cells_length, size_t order, size_t element,
+                         uint64_t *TICKDRIZZLE_RESTRICT answer);
+
+/* Asks whether a map is an embedding of the source in the target (1 to 4 of the source, of the target, 5).
+   Says TICKDRIZZLE_MAP_... and what goes with it; writes nothing but the answer. */
+void tickdrizzle_check_map(const uint8_t *source, size_t source_length, size_t source_order, const uint8_t *target,
+                           size_t target_length, size_t target_order, const uint8_t *map, size_t map_length,
+                           uint64_t *TICKDRIZZLE_RESTRICT answer);
+
+/*
+ * The four searches ask 1 to 4 of the source, of the target, 5 and 6, and say TICKDRIZZLE_FOUND or TICKDRIZZLE_NONE. Found:
+ * map holds the map. None: there is no such map, and map is as it was. After both, scratch[(i - 1) * target order + (j - 1)]
+ * is 1 where target element j has the index and period (for isomorphisms: the profile) of source element i, else 0.
+ * Lists are compared byte by byte from the front.
+ */
+
+/* The earliest embedding of the source in the target: a map with no two images equal that keeps every product.
+   Writes map (only where found) and scratch. */
+void tickdrizzle_first_embedding(const uint8_t *source, size_t source_length, size_t source_order, const uint8_t *target,
+                                 size_t target_length, size_t target_order, uint8_t *TICKDRIZZLE_RESTRICT map,
+                                 size_t map_length, uint8_t *TICKDRIZZLE_RESTRICT scratch, size_t scratch_length,
+                                 uint64_t *TICKDRIZZLE_RESTRICT answer);
+
+/* The earliest embedding that is later than the bytes in map, whatever they are.
+   Writes map (only where found) and scratch. */
+void tickdrizzle_next_embedding(const uint8_t *source, size_t source_length, size_t source_order, const uint8_t *target,
+                                size_t target_length, size_t target_order, uint8_t *TICKDRIZZLE_RESTRICT map,
+                                size_t map_length, uint8_t *TICKDRIZZLE_RESTRICT scratch, size_t scratch_length,
+                                uint64_t *TICKDRIZZLE_RESTRICT answer);
+
+/* The earliest isomorphism of the source onto the target: an embedding between tables of one order.
+   Writes map (only where found) and scratch. */
+void tickdrizzle_first_isomorphism(const uint8_t *source, size_t source_length, size_t source_order, const uint8_t *target,
+                                   size_t target_length, size_t target_order, uint8_t *TICKDRIZZLE_RESTRICT map,
+                                   size_t map_length, uint8_t *TICKDRIZZLE_RESTRICT scratch, size_t scratch_length,
+                                   uint64_t *TICKDRIZZLE_RESTRICT answer);
+
+/* The earliest isomorphism that is later than the bytes in map: called again and again from zeros, it finds each one once.
+   Writes map (only where found) and scratch. */
+void tickdrizzle_next_isomorphism(const uint8_t *source, size_t source_length, size_t source_order, const uint8_t *target,
+                                  size_t target_length, size_t target_order, uint8_t *TICKDRIZZLE_RESTRICT map,
+                                  size_t map_length, uint8_t *TICKDRIZZLE_RESTRICT scratch, size_t scratch_length,
+                                  uint64_t *TICKDRIZZLE_RESTRICT answer);
+
+/* The table of all transformations of degree points, numbered in list order, composed from left to right (questions 8, 9).
+   Says the order: 1, 4 or 27; writes the first order * order bytes of cells. */
+void tickdrizzle_transformations(size_t degree, uint8_t *TICKDRIZZLE_RESTRICT cells, size_t cells_length,
+                                 uint64_t *TICKDRIZZLE_RESTRICT answer);
+
+/* The cells of a CSV text: records closed by CR LF, no header, no quotes (20 to 26, 1, 27; neither 3 nor 4).
+   Says the order; writes the first order * order bytes of cells. */
+void tickdrizzle_load(const uint8_t *text, size_t text_length, uint8_t *TICKDRIZZLE_RESTRICT cells, size_t cells_length,
+                      uint64_t *TICKDRIZZLE_RESTRICT answer);
+
+/* The CSV text of the cells, the same layout that is loaded (questions 1, 2, 3, 28).
+   Says its length; writes as many bytes of text. */
+void tickdrizzle_save(const uint8_t *cells, size_t cells_length, size_t order, uint8_t *TICKDRIZZLE_RESTRICT text,
+                      size_t text_length, uint64_t *TICKDRIZZLE_RESTRICT answer);
+
+#ifdef __cplusplus
+}
+#endif
+
+#endif
