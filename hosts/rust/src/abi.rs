@@ -1,0 +1,140 @@
+//! The calls as the archive has them: slices in, eight numbers out. `hosts/c/tickdrizzle.h` says what each does.
+//!
+//! All unsafe code of this package is here. What the archive asks of a caller holds by the types: a slice has as many
+//! bytes as its length says, and a `&mut` slice overlaps nothing else that is lent.
+
+/// The number of the earliest failed question or 0, the side it names or 0, then values and zeros.
+pub type Answer = [u64; 8];
+
+extern "C" {
+    fn tickdrizzle_check_table(cells: *const u8, cells_length: usize, order: usize, answer: &mut Answer);
+    fn tickdrizzle_index_period(
+        cells: *const u8,
+        cells_length: usize,
+        order: usize,
+        element: usize,
+        answer: &mut Answer,
+    );
+    fn tickdrizzle_profile(cells: *const u8, cells_length: usize, order: usize, element: usize, answer: &mut Answer);
+    fn tickdrizzle_check_map(
+        source: *const u8,
+        source_length: usize,
+        source_order: usize,
+        target: *const u8,
+        target_length: usize,
+        target_order: usize,
+        map: *const u8,
+        map_length: usize,
+        answer: &mut Answer,
+    );
+    fn tickdrizzle_transformations(degree: usize, cells: *mut u8, cells_length: usize, answer: &mut Answer);
+    fn tickdrizzle_load(text: *const u8, text_length: usize, cells: *mut u8, cells_length: usize, answer: &mut Answer);
+    fn tickdrizzle_save(
+        cells: *const u8,
+        cells_length: usize,
+        order: usize,
+        text: *mut u8,
+        text_length: usize,
+        answer: &mut Answer,
+    );
+}
+
+pub fn check_table(cells: &[u8], order: usize, answer: &mut Answer) {
+    unsafe { tickdrizzle_check_table(cells.as_ptr(), cells.len(), order, answer) }
+}
+
+pub fn index_period(cells: &[u8], order: usize, element: usize, answer: &mut Answer) {
+    unsafe { tickdrizzle_index_period(cells.as_ptr(), cells.len(), order, element, answer) }
+}
+
+pub fn profile(cells: &[u8], order: usize, element: usize, answer: &mut Answer) {
+    unsafe { tickdrizzle_profile(cells.as_ptr(), cells.len(), order, element, answer) }
+}
+
+pub fn check_map(
+    source: &[u8],
+    source_order: usize,
+    target: &[u8],
+    target_order: usize,
+    map: &[u8],
+    answer: &mut Answer,
+) {
+    unsafe {
+        tickdrizzle_check_map(
+            source.as_ptr(),
+            source.len(),
+            source_order,
+            target.as_ptr(),
+            target.len(),
+            target_order,
+            map.as_ptr(),
+            map.len(),
+            answer,
+        )
+    }
+}
+
+/// The four searches, which have one signature.
+macro_rules! searches {
+    ($($name:ident is $symbol:ident;)*) => {$(
+        pub fn $name(
+            source: &[u8],
+            source_order: usize,
+            target: &[u8],
+            target_order: usize,
+            map: &mut [u8],
+            scratch: &mut [u8],
+            answer: &mut Answer,
+        ) {
+            extern "C" {
+                fn $symbol(
+                    source: *const u8,
+                    source_length: usize,
+                    source_order: usize,
+                    target: *const u8,
+                    target_length: usize,
+                    target_order: usize,
+                    map: *mut u8,
+                    map_length: usize,
+                    scratch: *mut u8,
+                    scratch_length: usize,
+                    answer: &mut Answer,
+                );
+            }
+            unsafe {
+                $symbol(
+                    source.as_ptr(),
+                    source.len(),
+                    source_order,
+                    target.as_ptr(),
+                    target.len(),
+                    target_order,
+                    map.as_mut_ptr(),
+                    map.len(),
+                    scratch.as_mut_ptr(),
+                    scratch.len(),
+                    answer,
+                )
+            }
+        }
+    )*};
+}
+
+searches! {
+    first_embedding is tickdrizzle_first_embedding;
+    next_embedding is tickdrizzle_next_embedding;
+    first_isomorphism is tickdrizzle_first_isomorphism;
+    next_isomorphism is tickdrizzle_next_isomorphism;
+}
+
+pub fn transformations(degree: usize, cells: &mut [u8], answer: &mut Answer) {
+    unsafe { tickdrizzle_transformations(degree, cells.as_mut_ptr(), cells.len(), answer) }
+}
+
+pub fn load(text: &[u8], cells: &mut [u8], answer: &mut Answer) {
+    unsafe { tickdrizzle_load(text.as_ptr(), text.len(), cells.as_mut_ptr(), cells.len(), answer) }
+}
+
+pub fn save(cells: &[u8], order: usize, text: &mut [u8], answer: &mut Answer) {
+    unsafe { tickdrizzle_save(cells.as_ptr(), cells.len(), order, text.as_mut_ptr(), text.len(), answer) }
+}

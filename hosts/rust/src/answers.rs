@@ -1,0 +1,268 @@
+//! What the calls answer, and how it is read from the eight numbers.
+//!
+//! A number that no call answers is a fault of the archive and panics.
+
+use crate::abi::Answer;
+use std::error::Error;
+use std::fmt;
+
+/// The table that a refusal names, in a call with two tables.
+#[derive(Clone, Copy, Debug, PartialEq, Eq)]
+pub enum Side {
+    /// The table that is mapped.
+    Source,
+    /// The table that it is mapped to.
+    Target,
+}
+
+/// A question that a call asks, with what is said where the answer is "no".
+#[derive(Clone, Copy, Debug, PartialEq, Eq)]
+pub enum Question {
+    /// 1: is the order 1 to 120?
+    Order,
+    /// 2: are there exactly n × n cells?
+    CellCount,
+    /// 3: is every cell 1 to n?
+    CellRange {
+        /// The first cell that is not, counted from 1.
+        cell: usize,
+    },
+    /// 4: is (i·j)·k = i·(j·k) for all elements? The first i, j, k that fail.
+    Associativity {
+        /// The first element.
+        i: usize,
+        /// The second element.
+        j: usize,
+        /// The third element.
+        k: usize,
+    },
+    /// 5: has the map exactly one byte for each source element?
+    MapLength,
+    /// 6: has the scratch buffer at least source order × target order bytes?
+    ScratchLength,
+    /// 7: is the element 1 to n?
+    Element,
+    /// 8: is the degree 1 to 3?
+    Degree,
+    /// 9: has the buffer room for the table of transformations?
+    TableRoom,
+    /// 20: is the text 1 to 57,720 bytes long?
+    TextLength,
+    /// 21: is every byte a digit, a comma or part of a CR LF pair?
+    TextByte {
+        /// The first other byte's place, counted from 0.
+        place: usize,
+    },
+    /// 22: does the text end in CR LF?
+    TextEnd,
+    /// 23: is each field 1 to 3 bytes long?
+    FieldLength,
+    /// 24: is its first byte other than 0?
+    FieldStart,
+    /// 25: is it at most 120?
+    FieldRange,
+    /// 26: are there as many records as the first has fields, each with that many?
+    Square,
+    /// 27: has the buffer room for the cells?
+    CellRoom,
+    /// 28: has the buffer room for the text?
+    TextRoom,
+}
+
+impl Question {
+    /// The question's number.
+    pub fn number(self) -> u64 {
+        match self {
+            Question::Order => 1,
+            Question::CellCount => 2,
+            Question::CellRange { .. } => 3,
+            Question::Associativity { .. } => 4,
+            Question::MapLength => 5,
+            Question::ScratchLength => 6,
+            Question::Element => 7,
+            Question::Degree => 8,
+            Question::TableRoom => 9,
+            Question::TextLength => 20,
+            Question::TextByte { .. } => 21,
+            Question::TextEnd => 22,
+            Question::FieldLength => 23,
+            Question::FieldStart => 24,
+            Question::FieldRange => 25,
+            Question::Square => 26,
+            Question::CellRoom => 27,
+            Question::TextRoom => 28,
+        }
+    }
+
+    fn decode(answer: &Answer) -> Question {
+        match answer[0] {
+            1 => Question::Order,
+            2 => Question::CellCount,
+            3 => Question::CellRange { cell: number(answer, 2) },
+            4 => Question::Associativity { i: number(answer, 2), j: number(answer, 3), k: number(answer, 4) },
+            5 => Question::MapLength,
+            6 => Question::ScratchLength,
+            7 => Question::Element,
+            8 => Question::Degree,
+            9 => Question::TableRoom,
+            20 => Question::TextLength,
+            21 => Question::TextByte { place: number(answer, 2) },
+            22 => Question::TextEnd,
+            23 => Question::FieldLength,
+            24 => Question::FieldStart,
+            25 => Question::FieldRange,
+            26 => Question::Square,
+            27 => Question::CellRoom,
+            28 => Question::TextRoom,
+            other => panic!("no question has the number {other}"),
+        }
+    }
+}
+
+/// The earliest question that failed, with the table that it is about where the call has two.
+#[derive(Clone, Copy, Debug, PartialEq, Eq)]
+pub struct Refusal {
+    /// The side, for questions 1 to 4 of a map check or a search.
+    pub side: Option<Side>,
+    /// The question.
+    pub question: Question,
+}
+
+impl Refusal {
+    pub(crate) fn decode(answer: &Answer) -> Option<Refusal> {
+        if answer[0] == 0 {
+            return None;
+        }
+        let side = match answer[1] {
+            0 => None,
+            1 => Some(Side::Source),
+            2 => Some(Side::Target),
+            other => panic!("no side has the number {other}"),
+        };
+        Some(Refusal { side, question: Question::decode(answer) })
+    }
+}
+
+impl fmt::Display for Refusal {
+    fn fmt(&self, formatter: &mut fmt::Formatter<'_>) -> fmt::Result {
+        let side = match self.side {
+            None => "",
+            Some(Side::Source) => "source: ",
+            Some(Side::Target) => "target: ",
+        };
+        write!(formatter, "{side}refused by question {}, {:?}", self.question.number(), self.question)
+    }
+}
+
+impl Error for Refusal {}
+
+/// Index and period of an element.
+#[derive(Clone, Copy, Debug, PartialEq, Eq)]
+pub struct IndexPeriod {
+    /// The least p ≥ 1 for which some later power equals power p.
+    pub index: usize,
+    /// The least r ≥ 1 for which power p + r equals power p.
+    pub period: usize,
+}
+
+impl IndexPeriod {
+    pub(crate) fn decode(answer: &Answer) -> IndexPeriod {
+        IndexPeriod { index: number(answer, 2), period: number(answer, 3) }
+    }
+}
+
+/// The profile of an element: what every isomorphism keeps.
+#[derive(Clone, Copy, Debug, PartialEq, Eq)]
+pub struct Profile {
+    /// The index.
+    pub index: usize,
+    /// The period.
+    pub period: usize,
+    /// How often the element stands in the whole table.
+    pub frequency: usize,
+    /// How often it stands on the diagonal.
+    pub diagonal: usize,
+    /// How often it stands in its row.
+    pub row: usize,
+    /// How often it stands in its column.
+    pub column: usize,
+}
+
+impl Profile {
+    pub(crate) fn decode(answer: &Answer) -> Profile {
+        Profile {
+            index: number(answer, 2),
+            period: number(answer, 3),
+            frequency: number(answer, 4),
+            diagonal: number(answer, 5),
+            row: number(answer, 6),
+            column: number(answer, 7),
+        }
+    }
+}
+
+/// What a map check says: that the map is an embedding, or the earliest fault.
+#[derive(Clone, Copy, Debug, PartialEq, Eq)]
+pub enum MapCheck {
+    /// The map is an embedding.
+    Holds,
+    /// An image is no target element.
+    Outside {
+        /// The first element with such an image.
+        element: usize,
+    },
+    /// Two elements, i < j, have one image.
+    EqualImages {
+        /// The first element.
+        i: usize,
+        /// The second element.
+        j: usize,
+    },
+    /// The image of i·j is not the product of their images.
+    WrongProduct {
+        /// The first factor.
+        i: usize,
+        /// The second factor.
+        j: usize,
+    },
+}
+
+impl MapCheck {
+    pub(crate) fn decode(answer: &Answer) -> MapCheck {
+        match answer[2] {
+            0 => MapCheck::Holds,
+            1 => MapCheck::Outside { element: number(answer, 3) },
+            2 => MapCheck::EqualImages { i: number(answer, 3), j: number(answer, 4) },
+            3 => MapCheck::WrongProduct { i: number(answer, 3), j: number(answer, 4) },
+            other => panic!("no outcome of a map check has the number {other}"),
+        }
+    }
+}
+
+/// What a search says.
+#[derive(Clone, Copy, Debug, PartialEq, Eq)]
+pub enum Search {
+    /// The map buffer holds the map.
+    Found,
+    /// There is no such map.
+    None,
+}
+
+impl Search {
+    pub(crate) fn decode(answer: &Answer) -> Search {
+        match answer[2] {
+            0 => Search::None,
+            1 => Search::Found,
+            other => panic!("no outcome of a search has the number {other}"),
+        }
+    }
+}
+
+/// The size that a call gives: an order or a length.
+pub(crate) fn size(answer: &Answer) -> usize {
+    number(answer, 2)
+}
+
+fn number(answer: &Answer, place: usize) -> usize {
+    usize::try_from(answer[place]).expect("the answer fits this machine")
+}

@@ -1,0 +1,127 @@
+//! Multiplication tables of finite semigroups: checks, invariants, embeddings, isomorphisms and CSV text, over a library
+//! that is proved for every input.
+//!
+//! A table of order n is n × n bytes, row after row, each 1 to n: the cell in row i, column j is the product i·j. A map
+//! is one byte for each source element, its image. Elements count from 1, and byte 0 stands for no element.
+//!
+//! Every call takes any content, any order and buffers of any length. It answers what was asked for, or a [`Refusal`]: the
+//! earliest question that failed. A refused call changes no byte of any buffer, and bytes behind the part that a call is
+//! said to write stay as they were.
+//!
+//! ```
+//! use tickdrizzle::{first_embedding, Search};
+//!
+//! let swap = [1, 2, 2, 1];
+//! let transformations = [1, 1, 4, 4, 1, 2, 3, 4, 1, 3, 2, 4, 1, 4, 1, 4];
+//! let (mut map, mut scratch) = ([0; 2], [0; 8]);
+//! let search = first_embedding(&swap, 2, &transformations, 4, &mut map, &mut scratch);
+//! assert_eq!(search, Ok(Search::Found));
+//! assert_eq!(map, [2, 3]);
+//! ```
+
+#![warn(missing_docs)]
+
+#[allow(missing_docs)]
+pub mod abi;
+mod answers;
+
+use abi::Answer;
+pub use answers::{IndexPeriod, MapCheck, Profile, Question, Refusal, Search, Side};
+
+/// The greatest order of a table.
+pub const GREATEST_ORDER: usize = 120;
+/// The cells of a table of the greatest order.
+pub const MOST_CELLS: usize = GREATEST_ORDER * GREATEST_ORDER;
+/// The text of a table of the greatest order whose cells have three digits each.
+pub const LONGEST_TEXT: usize = 57_720;
+/// The greatest degree of a table of transformations.
+pub const GREATEST_DEGREE: usize = 3;
+
+/// Makes a call and decodes what it answers.
+fn answered<T>(call: impl FnOnce(&mut Answer), decode: impl FnOnce(&Answer) -> T) -> Result<T, Refusal> {
+    let mut answer = [0; 8];
+    call(&mut answer);
+    match Refusal::decode(&answer) {
+        Some(refusal) => Err(refusal),
+        None => Ok(decode(&answer)),
+    }
+}
+
+/// Asks whether the cells are a table of this order.
+pub fn check_table(cells: &[u8], order: usize) -> Result<(), Refusal> {
+    answered(|answer| abi::check_table(cells, order, answer), |_| ())
+}
+
+/// The least index p and period r of an element, for which power p + r equals power p.
+pub fn index_period(cells: &[u8], order: usize, element: usize) -> Result<IndexPeriod, Refusal> {
+    answered(|answer| abi::index_period(cells, order, element, answer), IndexPeriod::decode)
+}
+
+/// The profile of an element: index, period, and how often it stands in the table, its diagonal, row and column.
+pub fn profile(cells: &[u8], order: usize, element: usize) -> Result<Profile, Refusal> {
+    answered(|answer| abi::profile(cells, order, element, answer), Profile::decode)
+}
+
+/// Asks whether a map is an embedding of the source in the target.
+pub fn check_map(
+    source: &[u8],
+    source_order: usize,
+    target: &[u8],
+    target_order: usize,
+    map: &[u8],
+) -> Result<MapCheck, Refusal> {
+    answered(|answer| abi::check_map(source, source_order, target, target_order, map, answer), MapCheck::decode)
+}
+
+/// The four searches, which differ in the map they are after.
+macro_rules! searches {
+    ($($(#[$says:meta])* $name:ident;)*) => {$(
+        $(#[$says])*
+        ///
+        /// Found: `map` holds it. None: there is no such map, and `map` is as it was. After both, byte
+        /// (i − 1) × target order + (j − 1) of `scratch` is 1 where target element j has the index and period (for
+        /// isomorphisms: the profile) of source element i, else 0.
+        pub fn $name(
+            source: &[u8],
+            source_order: usize,
+            target: &[u8],
+            target_order: usize,
+            map: &mut [u8],
+            scratch: &mut [u8],
+        ) -> Result<Search, Refusal> {
+            answered(
+                |answer| abi::$name(source, source_order, target, target_order, map, scratch, answer),
+                Search::decode,
+            )
+        }
+    )*};
+}
+
+searches! {
+    /// The earliest embedding of the source in the target, lists compared byte by byte from the front.
+    first_embedding;
+    /// The earliest embedding that is later than the bytes in `map`, whatever they are.
+    next_embedding;
+    /// The earliest isomorphism of the source onto the target.
+    first_isomorphism;
+    /// The earliest isomorphism that is later than the bytes in `map`: called again and again from zeros, it finds each
+    /// isomorphism once.
+    next_isomorphism;
+}
+
+/// Writes the table of all transformations of `degree` points, numbered in list order and composed from left to right,
+/// to the front of `cells`; its order.
+pub fn transformations(degree: usize, cells: &mut [u8]) -> Result<usize, Refusal> {
+    answered(|answer| abi::transformations(degree, cells, answer), answers::size)
+}
+
+/// Writes the cells of a CSV text to the front of `cells`; their order. Cells above the order load too: ask
+/// [`check_table`].
+pub fn load(text: &[u8], cells: &mut [u8]) -> Result<usize, Refusal> {
+    answered(|answer| abi::load(text, cells, answer), answers::size)
+}
+
+/// Writes the CSV text of the cells to the front of `text`; its length.
+pub fn save(cells: &[u8], order: usize, text: &mut [u8]) -> Result<usize, Refusal> {
+    answered(|answer| abi::save(cells, order, text, answer), answers::size)
+}

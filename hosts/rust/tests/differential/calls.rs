@@ -1,0 +1,219 @@
+//! A call with all that is lent to it, and the three ways to make it: by the archive, by the wrapper, by the reference.
+
+use crate::random::Random;
+use crate::reference::{self, Ask, Kind};
+use std::fmt;
+use std::ops::{Deref, DerefMut};
+use tickdrizzle::abi::{self, Answer};
+use tickdrizzle::{MapCheck, Question, Refusal, Search, Side};
+
+/// Random bytes in front of a lent buffer and behind it, which no call may touch.
+const GUARD: usize = 16;
+
+/// A lent buffer between its guards.
+#[derive(Clone, PartialEq)]
+pub struct Lent {
+    bytes: Vec<u8>,
+}
+
+impl Lent {
+    pub fn new(random: &mut Random, content: &[u8]) -> Lent {
+        Lent { bytes: [&random.bytes(GUARD), content, &random.bytes(GUARD)].concat() }
+    }
+
+    /// A buffer of random bytes.
+    pub fn random(random: &mut Random, length: usize) -> Lent {
+        Lent { bytes: random.bytes(length + 2 * GUARD) }
+    }
+}
+
+impl Deref for Lent {
+    type Target = [u8];
+
+    fn deref(&self) -> &[u8] {
+        &self.bytes[GUARD..self.bytes.len() - GUARD]
+    }
+}
+
+impl DerefMut for Lent {
+    fn deref_mut(&mut self) -> &mut [u8] {
+        let end = self.bytes.len() - GUARD;
+        &mut self.bytes[GUARD..end]
+    }
+}
+
+impl fmt::Debug for Lent {
+    fn fmt(&self, formatter: &mut fmt::Formatter<'_>) -> fmt::Result {
+        write!(formatter, "{:?}", &**self)
+    }
+}
+
+/// Cells and the order that they are said to have.
+#[derive(Clone, Debug, PartialEq)]
+pub struct LentTable {
+    pub cells: Lent,
+    pub order: usize,
+}
+
+#[derive(Clone, Debug, PartialEq)]
+pub enum Call {
+    CheckTable { table: LentTable },
+    IndexPeriod { table: LentTable, element: usize },
+    Profile { table: LentTable, element: usize },
+    CheckMap { source: LentTable, target: LentTable, map: Lent },
+    Search { kind: Kind, ask: Ask, source: LentTable, target: LentTable, map: Lent, scratch: Lent },
+    Transformations { degree: usize, cells: Lent },
+    Load { text: Lent, cells: Lent },
+    Save { table: LentTable, text: Lent },
+}
+
+/// The functions' names, in the order of the header.
+pub const FUNCTIONS: [&str; 11] = [
+    "check_table",
+    "index_period",
+    "profile",
+    "check_map",
+    "first_embedding",
+    "next_embedding",
+    "first_isomorphism",
+    "next_isomorphism",
+    "transformations",
+    "load",
+    "save",
+];
+
+impl Call {
+    pub fn function(&self) -> &'static str {
+        match self {
+            Call::CheckTable { .. } => "check_table",
+            Call::IndexPeriod { .. } => "index_period",
+            Call::Profile { .. } => "profile",
+            Call::CheckMap { .. } => "check_map",
+            Call::Search { kind: Kind::Embedding, ask: Ask::First, .. } => "first_embedding",
+            Call::Search { kind: Kind::Embedding, ask: Ask::Next, .. } => "next_embedding",
+            Call::Search { kind: Kind::Isomorphism, ask: Ask::First, .. } => "first_isomorphism",
+            Call::Search { kind: Kind::Isomorphism, ask: Ask::Next, .. } => "next_isomorphism",
+            Call::Transformations { .. } => "transformations",
+            Call::Load { .. } => "load",
+            Call::Save { .. } => "save",
+        }
+    }
+
+    /// Makes the call by the archive; the answer holds random numbers before.
+    pub fn by_archive(&mut self, random: &mut Random) -> Answer {
+        let mut answer = [(); 8].map(|()| random.number());
+        match self {
+            Call::CheckTable { table } => abi::check_table(&table.cells, table.order, &mut answer),
+            Call::IndexPeriod { table, element } => {
+                abi::index_period(&table.cells, table.order, *element, &mut answer);
+            }
+            Call::Profile { table, element } => abi::profile(&table.cells, table.order, *element, &mut answer),
+            Call::CheckMap { source, target, map } => {
+                abi::check_map(&source.cells, source.order, &target.cells, target.order, map, &mut answer);
+            }
+            Call::Search { kind, ask, source, target, map, scratch } => {
+                let search = match (kind, ask) {
+                    (Kind::Embedding, Ask::First) => abi::first_embedding,
+                    (Kind::Embedding, Ask::Next) => abi::next_embedding,
+                    (Kind::Isomorphism, Ask::First) => abi::first_isomorphism,
+                    (Kind::Isomorphism, Ask::Next) => abi::next_isomorphism,
+                };
+                search(&source.cells, source.order, &target.cells, target.order, map, scratch, &mut answer);
+            }
+            Call::Transformations { degree, cells } => abi::transformations(*degree, cells, &mut answer),
+            Call::Load { text, cells } => abi::load(text, cells, &mut answer),
+            Call::Save { table, text } => abi::save(&table.cells, table.order, text, &mut answer),
+        }
+        answer
+    }
+
+    /// Makes the call by the wrapper and puts what it says into numbers again.
+    pub fn by_wrapper(&mut self) -> Answer {
+        match self {
+            Call::CheckTable { table } => encoded(tickdrizzle::check_table(&table.cells, table.order), |()| vec![]),
+            Call::IndexPeriod { table, element } => {
+                let answer = tickdrizzle::index_period(&table.cells, table.order, *element);
+                encoded(answer, |answer| vec![answer.index, answer.period])
+            }
+            Call::Profile { table, element } => {
+                let answer = tickdrizzle::profile(&table.cells, table.order, *element);
+                encoded(answer, |p| vec![p.index, p.period, p.frequency, p.diagonal, p.row, p.column])
+            }
+            Call::CheckMap { source, target, map } => {
+                let answer = tickdrizzle::check_map(&source.cells, source.order, &target.cells, target.order, map);
+                encoded(answer, check_values)
+            }
+            Call::Search { kind, ask, source, target, map, scratch } => {
+                let search = match (kind, ask) {
+                    (Kind::Embedding, Ask::First) => tickdrizzle::first_embedding,
+                    (Kind::Embedding, Ask::Next) => tickdrizzle::next_embedding,
+                    (Kind::Isomorphism, Ask::First) => tickdrizzle::first_isomorphism,
+                    (Kind::Isomorphism, Ask::Next) => tickdrizzle::next_isomorphism,
+                };
+                let answer = search(&source.cells, source.order, &target.cells, target.order, map, scratch);
+                encoded(answer, |answer| vec![usize::from(answer == Search::Found)])
+            }
+            Call::Transformations { degree, cells } => {
+                encoded(tickdrizzle::transformations(*degree, cells), |order| vec![order])
+            }
+            Call::Load { text, cells } => encoded(tickdrizzle::load(text, cells), |order| vec![order]),
+            Call::Save { table, text } => {
+                encoded(tickdrizzle::save(&table.cells, table.order, text), |length| vec![length])
+            }
+        }
+    }
+
+    /// Makes the call by the reference.
+    pub fn by_reference(&mut self) -> Answer {
+        match self {
+            Call::CheckTable { table } => reference::check_table(&table.cells, table.order),
+            Call::IndexPeriod { table, element } => reference::index_period(&table.cells, table.order, *element),
+            Call::Profile { table, element } => reference::profile(&table.cells, table.order, *element),
+            Call::CheckMap { source, target, map } => {
+                reference::check_map(&source.cells, source.order, &target.cells, target.order, map)
+            }
+            Call::Search { kind, ask, source, target, map, scratch } => {
+                reference::search(*kind, *ask, &source.cells, source.order, &target.cells, target.order, map, scratch)
+            }
+            Call::Transformations { degree, cells } => reference::transformations(*degree, cells),
+            Call::Load { text, cells } => reference::load(text, cells),
+            Call::Save { table, text } => reference::save(&table.cells, table.order, text),
+        }
+    }
+}
+
+/// The numbers of what the wrapper says.
+fn encoded<T>(says: Result<T, Refusal>, values: impl FnOnce(T) -> Vec<usize>) -> Answer {
+    let (number, side, values) = match says {
+        Ok(says) => (0, 0, values(says)),
+        Err(Refusal { side, question }) => {
+            let side = side.map_or(0, |side| if side == Side::Source { 1 } else { 2 });
+            (question.number(), side, question_values(question))
+        }
+    };
+    let mut answer = [0; 8];
+    answer[0] = number;
+    answer[1] = side;
+    for (place, value) in values.into_iter().enumerate() {
+        answer[2 + place] = value as u64;
+    }
+    answer
+}
+
+fn question_values(question: Question) -> Vec<usize> {
+    match question {
+        Question::CellRange { cell } => vec![cell],
+        Question::Associativity { i, j, k } => vec![i, j, k],
+        Question::TextByte { place } => vec![place],
+        _ => vec![],
+    }
+}
+
+fn check_values(check: MapCheck) -> Vec<usize> {
+    match check {
+        MapCheck::Holds => vec![0],
+        MapCheck::Outside { element } => vec![1, element],
+        MapCheck::EqualImages { i, j } => vec![2, i, j],
+        MapCheck::WrongProduct { i, j } => vec![3, i, j],
+    }
+}

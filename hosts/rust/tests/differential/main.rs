@@ -1,0 +1,259 @@
+//! Compares the library with an independent implementation, the whole answer and every byte of every buffer, on random
+//! inputs: differential [CALLS] [SEED]. Prints the counts; fails where there is any difference.
+
+mod calls;
+mod families;
+mod inputs;
+mod random;
+mod reference;
+mod tally;
+
+use calls::{Call, Lent, LentTable};
+use families::Semigroup;
+use inputs::Input;
+use random::Random;
+use reference::{Ask, Kind, Pair, Table};
+use std::process::ExitCode;
+use std::time::{SystemTime, UNIX_EPOCH};
+use tally::Tally;
+use tickdrizzle::abi::Answer;
+
+const CALLS_BY_DEFAULT: u64 = 20_000;
+
+fn main() -> ExitCode {
+    let mut arguments = std::env::args().skip(1).filter_map(|argument| argument.parse().ok());
+    let calls = arguments.next().unwrap_or(CALLS_BY_DEFAULT);
+    let seed = arguments.next().unwrap_or_else(seed_of_the_clock);
+    println!("seed {seed}");
+    let mut comparison = Comparison { random: Random::new(seed), tally: Tally::default() };
+    while comparison.tally.calls < calls {
+        comparison.some_calls();
+    }
+    comparison.tally.print();
+    println!("seed {seed}");
+    ExitCode::from(u8::from(comparison.tally.differences > 0))
+}
+
+fn seed_of_the_clock() -> u64 {
+    SystemTime::now().duration_since(UNIX_EPOCH).map_or(1, |time| time.as_secs())
+}
+
+struct Comparison {
+    random: Random,
+    tally: Tally,
+}
+
+impl Comparison {
+    /// Makes a call by the library and by the reference and compares what they say and leave; what the reference says.
+    fn compare(&mut self, call: &mut Call, family: &'static str) -> Answer {
+        let before = call.clone();
+        let expected = call.by_reference();
+        let mut other = before.clone();
+        let answer = if self.random.one_in(2) { other.by_archive(&mut self.random) } else { other.by_wrapper() };
+        self.tally.count(&before, family, &expected);
+        if answer != expected || other != *call {
+            self.tally.differences += 1;
+            println!("difference in {}\n  lent: {before:?}", before.function());
+            println!("  library says {answer:?} and leaves {other:?}\n  expected     {expected:?} and {call:?}");
+        }
+        expected
+    }
+
+    /// Calls of one kind.
+    fn some_calls(&mut self) {
+        match self.random.below(40) {
+            0..=13 => self.one_table(),
+            14..=15 => self.map_check(),
+            16..=21 => self.searches(),
+            22..=23 => self.walk(),
+            24..=26 => self.transformations(),
+            27..=33 => self.load(),
+            _ => self.save(),
+        }
+    }
+
+    fn one_table(&mut self) {
+        let size = inputs::any_size(&mut self.random);
+        let Input { table, family } = inputs::table(&mut self.random, size);
+        let element = inputs::element(&mut self.random, table.order);
+        let mut call = match self.random.below(3) {
+            0 => Call::CheckTable { table },
+            1 => Call::IndexPeriod { table, element },
+            _ => Call::Profile { table, element },
+        };
+        self.compare(&mut call, family);
+    }
+
+    fn map_check(&mut self) {
+        let size = inputs::any_size(&mut self.random);
+        let (source, target) = self.pair(size);
+        let map = inputs::map(&mut self.random, source.table.order, target.table.order);
+        let mut call = Call::CheckMap { source: source.table, target: target.table, map };
+        self.compare(&mut call, source.family);
+    }
+
+    /// Two tables: a semigroup with itself, a relabelled copy, a part of it, an unrelated one, or one that is refused.
+    fn pair(&mut self, greatest: usize) -> (Input, Input) {
+        let random = &mut self.random;
+        let target = families::any(random, greatest);
+        let source = match random.below(10) {
+            0..=1 => target.clone(),
+            2..=3 => families::relabelled(random, &target),
+            4..=5 => families::part(random, &target),
+            6..=7 => families::any(random, greatest),
+            8 => return (inputs::table(random, greatest), inputs::lend(random, &target)),
+            _ => return (inputs::lend(random, &target), inputs::table(random, greatest)),
+        };
+        (inputs::lend(random, &source), inputs::lend(random, &target))
+    }
+
+    /// Some searches between two tables, on one map buffer; at times larger tables whose search is easy.
+    fn searches(&mut self) {
+        let (source, target) = if self.random.one_in(20) { self.easy_pair() } else { self.pair(7) };
+        let mut map = inputs::map(&mut self.random, source.table.order, target.table.order);
+        for _ in 0..self.random.within(1, 4) {
+            let call = self.search(source.table.clone(), target.table.clone(), map, source.family);
+            let Call::Search { map: left, .. } = call else { unreachable!() };
+            map = left;
+            self.check_of(&source, &target, &map);
+            if self.random.one_in(2) {
+                map = inputs::map(&mut self.random, source.table.order, target.table.order);
+            }
+        }
+    }
+
+    fn easy_pair(&mut self) -> (Input, Input) {
+        let source = families::easy(&mut self.random);
+        let target = if self.random.one_in(2) { source.clone() } else { families::easy(&mut self.random) };
+        (inputs::lend(&mut self.random, &source), inputs::lend(&mut self.random, &target))
+    }
+
+    /// Any of the four searches; the call after it.
+    fn search(&mut self, source: LentTable, target: LentTable, map: Lent, family: &'static str) -> Call {
+        let kind = self.random.pick(&[Kind::Embedding, Kind::Isomorphism]);
+        let ask = self.random.pick(&[Ask::First, Ask::Next]);
+        let scratch = self.scratch(source.order, target.order);
+        let mut call = Call::Search { kind, ask, source, target, map, scratch };
+        self.compare(&mut call, family);
+        call
+    }
+
+    /// A scratch buffer for two orders, of a length around the one that is asked for.
+    fn scratch(&mut self, source_order: usize, target_order: usize) -> Lent {
+        let length = inputs::length(&mut self.random, source_order.min(120) * target_order.min(120));
+        Lent::random(&mut self.random, length)
+    }
+
+    /// A map check of what a search left, with a byte changed at times.
+    fn check_of(&mut self, source: &Input, target: &Input, map: &Lent) {
+        let mut map = map.clone();
+        if !map.is_empty() && self.random.one_in(2) {
+            let place = self.random.below(map.len());
+            map[place] = self.random.below(target.table.order.min(120) + 2) as u8;
+        }
+        let mut call = Call::CheckMap { source: source.table.clone(), target: target.table.clone(), map };
+        self.compare(&mut call, source.family);
+    }
+
+    /// A walk: next calls on one map buffer that starts as zeros, refused ones between them, held to the full list.
+    fn walk(&mut self) {
+        let kind = self.random.pick(&[Kind::Embedding, Kind::Isomorphism]);
+        let (source, target) = self.walk_pair(kind);
+        let family = source.family;
+        let full_list = full_list(kind, &source, &target);
+        let (source, target) = (inputs::lend(&mut self.random, &source), inputs::lend(&mut self.random, &target));
+        let mut map = Lent::new(&mut self.random, &vec![0; source.table.order]);
+        for made in 0..self.random.below(full_list.len() + 4) {
+            if self.random.one_in(4) {
+                map = self.refused_step(kind, &source.table, &target.table, map);
+            }
+            let held = map.to_vec();
+            let length = source.table.order * target.table.order + self.random.below(3);
+            let scratch = Lent::random(&mut self.random, length);
+            let (from, to) = (source.table.clone(), target.table.clone());
+            let mut call = Call::Search { kind, ask: Ask::Next, source: from, target: to, map, scratch };
+            let answer = self.compare(&mut call, family);
+            let Call::Search { map: left, .. } = call else { unreachable!() };
+            map = left;
+            let entry = full_list.get(made);
+            if answer[..3] != [0, 0, u64::from(entry.is_some())] || map[..] != entry.unwrap_or(&held)[..] {
+                self.tally.differences += 1;
+                println!(
+                    "walk of {kind:?} from {source:?} to {target:?}:",
+                    source = source.table,
+                    target = target.table
+                );
+                println!("  call {} says {answer:?} and leaves {map:?}; the full list is {full_list:?}", made + 1);
+            }
+        }
+        self.tally.walks += 1;
+    }
+
+    /// Two semigroups so small that all lists of images can be tried.
+    fn walk_pair(&mut self, kind: Kind) -> (Semigroup, Semigroup) {
+        let random = &mut self.random;
+        let greatest = random.pick(&[3, 4, 5]);
+        let target = families::any(random, greatest);
+        let source = match (random.below(4), kind) {
+            (0, _) => target.clone(),
+            (1, Kind::Embedding) => families::part(random, &target),
+            (2, Kind::Embedding) => families::any(random, greatest),
+            _ => families::relabelled(random, &target),
+        };
+        (source, target)
+    }
+
+    /// A call of a walk that lends other cells, another order or too short a scratch buffer and is refused; the map after.
+    fn refused_step(&mut self, kind: Kind, source: &LentTable, target: &LentTable, map: Lent) -> Lent {
+        let (mut source, mut target) = (source.clone(), target.clone());
+        let other = inputs::table(&mut self.random, 5).table;
+        let mut scratch_length = source.order * target.order;
+        match self.random.below(4) {
+            0 => source = other,
+            1 => target = other,
+            2 => source.order = self.random.pick(&[0, 121, usize::MAX]),
+            _ => scratch_length -= 1,
+        }
+        let scratch = Lent::random(&mut self.random, scratch_length);
+        let mut call = Call::Search { kind, ask: Ask::Next, source, target, map: map.clone(), scratch };
+        if call.clone().by_reference()[0] == 0 {
+            return map;
+        }
+        self.compare(&mut call, "refused in a walk");
+        let Call::Search { map, .. } = call else { unreachable!() };
+        map
+    }
+
+    fn transformations(&mut self) {
+        let degree = self.random.pick(&[0, 1, 1, 2, 2, 2, 3, 3, 3, 4, 27, usize::MAX]);
+        let limit = self.random.pick(&[1, 16, 729]);
+        let length = inputs::length(&mut self.random, limit);
+        let cells = Lent::random(&mut self.random, length);
+        self.compare(&mut Call::Transformations { degree, cells }, "transformations");
+    }
+
+    fn load(&mut self) {
+        let (text, family) = inputs::text(&mut self.random);
+        let first_record = text.split(|&byte| byte == b'\r').next().unwrap_or(&[]);
+        let order = first_record.split(|&byte| byte == b',').count();
+        let length = inputs::length(&mut self.random, order.min(121).pow(2));
+        let cells = Lent::random(&mut self.random, length);
+        self.compare(&mut Call::Load { text, cells }, family);
+    }
+
+    fn save(&mut self) {
+        let size = inputs::any_size(&mut self.random);
+        let Input { table, family } = inputs::table(&mut self.random, size);
+        let limit = reference::text_of(&table.cells, table.order.clamp(1, 121)).len();
+        let length = inputs::length(&mut self.random, limit);
+        let text = Lent::random(&mut self.random, length);
+        self.compare(&mut Call::Save { table, text }, family);
+    }
+}
+
+/// The full list of maps between two semigroups.
+fn full_list(kind: Kind, source: &Semigroup, target: &Semigroup) -> Vec<Vec<u8>> {
+    let source = Table::new(&source.cells, source.order).expect("the families are semigroups");
+    let target = Table::new(&target.cells, target.order).expect("the families are semigroups");
+    Pair { source, target }.full_list(kind)
+}

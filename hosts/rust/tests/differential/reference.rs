@@ -1,0 +1,413 @@
+//! The calls written again, from the text of the rules and from nothing of the library: questions asked one after the
+//! other, least numbers found by trying numbers from below, maps found by trying lists.
+
+use tickdrizzle::abi::Answer;
+
+/// The first question that failed: its number, the side it names or 0, the values said with it.
+struct No {
+    number: u64,
+    side: u64,
+    values: Vec<u64>,
+}
+
+/// What a call says: its values, or the first "no".
+type Says = Result<Vec<u64>, No>;
+
+fn no(number: u64, values: &[usize]) -> No {
+    No { number, side: 0, values: numbers(values) }
+}
+
+fn ask(yes: bool, number: u64) -> Result<(), No> {
+    if yes {
+        Ok(())
+    } else {
+        Err(no(number, &[]))
+    }
+}
+
+fn numbers(values: &[usize]) -> Vec<u64> {
+    values.iter().map(|&value| value as u64).collect()
+}
+
+/// The eight numbers of an answer.
+fn answer(says: Says) -> Answer {
+    let (number, side, values) = match says {
+        Ok(values) => (0, 0, values),
+        Err(no) => (no.number, no.side, no.values),
+    };
+    let mut answer = [0; 8];
+    answer[0] = number;
+    answer[1] = side;
+    answer[2..2 + values.len()].copy_from_slice(&values);
+    answer
+}
+
+fn write_front(buffer: &mut [u8], bytes: &[u8]) {
+    buffer[..bytes.len()].copy_from_slice(bytes);
+}
+
+/// An accepted table.
+#[derive(Clone, Copy)]
+pub struct Table<'a> {
+    cells: &'a [u8],
+    pub order: usize,
+}
+
+impl<'a> Table<'a> {
+    /// Asks questions 1 to 3.
+    fn filled(cells: &'a [u8], order: usize) -> Result<Table<'a>, No> {
+        ask((1..=120).contains(&order), 1)?;
+        ask(cells.len() == order * order, 2)?;
+        let outside = |&cell: &u8| !(1..=order).contains(&usize::from(cell));
+        match cells.iter().position(outside) {
+            Some(place) => Err(no(3, &[place + 1])),
+            None => Ok(Table { cells, order }),
+        }
+    }
+
+    /// Asks questions 1 to 4.
+    fn accepted(cells: &'a [u8], order: usize) -> Result<Table<'a>, No> {
+        let table = Table::filled(cells, order)?;
+        for i in table.elements() {
+            for j in table.elements() {
+                for k in table.elements() {
+                    if table.product(table.product(i, j), k) != table.product(i, table.product(j, k)) {
+                        return Err(no(4, &[i, j, k]));
+                    }
+                }
+            }
+        }
+        Ok(table)
+    }
+
+    /// The table with these cells where every question about it passes.
+    pub fn new(cells: &'a [u8], order: usize) -> Option<Table<'a>> {
+        Table::accepted(cells, order).ok()
+    }
+
+    fn elements(&self) -> std::ops::RangeInclusive<usize> {
+        1..=self.order
+    }
+
+    fn product(&self, i: usize, j: usize) -> usize {
+        usize::from(self.cells[(i - 1) * self.order + (j - 1)])
+    }
+
+    /// Powers 1 to n + 1 of an element, the first at place 0.
+    fn powers(&self, element: usize) -> Vec<usize> {
+        let mut powers = vec![element];
+        for exponent in 1..=self.order {
+            powers.push(self.product(powers[exponent - 1], element));
+        }
+        powers
+    }
+
+    /// Index and period: the first index for which some period will do, with the least period.
+    fn index_period(&self, element: usize) -> [usize; 2] {
+        let powers = self.powers(element);
+        for index in 1..=self.order {
+            for period in 1..=self.order + 1 - index {
+                if powers[index + period - 1] == powers[index - 1] {
+                    return [index, period];
+                }
+            }
+        }
+        unreachable!("of n + 1 powers two are equal")
+    }
+
+    fn count(&self, element: usize, places: impl Fn(usize, usize) -> bool) -> usize {
+        let mut count = 0;
+        for i in self.elements() {
+            for j in self.elements() {
+                if places(i, j) && self.product(i, j) == element {
+                    count += 1;
+                }
+            }
+        }
+        count
+    }
+
+    fn profile(&self, element: usize) -> [usize; 6] {
+        let [index, period] = self.index_period(element);
+        [
+            index,
+            period,
+            self.count(element, |_, _| true),
+            self.count(element, |i, j| i == j),
+            self.count(element, |i, _| i == element),
+            self.count(element, |_, j| j == element),
+        ]
+    }
+}
+
+pub fn check_table(cells: &[u8], order: usize) -> Answer {
+    answer(Table::accepted(cells, order).map(|_| vec![]))
+}
+
+/// Asks question 7 behind those about the table.
+fn element_of(cells: &[u8], order: usize, element: usize) -> Result<Table<'_>, No> {
+    let table = Table::accepted(cells, order)?;
+    ask((1..=order).contains(&element), 7)?;
+    Ok(table)
+}
+
+pub fn index_period(cells: &[u8], order: usize, element: usize) -> Answer {
+    answer(element_of(cells, order, element).map(|table| numbers(&table.index_period(element))))
+}
+
+pub fn profile(cells: &[u8], order: usize, element: usize) -> Answer {
+    answer(element_of(cells, order, element).map(|table| numbers(&table.profile(element))))
+}
+
+/// Embeddings or isomorphisms.
+#[derive(Clone, Copy, Debug, PartialEq, Eq)]
+pub enum Kind {
+    Embedding,
+    Isomorphism,
+}
+
+/// The first map, or the next one after the list in the map buffer.
+#[derive(Clone, Copy, Debug, PartialEq, Eq)]
+pub enum Ask {
+    First,
+    Next,
+}
+
+/// The two accepted tables of a map.
+pub struct Pair<'a> {
+    pub source: Table<'a>,
+    pub target: Table<'a>,
+}
+
+impl<'a> Pair<'a> {
+    /// Asks the source's questions, then the target's.
+    fn accepted(source: &'a [u8], source_order: usize, target: &'a [u8], target_order: usize) -> Result<Pair<'a>, No> {
+        let source = Table::accepted(source, source_order).map_err(|no| No { side: 1, ..no })?;
+        let target = Table::accepted(target, target_order).map_err(|no| No { side: 2, ..no })?;
+        Ok(Pair { source, target })
+    }
+
+    fn keeps_product(&self, map: &[u8], i: usize, j: usize) -> bool {
+        let image = |element: usize| usize::from(map[element - 1]);
+        image(self.source.product(i, j)) == self.target.product(image(i), image(j))
+    }
+
+    /// The earliest fault of a map, in the numbers of an answer; 0 alone where it is an embedding.
+    fn check(&self, map: &[u8]) -> Vec<usize> {
+        for i in self.source.elements() {
+            if !self.target.elements().contains(&usize::from(map[i - 1])) {
+                return vec![1, i];
+            }
+        }
+        for i in self.source.elements() {
+            for j in i + 1..=self.source.order {
+                if map[i - 1] == map[j - 1] {
+                    return vec![2, i, j];
+                }
+            }
+        }
+        for i in self.source.elements() {
+            for j in self.source.elements() {
+                if !self.keeps_product(map, i, j) {
+                    return vec![3, i, j];
+                }
+            }
+        }
+        vec![0]
+    }
+
+    fn is_map(&self, kind: Kind, map: &[u8]) -> bool {
+        let fits = kind == Kind::Embedding || self.source.order == self.target.order;
+        fits && self.check(map) == [0]
+    }
+
+    /// The full list of a kind, by trying every list of images in list order; for small orders.
+    pub fn full_list(&self, kind: Kind) -> Vec<Vec<u8>> {
+        let lists = lists(self.source.order, self.target.order);
+        lists.into_iter().filter(|list| self.is_map(kind, list)).collect()
+    }
+
+    /// The earliest map of a kind, or the earliest later than a list.
+    fn earliest(&self, kind: Kind, after: Option<&[u8]>) -> Option<Vec<u8>> {
+        let (m, n) = (self.source.order, self.target.order);
+        if m > n || (kind == Kind::Isomorphism && m != n) {
+            return None;
+        }
+        self.extended(&mut Vec::new(), after)
+    }
+
+    /// The earliest embedding that starts with these images. A start is given up where two of its images are equal, where
+    /// it breaks a product of its own elements, or where it is earlier than the start of the list to come after.
+    fn extended(&self, start: &mut Vec<u8>, after: Option<&[u8]>) -> Option<Vec<u8>> {
+        let placed = start.len();
+        if after.is_some_and(|list| *start.as_slice() < list[..placed]) {
+            return None;
+        }
+        if placed == self.source.order {
+            return (after != Some(start)).then(|| start.clone());
+        }
+        for image in self.target.elements() {
+            let image = image as u8;
+            if start.contains(&image) {
+                continue;
+            }
+            start.push(image);
+            if self.keeps_last(start) {
+                if let Some(map) = self.extended(start, after) {
+                    return Some(map);
+                }
+            }
+            start.pop();
+        }
+        None
+    }
+
+    /// Whether the placed pairs with the last element in them, as factor or product, keep their product where it is
+    /// placed.
+    fn keeps_last(&self, start: &[u8]) -> bool {
+        let last = start.len();
+        (1..=last).all(|i| {
+            (1..=last).all(|j| {
+                let product = self.source.product(i, j);
+                let concerns_last = i == last || j == last || product == last;
+                !concerns_last || product > last || self.keeps_product(start, i, j)
+            })
+        })
+    }
+
+    /// The scratch bytes: a 1 for each candidate.
+    fn candidates(&self, kind: Kind) -> Vec<u8> {
+        let invariants = |table: &Table, element: usize| match kind {
+            Kind::Embedding => table.index_period(element).to_vec(),
+            Kind::Isomorphism => table.profile(element).to_vec(),
+        };
+        let of_target: Vec<_> = self.target.elements().map(|j| invariants(&self.target, j)).collect();
+        let mut marks = Vec::new();
+        for i in self.source.elements() {
+            let of_source = invariants(&self.source, i);
+            marks.extend(of_target.iter().map(|of_target| u8::from(of_source == *of_target)));
+        }
+        marks
+    }
+}
+
+/// All lists of `length` entries from 1 to `greatest`, in list order.
+pub fn lists(length: usize, greatest: usize) -> Vec<Vec<u8>> {
+    if length == 0 {
+        return vec![vec![]];
+    }
+    let shorter = lists(length - 1, greatest);
+    let mut all = Vec::new();
+    for first in 1..=greatest {
+        all.extend(shorter.iter().map(|rest| [&[first as u8], rest.as_slice()].concat()));
+    }
+    all
+}
+
+pub fn check_map(source: &[u8], source_order: usize, target: &[u8], target_order: usize, map: &[u8]) -> Answer {
+    answer(Pair::accepted(source, source_order, target, target_order).and_then(|pair| {
+        ask(map.len() == source_order, 5)?;
+        Ok(numbers(&pair.check(map)))
+    }))
+}
+
+/// A search of either kind, for the first or the next map.
+#[allow(clippy::too_many_arguments)]
+pub fn search(
+    kind: Kind,
+    asked: Ask,
+    source: &[u8],
+    source_order: usize,
+    target: &[u8],
+    target_order: usize,
+    map: &mut [u8],
+    scratch: &mut [u8],
+) -> Answer {
+    answer(Pair::accepted(source, source_order, target, target_order).and_then(|pair| {
+        ask(map.len() == source_order, 5)?;
+        ask(scratch.len() >= source_order * target_order, 6)?;
+        write_front(scratch, &pair.candidates(kind));
+        let after = (asked == Ask::Next).then_some(&*map);
+        let found = pair.earliest(kind, after);
+        if let Some(found) = &found {
+            write_front(map, found);
+        }
+        Ok(vec![u64::from(found.is_some())])
+    }))
+}
+
+pub fn transformations(degree: usize, cells: &mut [u8]) -> Answer {
+    answer((|| {
+        ask((1..=3).contains(&degree), 8)?;
+        let all = lists(degree, degree);
+        ask(cells.len() >= all.len() * all.len(), 9)?;
+        let mut products = Vec::new();
+        for s in &all {
+            for t in &all {
+                let s_then_t: Vec<u8> = s.iter().map(|&point| t[usize::from(point) - 1]).collect();
+                let place = all.iter().position(|list| *list == s_then_t).expect("a composite is a transformation");
+                products.push(place as u8 + 1);
+            }
+        }
+        write_front(cells, &products);
+        Ok(numbers(&[all.len()]))
+    })())
+}
+
+/// Whether the byte at a place is a digit, a comma or part of a CR LF pair.
+fn is_allowed(text: &[u8], place: usize) -> bool {
+    match text[place] {
+        b'0'..=b'9' | b',' => true,
+        b'\r' => text.get(place + 1) == Some(&b'\n'),
+        b'\n' => place > 0 && text[place - 1] == b'\r',
+        _ => false,
+    }
+}
+
+/// The number in a field, after questions 23 to 25.
+fn field_value(field: &str) -> Result<u8, No> {
+    ask((1..=3).contains(&field.len()), 23)?;
+    ask(!field.starts_with('0'), 24)?;
+    let value: usize = field.parse().expect("a field has digits only");
+    ask(value <= 120, 25)?;
+    Ok(value as u8)
+}
+
+/// Order and cells of a text, after questions 20 to 26.
+fn parse(text: &[u8]) -> Result<(usize, Vec<u8>), No> {
+    ask((1..=57_720).contains(&text.len()), 20)?;
+    if let Some(place) = (0..text.len()).find(|&place| !is_allowed(text, place)) {
+        return Err(no(21, &[place]));
+    }
+    let text = std::str::from_utf8(text).expect("allowed bytes are ASCII");
+    let records = text.strip_suffix("\r\n").ok_or(no(22, &[]))?;
+    let records: Vec<Vec<&str>> = records.split("\r\n").map(|record| record.split(',').collect()).collect();
+    let cells = records.iter().flatten().map(|field| field_value(field)).collect::<Result<_, _>>()?;
+    let order = records[0].len();
+    ask(records.len() == order && records.iter().all(|record| record.len() == order), 26)?;
+    Ok((order, cells))
+}
+
+pub fn load(text: &[u8], cells: &mut [u8]) -> Answer {
+    answer(parse(text).and_then(|(order, loaded)| {
+        ask(order <= 120, 1)?;
+        ask(cells.len() >= loaded.len(), 27)?;
+        write_front(cells, &loaded);
+        Ok(numbers(&[order]))
+    }))
+}
+
+/// The text of a table.
+pub fn text_of(cells: &[u8], order: usize) -> String {
+    let record = |row: &[u8]| row.iter().map(u8::to_string).collect::<Vec<_>>().join(",") + "\r\n";
+    cells.chunks(order).map(record).collect()
+}
+
+pub fn save(cells: &[u8], order: usize, text: &mut [u8]) -> Answer {
+    answer(Table::filled(cells, order).and_then(|table| {
+        let saved = text_of(table.cells, order);
+        ask(text.len() >= saved.len(), 28)?;
+        write_front(text, saved.as_bytes());
+        Ok(numbers(&[saved.len()]))
+    }))
+}
