@@ -1,0 +1,204 @@
+//! Times the proved library beside plain Rust of the same method, on the same inputs in one run, and prints the ratios.
+//!
+//! Each time is that of whole calls through the safe wrapper, questions and all, on buffers that are not cleared between
+//! calls. The two take turns; a sample is as many calls as take some milliseconds, and the least of the samples counts.
+
+mod plain;
+mod tables;
+
+use std::fmt::Debug;
+use std::hint::black_box;
+use std::time::{Duration, Instant};
+use tables::{chain, cyclic_group, left_zero, nilpotent, null, rectangular_band, relabelled, unions, Table};
+
+const SAMPLES: usize = 15;
+const LEAST_SAMPLE: Duration = Duration::from_millis(4);
+
+fn main() {
+    println!("{:<82}{:>12}{:>12}{:>8}", "call", "proved, µs", "plain, µs", "ratio");
+    time_tables();
+    time_elements();
+    time_map_checks();
+    time_embeddings();
+    time_isomorphisms();
+    time_transformations();
+    time_texts();
+}
+
+/// Times a call by the library and by plain Rust, after a look whether they answer the same, and prints a row.
+fn row<T: PartialEq + Debug>(name: &str, mut proved: impl FnMut() -> T, mut plain: impl FnMut() -> T) {
+    assert_eq!(proved(), plain(), "{name}");
+    let calls = calls_of_a_sample(&mut plain);
+    let (mut least_proved, mut least_plain) = (Duration::MAX, Duration::MAX);
+    for _ in 0..SAMPLES {
+        least_proved = least_proved.min(sample(calls, &mut proved));
+        least_plain = least_plain.min(sample(calls, &mut plain));
+    }
+    let micros = |sample: Duration| sample.as_secs_f64() * 1e6 / f64::from(calls);
+    let (proved, plain) = (micros(least_proved), micros(least_plain));
+    println!("{name:<82}{proved:>12.3}{plain:>12.3}{:>8.2}", proved / plain);
+}
+
+fn sample<T>(calls: u32, call: &mut impl FnMut() -> T) -> Duration {
+    let start = Instant::now();
+    for _ in 0..calls {
+        black_box(call());
+    }
+    start.elapsed()
+}
+
+fn calls_of_a_sample<T>(call: &mut impl FnMut() -> T) -> u32 {
+    let mut calls = 1;
+    while sample(calls, call) < LEAST_SAMPLE {
+        calls *= 2;
+    }
+    calls
+}
+
+fn time_tables() {
+    for order in [30, 60, 120] {
+        let Table { cells, order } = cyclic_group(order);
+        row(
+            &format!("check_table, cyclic group of order {order}"),
+            || tickdrizzle::check_table(black_box(&cells), order),
+            || plain::check_table(black_box(&cells), order),
+        );
+    }
+}
+
+fn time_elements() {
+    let trivial = cyclic_group(1);
+    let transformations = transformations();
+    for (name, Table { cells, order }) in
+        [("order 1", trivial), ("degree 3", transformations), ("cyclic group of order 120", cyclic_group(120))]
+    {
+        row(
+            &format!("index_period of all elements, {name}"),
+            || all(order, |element| tickdrizzle::index_period(black_box(&cells), order, element)),
+            || all(order, |element| plain::index_period(black_box(&cells), order, element)),
+        );
+        row(
+            &format!("profile of all elements, {name}"),
+            || all(order, |element| tickdrizzle::profile(black_box(&cells), order, element)),
+            || all(order, |element| plain::profile(black_box(&cells), order, element)),
+        );
+    }
+}
+
+/// What a call answers for the last element, after it was made for every element.
+fn all<T>(order: usize, call: impl Fn(usize) -> T) -> T {
+    (1..order).for_each(|element| drop(black_box(call(element))));
+    call(order)
+}
+
+fn transformations() -> Table {
+    let mut cells = vec![0; 729];
+    let order = tickdrizzle::transformations(3, &mut cells).expect("three is a degree");
+    Table { order, cells }
+}
+
+fn time_map_checks() {
+    let Table { cells, order } = cyclic_group(120);
+    let identity: Vec<u8> = (1..=120).collect();
+    row(
+        "check_map, identity of a cyclic group of order 120",
+        || tickdrizzle::check_map(black_box(&cells), order, &cells, order, &identity),
+        || plain::check_map(black_box(&cells), order, &cells, order, &identity),
+    );
+}
+
+type ProvedSearch =
+    fn(&[u8], usize, &[u8], usize, &mut [u8], &mut [u8]) -> Result<tickdrizzle::Search, tickdrizzle::Refusal>;
+type PlainSearch = fn(&plain::Lent, &mut [u8], &mut [u8]) -> Result<tickdrizzle::Search, tickdrizzle::Refusal>;
+
+/// A row for a search from one table to another.
+fn time_search(name: &str, proved: ProvedSearch, plain: PlainSearch, source: &Table, target: &Table) {
+    let (m, n) = (source.order, target.order);
+    let lent = plain::Lent { source: &source.cells, source_order: m, target: &target.cells, target_order: n };
+    let (mut map, mut scratch) = (vec![0; m], vec![0; m * n]);
+    let (mut other_map, mut other_scratch) = (map.clone(), scratch.clone());
+    row(
+        name,
+        || {
+            let search = proved(black_box(&source.cells), m, &target.cells, n, &mut map, &mut scratch);
+            (search, map.clone())
+        },
+        || {
+            let search = plain(black_box(&lent), &mut other_map, &mut other_scratch);
+            (search, other_map.clone())
+        },
+    );
+}
+
+/// A table of an example of the repository.
+fn example(text: &[u8]) -> Table {
+    let mut cells = vec![0; tickdrizzle::MOST_CELLS];
+    let order = tickdrizzle::load(text, &mut cells).expect("the example loads");
+    cells.truncate(order * order);
+    Table { order, cells }
+}
+
+/// A trial is an unused candidate that is tried as the image of an element.
+fn time_embeddings() {
+    let time = |name: &str, source: &Table, target: &Table| {
+        let name = format!("first_embedding, {name}");
+        time_search(&name, tickdrizzle::first_embedding, plain::first_embedding, source, target);
+    };
+    let show = example(include_bytes!("../../../../examples/touring/source.csv"));
+    let rig = example(include_bytes!("../../../../examples/touring/target.csv"));
+    time("group of order 2 in degree 3: 19 trials", &cyclic_group(2), &transformations());
+    time("left zeros, 60 in 120: 60 trials", &left_zero(60), &left_zero(120));
+    time("chain of 120 onto itself: 120 trials", &chain(120), &chain(120));
+    time("null table of order 120 onto itself: 120 trials", &null(120), &null(120));
+    let band = relabelled(&rectangular_band(4, 5));
+    time("rectangular band 4 by 5 in 8 by 15: 400 trials", &band, &rectangular_band(8, 15));
+    time("examples/touring, 31 in 59", &show, &rig);
+    time("chain of 7 in unions of 5 points, none: 61 thousand trials", &chain(7), &unions(5));
+    time("chain of 8 in unions of 6 points, none: 1.1 million trials", &chain(8), &unions(6));
+    let (band, narrow) = (rectangular_band(3, 3), rectangular_band(2, 20));
+    time("rectangular band 3 by 3 in 2 by 20, none: 2.0 million trials", &band, &narrow);
+}
+
+fn time_isomorphisms() {
+    let time = |name: &str, source: &Table, target: &Table| {
+        let name = format!("first_isomorphism, {name}");
+        time_search(&name, tickdrizzle::first_isomorphism, plain::first_isomorphism, source, target);
+    };
+    let copy = |name: &str, table: &Table| time(name, &relabelled(table), table);
+    copy("degree 3, relabelled: 64 trials", &transformations());
+    time("null table of order 120 onto itself: 120 trials", &null(120), &null(120));
+    copy("rectangular band 10 by 12, relabelled: 3.3 thousand trials", &rectangular_band(10, 12));
+    copy("cyclic group of order 120, relabelled: 4.6 thousand trials", &cyclic_group(120));
+    copy("unions of 6 points, relabelled: 80 thousand trials", &unions(6));
+    let sums = nilpotent(8, 8, |i, j| (i + j) % 8);
+    let exclusive_ors = nilpotent(8, 8, |i, j| i ^ j);
+    time("nilpotent of order 17, none: 110 thousand trials", &sums, &exclusive_ors);
+}
+
+fn time_transformations() {
+    let (mut cells, mut other) = ([0; 729], [0; 729]);
+    row(
+        "transformations, degree 3",
+        || (tickdrizzle::transformations(black_box(3), &mut cells), cells),
+        || (plain::transformations(black_box(3), &mut other), other),
+    );
+}
+
+fn time_texts() {
+    let Table { cells, order } = cyclic_group(120);
+    let (mut text, mut other) = (vec![0; 57_720], vec![0; 57_720]);
+    row(
+        "save, order 120",
+        || tickdrizzle::save(black_box(&cells), order, &mut text),
+        || plain::save(black_box(&cells), order, &mut other),
+    );
+    let length = tickdrizzle::save(&cells, order, &mut text).expect("the table can be saved");
+    assert_eq!(text, other);
+    let (mut cells, mut other) = (vec![0; 14_400], vec![0; 14_400]);
+    row(
+        "load, order 120",
+        || tickdrizzle::load(black_box(&text[..length]), &mut cells),
+        || plain::load(black_box(&text[..length]), &mut other),
+    );
+    assert_eq!(cells, other);
+}
