@@ -11,11 +11,15 @@ use std::hint::black_box;
 use std::time::{Duration, Instant};
 use tables::{chain, cyclic_group, left_zero, nilpotent, null, rectangular_band, relabelled, unions, Table};
 
-const SAMPLES: usize = 15;
-const LEAST_SAMPLE: Duration = Duration::from_millis(4);
+const FEWEST_SAMPLES: usize = 9;
+const MOST_SAMPLES: usize = 60;
+const LEAST_SAMPLE: Duration = Duration::from_millis(2);
+/// How long a row takes, unless its fewest samples take longer.
+const ROW: Duration = Duration::from_secs(3);
 
 fn main() {
-    println!("{:<82}{:>12}{:>12}{:>8}", "call", "proved, µs", "plain, µs", "ratio");
+    println!("| {:<82} | proved, µs | plain, µs | ratio |", "call");
+    println!("|:{:-<82}-|-----------:|----------:|------:|", "");
     time_tables();
     time_elements();
     time_map_checks();
@@ -30,13 +34,17 @@ fn row<T: PartialEq + Debug>(name: &str, mut proved: impl FnMut() -> T, mut plai
     assert_eq!(proved(), plain(), "{name}");
     let calls = calls_of_a_sample(&mut plain);
     let (mut least_proved, mut least_plain) = (Duration::MAX, Duration::MAX);
-    for _ in 0..SAMPLES {
+    let start = Instant::now();
+    for samples in 0..MOST_SAMPLES {
+        if samples >= FEWEST_SAMPLES && start.elapsed() > ROW {
+            break;
+        }
         least_proved = least_proved.min(sample(calls, &mut proved));
         least_plain = least_plain.min(sample(calls, &mut plain));
     }
     let micros = |sample: Duration| sample.as_secs_f64() * 1e6 / f64::from(calls);
     let (proved, plain) = (micros(least_proved), micros(least_plain));
-    println!("{name:<82}{proved:>12.3}{plain:>12.3}{:>8.2}", proved / plain);
+    println!("| {name:<82} | {proved:>10.2} | {plain:>9.2} | {:>5.2} |", proved / plain);
 }
 
 fn sample<T>(calls: u32, call: &mut impl FnMut() -> T) -> Duration {
@@ -152,7 +160,7 @@ fn time_embeddings() {
     time("null table of order 120 onto itself: 120 trials", &null(120), &null(120));
     let band = relabelled(&rectangular_band(4, 5));
     time("rectangular band 4 by 5 in 8 by 15: 400 trials", &band, &rectangular_band(8, 15));
-    time("examples/touring, 31 in 59", &show, &rig);
+    time("examples/touring, 31 in 59: 652 trials", &show, &rig);
     time("chain of 7 in unions of 5 points, none: 61 thousand trials", &chain(7), &unions(5));
     time("chain of 8 in unions of 6 points, none: 1.1 million trials", &chain(8), &unions(6));
     let (band, narrow) = (rectangular_band(3, 3), rectangular_band(2, 20));

@@ -106,15 +106,16 @@ pub fn length(random: &mut Random, limit: usize) -> usize {
     }
 }
 
-/// What stands in a map buffer before a call: zeros, any bytes, or bytes near elements.
+/// What stands in a map buffer before a call: zeros, any bytes, elements in any order or in theirs, or bytes near elements.
 pub fn map(random: &mut Random, source_order: usize, target_order: usize) -> Lent {
     let (m, n) = (source_order.min(120), target_order.min(120));
     let right_length = !random.one_in(12);
     let length = if right_length { m } else { random.below(m + 3) };
-    let content: Vec<u8> = match random.below(4) {
+    let content: Vec<u8> = match random.below(5) {
         0 => vec![0; length],
         1 => random.bytes(length),
-        2 => permutation(random, n).into_iter().cycle().take(length).collect(),
+        2 => (1..=length as u8).collect(),
+        3 => permutation(random, n).into_iter().cycle().take(length).collect(),
         _ => (0..length).map(|_| random.below(n + 2) as u8).collect(),
     };
     Lent::new(random, &content)

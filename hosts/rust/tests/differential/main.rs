@@ -107,19 +107,27 @@ impl Comparison {
         (inputs::lend(random, &source), inputs::lend(random, &target))
     }
 
-    /// Some searches between two tables, on one map buffer; at times larger tables whose search is easy.
+    /// Some searches between two tables, on one map buffer: mostly small tables, at times larger ones.
     fn searches(&mut self) {
-        let (source, target) = if self.random.one_in(20) { self.easy_pair() } else { self.pair(7) };
+        let (source, target) = match self.random.below(40) {
+            0 => self.small_in_large(),
+            1..=2 => self.easy_pair(),
+            _ => self.pair(8),
+        };
         let mut map = inputs::map(&mut self.random, source.table.order, target.table.order);
         for _ in 0..self.random.within(1, 4) {
             let call = self.search(source.table.clone(), target.table.clone(), map, source.family);
-            let Call::Search { map: left, .. } = call else { unreachable!() };
-            map = left;
+            map = map_of(call);
             self.check_of(&source, &target, &map);
             if self.random.one_in(2) {
                 map = inputs::map(&mut self.random, source.table.order, target.table.order);
             }
         }
+    }
+
+    fn small_in_large(&mut self) -> (Input, Input) {
+        let (source, target) = (families::any(&mut self.random, 4), families::any(&mut self.random, 27));
+        (inputs::lend(&mut self.random, &source), inputs::lend(&mut self.random, &target))
     }
 
     fn easy_pair(&mut self) -> (Input, Input) {
@@ -159,7 +167,6 @@ impl Comparison {
     fn walk(&mut self) {
         let kind = self.random.pick(&[Kind::Embedding, Kind::Isomorphism]);
         let (source, target) = self.walk_pair(kind);
-        let family = source.family;
         let full_list = full_list(kind, &source, &target);
         let (source, target) = (inputs::lend(&mut self.random, &source), inputs::lend(&mut self.random, &target));
         let mut map = Lent::new(&mut self.random, &vec![0; source.table.order]);
@@ -167,26 +174,27 @@ impl Comparison {
             if self.random.one_in(4) {
                 map = self.refused_step(kind, &source.table, &target.table, map);
             }
-            let held = map.to_vec();
-            let length = source.table.order * target.table.order + self.random.below(3);
-            let scratch = Lent::random(&mut self.random, length);
-            let (from, to) = (source.table.clone(), target.table.clone());
-            let mut call = Call::Search { kind, ask: Ask::Next, source: from, target: to, map, scratch };
-            let answer = self.compare(&mut call, family);
-            let Call::Search { map: left, .. } = call else { unreachable!() };
-            map = left;
-            let entry = full_list.get(made);
-            if answer[..3] != [0, 0, u64::from(entry.is_some())] || map[..] != entry.unwrap_or(&held)[..] {
-                self.tally.differences += 1;
-                println!(
-                    "walk of {kind:?} from {source:?} to {target:?}:",
-                    source = source.table,
-                    target = target.table
-                );
-                println!("  call {} says {answer:?} and leaves {map:?}; the full list is {full_list:?}", made + 1);
-            }
+            map = self.walk_step(kind, &source, &target, map, full_list.get(made));
         }
         self.tally.walks += 1;
+    }
+
+    /// The next call of a walk that is not refused, held to the entry of the full list that it must find, if any; the map
+    /// after it.
+    fn walk_step(&mut self, kind: Kind, source: &Input, target: &Input, map: Lent, entry: Option<&Vec<u8>>) -> Lent {
+        let expected = entry.map_or_else(|| map.to_vec(), Vec::clone);
+        let length = source.table.order * target.table.order + self.random.below(3);
+        let scratch = Lent::random(&mut self.random, length);
+        let (from, to) = (source.table.clone(), target.table.clone());
+        let mut call = Call::Search { kind, ask: Ask::Next, source: from, target: to, map, scratch };
+        let answer = self.compare(&mut call, source.family);
+        let left = map_of(call);
+        if answer != [0, 0, u64::from(entry.is_some()), 0, 0, 0, 0, 0] || left[..] != expected {
+            self.tally.differences += 1;
+            println!("walk of {kind:?} from {:?} to {:?}", source.table, target.table);
+            println!("  says {answer:?} and leaves {left:?}; the full list has {entry:?} there");
+        }
+        left
     }
 
     /// Two semigroups so small that all lists of images can be tried.
@@ -220,8 +228,7 @@ impl Comparison {
             return map;
         }
         self.compare(&mut call, "refused in a walk");
-        let Call::Search { map, .. } = call else { unreachable!() };
-        map
+        map_of(call)
     }
 
     fn transformations(&mut self) {
@@ -248,6 +255,14 @@ impl Comparison {
         let length = inputs::length(&mut self.random, limit);
         let text = Lent::random(&mut self.random, length);
         self.compare(&mut Call::Save { table, text }, family);
+    }
+}
+
+/// The map buffer of a search.
+fn map_of(call: Call) -> Lent {
+    match call {
+        Call::Search { map, .. } => map,
+        _ => unreachable!("only searches are asked for their map"),
     }
 }
 

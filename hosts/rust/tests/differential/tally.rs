@@ -68,7 +68,8 @@ impl Tally {
         for wanted in families {
             print!("{wanted:<19}");
             for name in FUNCTIONS {
-                print!("{:>18}", self.sum(|function, family, _| function == name && family == wanted));
+                let calls = self.sum(|function, family, _| function == name && family == wanted);
+                print!("{calls:>width$}", width = name.len() + 2);
             }
             println!();
         }
