@@ -16,7 +16,7 @@ static void print_refusal(const char *what, const uint64_t *answer)
     fprintf(stderr, "%s: refused by question %" PRIu64 "\n", what, answer[0]);
 }
 
-/* Loads a table from a file; 0 where that fails. A byte more than the longest text is read, so that a longer one is refused. */
+/* Loads a table from a file; 0 where that fails. Of a longer text one byte too many is read, so that it is refused. */
 static int load(const char *name, struct table *table)
 {
     static uint8_t text[TICKDRIZZLE_LONGEST_TEXT + 1];

@@ -7,7 +7,8 @@
  *
  * Every buffer is a pointer and a length in bytes; any content and any length, order, element or degree is allowed.
  * What the caller must see to: no pointer is NULL, each points to as many bytes as its length says (answer: to eight
- * numbers), and no buffer that is written overlaps another one. The functions keep no pointer and no state.
+ * numbers), and no buffer that is written overlaps another one; source and target may be one table. The functions keep
+ * no pointer and no state.
  *
  * Each call writes all eight numbers of answer:
  *   answer[0]     0, or where the call is refused the number of the earliest failed question (TICKDRIZZLE_NO_...)
