@@ -1,0 +1,25 @@
+-- What the second search speaks of: lists by their number, and the test of a pair of elements (01, "Maps").
+-- Assumes nothing.
+use mathlib.Core.Bool.{Bool, true, false, _&&_, _||_, not}
+use mathlib.Core.List.{List, []}
+use mathlib.Core.Option.{Option, none, some}
+use Prim.Native.Nat.{ℕ}
+use lib.Dec.{eqb}
+use lib.ListN.{getD}
+use Rattle.semigroups.specs.Lists.{at, lists}
+use Rattle.semigroups.specs.Tables.{Product}
+
+-- List number k, counted from 0, of all lists of m entries from 1 to n.
+unfoldable pub numbered : ℕ → ℕ → ℕ → List ℕ
+numbered m n k = getD (lists m n) k []
+
+-- Whether two different elements have different images, and their product has the product of their images as its image.
+unfoldable pub keeps : Product → Product → List ℕ → List ℕ → Bool
+keeps s t f l =
+    let products = eqb (at f (s (at l 1) (at l 2))) (t (at f (at l 1)) (at f (at l 2))) in
+    (eqb (at l 1) (at l 2) || not (eqb (at f (at l 1)) (at f (at l 2)))) && products
+
+-- The list, where one was found.
+abbrev pub foundAt : Bool → List ℕ → Option (List ℕ)
+foundAt true f = some f
+foundAt false f = none

@@ -1,0 +1,3 @@
+pub mod Enumeration
+pub mod Said
+pub mod Marks
