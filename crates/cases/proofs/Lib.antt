@@ -1,0 +1,4 @@
+pub mod Walking
+pub mod Fronts
+pub mod Products
+pub mod Agreement

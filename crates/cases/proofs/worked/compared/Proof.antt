@@ -1,0 +1,43 @@
+-- `compared` meets its contract: the library's check and the second judge both say what the definition says. Assumes nothing.
+use mathlib.Core.Path.{sym, ap, _∙_}
+use borrow.Author.Needs.{needs}
+use Rattle.plain.specs.Said.{saidOf}
+use Rattle.cases.specs.Tally.{counted}
+use Rattle.cases.proofs.Agreement.{same-said-itself}
+use Rattle.cases.proofs.worked.compared.Statement.{statement}
+use Rattle.cases.proofs.worked.compared.Tie as tie
+
+check-requires : tie.Need-check-requires
+check-requires c κs = search needs
+
+said-of-requires : tie.Need-said-of-requires
+said-of-requires c κs = search needs
+
+judge-requires : tie.Need-judge-requires
+judge-requires c κs = search needs
+
+same-said-requires : tie.Need-same-said-requires
+same-said-requires c κs = search needs
+
+counted-requires : tie.Need-counted-requires
+counted-requires c κs = search needs
+
+returns : tie.Need-returns
+returns c =
+    let compared = c .before in
+    let judged = compared .before in
+    let said = judged .before in
+    let agree = said .said-of .ensures ∙ ap saidOf (said .before .check .ensures) ∙ sym (judged .judge .ensures) in
+    let same = compared .same-said .ensures ∙ same-said-itself _ _ agree in
+    (c .counted .ensures .0 ∙ ap (counted (said .before .before .before .args .tally)) same, c .counted .ensures .1)
+
+pub compared-spec : {M : Type 1} → statement M
+compared-spec =
+    tie.close
+    (tie.spec
+    check-requires
+    said-of-requires
+    judge-requires
+    same-said-requires
+    counted-requires
+    returns)

@@ -1,0 +1,4 @@
+pub mod Said
+pub mod Tally
+pub mod Walking
+pub mod Answering

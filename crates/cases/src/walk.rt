@@ -1,0 +1,201 @@
+// Whole lists of maps by first and next. Each call of the library is compared with the second search: what is said, the map buffer, every byte of scratch.
+ghost use mathlib.Core.Path.{_≡_};
+ghost use mathlib.Core.Bool.{true};
+ghost use mathlib.Core.List.{_++_};
+ghost use Prim.Native.Nat.{_≤_};
+ghost use lib.Dec.{eqb};
+ghost use lib.ListN.{drop};
+ghost use Rattle.semigroups.specs.Tables.{Accepted};
+ghost use Rattle.search.specs.Calls.{lend, call};
+ghost use Rattle.search.specs.Answers.{answerSays, requestOf};
+ghost use Rattle.plain.specs.Marks.{kindOf};
+ghost use Rattle.cases.specs.Said.{saidNumber};
+ghost use Rattle.cases.specs.Tally.{Within, Agreed};
+ghost use Rattle.cases.specs.Walking.{called};
+use crate::said::said_number;
+use crate::tally::Tally;
+use crate::tally::counted;
+use plain::judge;
+use plain::marks::write_marks;
+use plain::next_map;
+use plain::number_of_lists;
+use search::SearchAnswer;
+
+// A call of the library: the first map of the kind, or the next.
+fn call(
+    isomorphisms: bool,
+    next: bool,
+    source: &[u8],
+    m: usize,
+    target: &[u8],
+    n: usize,
+    map: &mut [u8],
+    scratch: &mut [u8],
+) -> SearchAnswer
+    ensures answer { λ r. ⌜ answerSays r ≡ call (kindOf isomorphisms) (requestOf next) (lend (now (source .entry)) m (now (target .entry)) n (now (map .entry)) (now (scratch .entry))) .says ⌝ }
+    ensures map { λ _. ⌜ now (map .exit) ≡ call (kindOf isomorphisms) (requestOf next) (lend (now (source .entry)) m (now (target .entry)) n (now (map .entry)) (now (scratch .entry))) .map ⌝ }
+    ensures scratch { λ _. ⌜ now (scratch .exit) ≡ call (kindOf isomorphisms) (requestOf next) (lend (now (source .entry)) m (now (target .entry)) n (now (map .entry)) (now (scratch .entry))) .scratch ⌝ }
+{
+    if isomorphisms {
+        if next {
+            return search::next_isomorphism(source, m, target, n, map, scratch);
+        }
+        return search::first_isomorphism(source, m, target, n, map, scratch);
+    }
+    if next {
+        return search::next_embedding(source, m, target, n, map, scratch);
+    }
+    search::first_embedding(source, m, target, n, map, scratch)
+}
+
+// What the second search has a call say, and the map buffer with the bytes behind it.
+struct Outcome {
+    number: usize,
+    map: [u8; 5],
+}
+
+// The call's answer by the second search. Every list of elements is later than zeros, so the first map is the next one after them.
+fn expected(
+    isomorphisms: bool,
+    next: bool,
+    source: &[u8],
+    m: usize,
+    target: &[u8],
+    n: usize,
+    before: [u8; 5],
+) -> Outcome
+    requires { ⌜ Accepted m (now source) ⌝ ∗ ⌜ Accepted n (now target) ⌝ ∗ ⌜ (m ≤ 5) × (n ≤ 27) ⌝ }
+    ensures number { λ r. ⌜ r .number ≡ saidNumber (called isomorphisms next (now (source .entry)) m (now (target .entry)) n before .says) ⌝ }
+    ensures map { λ r. ⌜ r .map ≡ called isomorphisms next (now (source .entry)) m (now (target .entry)) n before .map ++ drop m before ⌝ }
+{
+    let mut after = [0u8; 5];
+    if next {
+        after = before;
+    }
+    let mut map = before;
+    if next_map(
+        isomorphisms,
+        source,
+        m,
+        target,
+        n,
+        &after[..m],
+        &mut map[..m],
+    ) {
+        return Outcome { number: 100, map };
+    }
+    Outcome {
+        number: 0,
+        map: before,
+    }
+}
+
+// A call compared: whether both agree, whether a map was found, and the map buffer afterwards.
+struct Compared {
+    same: bool,
+    found: bool,
+    map: [u8; 5],
+}
+
+// One call on a map buffer of m bytes, the start of `before`, and a scratch buffer longer than needed.
+fn step(
+    isomorphisms: bool,
+    next: bool,
+    source: &[u8],
+    m: usize,
+    target: &[u8],
+    n: usize,
+    before: [u8; 5],
+) -> Compared
+    requires { ⌜ Accepted m (now source) ⌝ ∗ ⌜ Accepted n (now target) ⌝ ∗ ⌜ (m ≤ 5) × (n ≤ 27) ⌝ }
+    ensures same { λ r. ⌜ r .same ≡ true ⌝ }
+    ensures found { λ r. ⌜ r .found ≡ eqb (saidNumber (called isomorphisms next (now (source .entry)) m (now (target .entry)) n before .says)) 100 ⌝ }
+    ensures map { λ r. ⌜ r .map ≡ called isomorphisms next (now (source .entry)) m (now (target .entry)) n before .map ++ drop m before ⌝ }
+{
+    let mut map = before;
+    let mut scratch = [7u8; 140];
+    let answer = call(
+        isomorphisms,
+        next,
+        source,
+        m,
+        target,
+        n,
+        &mut map[..m],
+        &mut scratch,
+    );
+    let said = said_number(answer);
+    let second = expected(isomorphisms, next, source, m, target, n, before);
+    let second_map = second.map;
+    let mut marks = [7u8; 140];
+    write_marks(isomorphisms, source, m, target, n, &mut marks);
+    let same_map = check::same(&map, &second_map);
+    let same_scratch = check::same(&scratch, &marks);
+    Compared {
+        same: (said == second.number) & same_map & same_scratch,
+        found: second.number == 100,
+        map,
+    }
+}
+
+// The first map of the kind, on a map buffer that holds `before`; then all maps later than `before` by next, to the last "none". Tables that are not
+// accepted, or are too large, count as a difference; there is no other.
+pub fn walk(
+    isomorphisms: bool,
+    source: &[u8],
+    m: usize,
+    target: &[u8],
+    n: usize,
+    before: [u8; 5],
+    tally: Tally,
+) -> Tally
+    requires { ⌜ Within tally ⌝ }
+    ensures within { λ r. ⌜ Within r ⌝ }
+    ensures same { λ r. ⌜ (Accepted m (now (source .entry)) → Accepted n (now (target .entry)) → (m ≤ 5) × (n ≤ 27) → Agreed tally r) ⌝ }
+{
+    if 5 < m {
+        return counted(tally, false);
+    }
+    if 27 < n {
+        return counted(tally, false);
+    }
+    if judge(source, m).number != 0 {
+        return counted(tally, false);
+    }
+    if judge(target, n).number != 0 {
+        return counted(tally, false);
+    }
+    let first = step(isomorphisms, false, source, m, target, n, before);
+    let begun = counted(tally, first.same);
+    walk_on(isomorphisms, source, m, target, n, before, begun)
+}
+
+// There are at most as many maps as lists, and each call finds a later one.
+fn walk_on(
+    isomorphisms: bool,
+    source: &[u8],
+    m: usize,
+    target: &[u8],
+    n: usize,
+    before: [u8; 5],
+    tally: Tally,
+) -> Tally
+    requires { ⌜ Accepted m (now source) ⌝ ∗ ⌜ Accepted n (now target) ⌝ ∗ ⌜ (m ≤ 5) × (n ≤ 27) ⌝ ∗ ⌜ Within tally ⌝ }
+    ensures within { λ r. ⌜ Within r ⌝ }
+    ensures same { λ r. ⌜ Agreed tally r ⌝ }
+{
+    let most = number_of_lists(m, n);
+    let mut tally = tally;
+    let mut map = before;
+    let mut k: usize = 0;
+    while k <= most {
+        let next = step(isomorphisms, true, source, m, target, n, map);
+        tally = counted(tally, next.same);
+        if !next.found {
+            return tally;
+        }
+        map = next.map;
+        k += 1;
+    }
+    tally
+}
