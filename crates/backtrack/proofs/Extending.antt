@@ -13,14 +13,16 @@ use borrow.Author.Tests.{not-true}
 use lib.Dec.{eqb, leb}
 use lib.ListN.{length, getD, take}
 use Rattle.semigroups.specs.Lists.{range, elements, all, member}
-use Rattle.semigroups.specs.Tables.{Product, Element}
+use Rattle.semigroups.specs.Tables.{Product, Element, Closed}
 use Rattle.semigroups.specs.Scratch.{scratchSize, marked}
 use Rattle.semigroups.specs.Search.{passes, search}
 use Rattle.semigroups.proofs.Booleans.{and-left, and-right}
 use Rattle.backtrack.specs.declared.Partial.{Partial}
 use Rattle.backtrack.specs.declared.Tested.{Tested}
+use Rattle.backtrack.specs.Marks.{allows, newFits}
 use Rattle.backtrack.specs.State.{prefix, Holds, Reached, foundMap, asked}
 use Rattle.backtrack.proofs.Placing.{prefix-length, used-image}
+use Rattle.backtrack.proofs.Noting.{marks-refuse, pairs-refuse, both-allow}
 use Rattle.backtrack.proofs.Steps.{lowest, leftFrom, whole, begin, end, isOpen, shut, fails, back, hit, still}
 
 pub start : (s : Product) (m : ℕ) (t : Product) (n : ℕ) (scratch after : List ℕ) (tight : Bool) (p : Partial) → p .len ≡ 0 → Holds s n t p → scratchSize m n ≤ length scratch → length after ≡ m
@@ -81,62 +83,95 @@ module _ (s : Product) (m : ℕ) (t : Product) (n : ℕ) (scratch after : List �
     unfolding scratchSize
     row-marked = let rows : (p .len + 1) * n ≤ m * n = mul-le-mul-right n (omega arith) in let space = Q .space in omega arith
 
-    module _ (small : n ≤ 120) (low : ℕ) (el : low ≡ lowest tight after (p .len)) (x : ℕ) (hx : Element n x) where
-      low-here : low ≡ lowest tight after (length (prefix p))
-      low-here = el ∙ ap (lowest tight after) (sym long)
+-- One turn of the loop: x is looked at, and o says whether it is open.
+pub record Turn (s : Product) (m : ℕ) (t : Product) (n : ℕ) (scratch after : List ℕ) (tight : Bool) (p : Partial) (low x : ℕ) (o : Bool) : Type 0 where
+  pub reached : Reached s m t n scratch after tight p
+  pub closed : Closed m s
+  pub orders : (m ≤ 120) × (n ≤ 120)
+  pub room : p .len < m
+  pub bound : low ≡ lowest tight after (p .len)
+  pub element : Element n x
+  pub opened : o ≡ (leb low x && (eqb (getD (p .used) x 0) 0 && marked n scratch (p .len + 1) x))
 
-      -- What the code tests is whether x is open.
-      open-is : (leb low x && (eqb (getD (p .used) x 0) 0 && marked n scratch (p .len + 1) x)) ≡ isOpen s t (marked n scratch) n after (prefix p) tight same (m - (p .len + 1)) short x (hx .0)
-      open-is =
-          ap₂ _&&_ (ap (λ (k : ℕ). leb k x) low-here)
-          (ap₂ _&&_ (used-image n (p .image) (p .used) (p .len) (Q .holds .placing) x (omega arith))
-          (ap (λ (k : ℕ). marked n scratch k x) (add-one (p .len) ∙ ap suc (sym long))))
+module _ {s : Product} {m : ℕ} {t : Product} {n : ℕ} {scratch after : List ℕ} {tight : Bool} {p : Partial} {low x : ℕ} {o : Bool} (T : Turn s m t n scratch after tight p low x o) where
+  abbrev longer : List ℕ
+  longer = prefix p ++ x ∷ []
 
-      module _ (o : Bool) (eo : o ≡ (leb low x && (eqb (getD (p .used) x 0) 0 && marked n scratch (p .len + 1) x))) where
-        pub unused : o ≡ true → member x (prefix p) ≡ false
-        unused h =
-            let w = sym eo ∙ h in
-            let v = and-left (eqb (getD (p .used) x 0) 0) (marked n scratch (p .len + 1) x) (and-right (leb low x) (eqb (getD (p .used) x 0) 0 && marked n scratch (p .len + 1) x) w) in
-            not-true (member x (prefix p)) (sym (used-image n (p .image) (p .used) (p .len) (Q .holds .placing) x (omega arith)) ∙ v)
+  -- What the code tests is whether x is open.
+  abbrev Open : Bool
+  Open = isOpen s t (marked n scratch) n after (prefix p) tight (same s m t n scratch after tight p (T .reached)) (m - (p .len + 1)) (short s m t n scratch after tight p (T .reached) (T .room)) x (T .element .0)
 
-        pub skip : o ≡ false → Whole ≡ Left x → Whole ≡ Left (x + 1)
-        skip h e = e ∙ shut s t (marked n scratch) n after (prefix p) tight same (m - (p .len + 1)) short x (hx .0) (sym open-is ∙ sym eo ∙ h) (hx .1)
+  low-here : low ≡ lowest tight after (length (prefix p))
+  low-here = T .bound ∙ ap (lowest tight after) (sym (long s m t n scratch after tight p (T .reached)))
 
-        pub refuse : passes s t (prefix p ++ x ∷ []) ≡ false → Whole ≡ Left x → Whole ≡ Left (x + 1)
-        refuse h e = e ∙ fails s t (marked n scratch) n after (prefix p) tight same (m - (p .len + 1)) short x (hx .0) h (hx .1)
+  used-here : eqb (getD (p .used) x 0) 0 ≡ not (member x (prefix p))
+  used-here = used-image n (p .image) (p .used) (p .len) (T .reached .holds .placing) x (omega arith)
 
-        module _ (h : o ≡ true) (pass : passes s t (prefix p ++ x ∷ []) ≡ true) (q : Partial) (eq : prefix q ≡ prefix p ++ x ∷ []) (len : q .len ≡ p .len + 1) where
-          -- The call for the next element.
-          abbrev Inner : Option (List ℕ)
-          Inner = search s t (marked n scratch) (asked (eqb x low) after) n (m - q .len) (prefix q)
+  open-is : o ≡ Open
+  open-is =
+      T .opened
+      ∙ ap₂ _&&_ (ap (λ (k : ℕ). leb k x) low-here)
+      (ap₂ _&&_ used-here (ap (λ (k : ℕ). marked n scratch k x) (add-one (p .len) ∙ ap suc (sym (long s m t n scratch after tight p (T .reached))))))
 
-          inner : Inner ≡ search s t (marked n scratch) (asked (eqb x (lowest tight after (length (prefix p)))) after) n (m - (p .len + 1)) (prefix p ++ x ∷ [])
-          inner =
-              ap (λ (k : ℕ). search s t (marked n scratch) (asked (eqb x k) after) n (m - q .len) (prefix q)) low-here
-              ∙ ap₂ (λ (d : ℕ) (l : List ℕ). search s t (marked n scratch) (asked (eqb x (lowest tight after (length (prefix p)))) after) n d l) (let e : m - q .len ≡ m - (p .len + 1) = omega arith in e) eq
+  -- What is left from x on is the answer: it is what is left from x + 1 on.
+  abbrev Onward : Type 0
+  Onward = Called s m t n scratch after tight p ≡ Rest s m t n scratch after tight p x → Called s m t n scratch after tight p ≡ Rest s m t n scratch after tight p (x + 1)
 
-          is-open : isOpen s t (marked n scratch) n after (prefix p) tight same (m - (p .len + 1)) short x (hx .0) ≡ true
-          is-open = sym open-is ∙ sym eo ∙ h
+  pub skip : o ≡ false → Onward
+  skip h e = e ∙ shut s t (marked n scratch) n after (prefix p) tight (same s m t n scratch after tight p (T .reached)) (m - (p .len + 1)) (short s m t n scratch after tight p (T .reached) (T .room)) x (T .element .0) (sym open-is ∙ h) (T .element .1)
 
-          pub onward : Holds s n t q → Reached s m t n scratch after (eqb x low) q
-          onward H =
-              record {
-                holds = H;
-                within = omega arith;
-                passed = ap (passes s t) eq ∙ pass;
-                space = Q .space;
-                bound = Q .bound;
-                same = λ w.
-                    ap (λ (k : ℕ). take k after) (len ∙ add-one (p .len) ∙ ap suc (sym long))
-                    ∙ still s t (marked n scratch) n after (prefix p) tight same (m - (p .len + 1)) short x (hx .0) (ap (eqb x) (sym low-here) ∙ w) ∙ sym eq;
-              }
+  refuse : passes s t longer ≡ false → Onward
+  refuse h e = e ∙ fails s t (marked n scratch) n after (prefix p) tight (same s m t n scratch after tight p (T .reached)) (m - (p .len + 1)) (short s m t n scratch after tight p (T .reached) (T .room)) x (T .element .0) h (T .element .1)
 
-          pub fail : (r : Tested) → foundMap r ≡ Inner → r .ok ≡ false → Whole ≡ Left x → Whole ≡ Left (x + 1)
-          fail r a f e =
-              e ∙ back s t (marked n scratch) n after (prefix p) tight same (m - (p .len + 1)) short x (hx .0) is-open pass
-              (sym inner ∙ sym a ∙ ap {B = Option (List ℕ)} (λ (b : Bool). cond b (some (prefix (r .map))) none) f) (hx .1)
+  module _ (h : o ≡ true) where
+    pub unused : member x (prefix p) ≡ false
+    unused =
+        let test = eqb (getD (p .used) x 0) 0 in
+        let mark = marked n scratch (p .len + 1) x in
+        not-true (member x (prefix p)) (sym used-here ∙ and-left test mark (and-right (leb low x) (test && mark) (sym (T .opened) ∙ h)))
 
-          pub found : (r : Tested) → foundMap r ≡ Inner → r .ok ≡ true → Whole ≡ Left x → foundMap r ≡ Whole
-          found r a f e =
-              let some-map : foundMap r ≡ some (prefix (r .map)) = ap {B = Option (List ℕ)} (λ (b : Bool). cond b (some (prefix (r .map))) none) f in
-              some-map ∙ sym (e ∙ hit s t (marked n scratch) n after (prefix p) tight same (m - (p .len + 1)) short x (hx .0) is-open pass (prefix (r .map)) (sym inner ∙ sym a ∙ some-map) (hx .1))
+    -- What the marks say of x, and then its pairs.
+    module _ (a : Bool) (ea : a ≡ (allows (getD (p .forced) (p .len + 1) 0) x && allows (getD (p .owner) x 0) (p .len + 1))) where
+      pub unsettled : a ≡ false → Onward
+      unsettled e = refuse (marks-refuse m s n t (T .closed) p (T .reached .holds) (T .room) x (T .orders .0) (T .reached .passed) (omega arith) unused (sym ea ∙ e))
+
+      module _ (b : Bool) (eb : b ≡ newFits s t longer) where
+        pub unfit : b ≡ false → Onward
+        unfit e = refuse (pairs-refuse m s n t (T .closed) p (T .reached .holds) (T .room) x (T .orders .0) (T .reached .passed) (omega arith) unused (sym eb ∙ e))
+
+        pub passing : a ≡ true → b ≡ true → passes s t longer ≡ true
+        passing e f = both-allow m s n t (T .closed) p (T .reached .holds) (T .room) x (T .orders .0) (T .reached .passed) (omega arith) unused (sym ea ∙ e) (sym eb ∙ f)
+
+    module _ (pass : passes s t longer ≡ true) (q : Partial) (eq : prefix q ≡ longer) (len : q .len ≡ p .len + 1) where
+      -- The call for the next element.
+      abbrev Inner : Option (List ℕ)
+      Inner = Called s m t n scratch after (eqb x low) q
+
+      inner : Inner ≡ search s t (marked n scratch) (asked (eqb x (lowest tight after (length (prefix p)))) after) n (m - (p .len + 1)) longer
+      inner =
+          ap (λ (k : ℕ). search s t (marked n scratch) (asked (eqb x k) after) n (m - q .len) (prefix q)) low-here
+          ∙ ap₂ (λ (d : ℕ) (l : List ℕ). search s t (marked n scratch) (asked (eqb x (lowest tight after (length (prefix p)))) after) n d l) (let e : m - q .len ≡ m - (p .len + 1) = omega arith in e) eq
+
+      pub onward : Holds s n t q → Reached s m t n scratch after (eqb x low) q
+      onward H =
+          let room = T .room in
+          record {
+            holds = H;
+            within = omega arith;
+            passed = ap (passes s t) eq ∙ pass;
+            space = T .reached .space;
+            bound = T .reached .bound;
+            same = λ w.
+                ap (λ (k : ℕ). take k after) (len ∙ add-one (p .len) ∙ ap suc (sym (long s m t n scratch after tight p (T .reached))))
+                ∙ still s t (marked n scratch) n after (prefix p) tight (same s m t n scratch after tight p (T .reached)) (m - (p .len + 1)) (short s m t n scratch after tight p (T .reached) (T .room)) x (T .element .0) (ap (eqb x) (sym low-here) ∙ w) ∙ sym eq;
+          }
+
+      pub fail : (r : Tested) → foundMap r ≡ Inner → r .ok ≡ false → Onward
+      fail r a f e =
+          e ∙ back s t (marked n scratch) n after (prefix p) tight (same s m t n scratch after tight p (T .reached)) (m - (p .len + 1)) (short s m t n scratch after tight p (T .reached) (T .room)) x (T .element .0) (sym open-is ∙ h) pass
+          (sym inner ∙ sym a ∙ ap {B = Option (List ℕ)} (λ (b : Bool). cond b (some (prefix (r .map))) none) f) (T .element .1)
+
+      pub found : (r : Tested) → foundMap r ≡ Inner → r .ok ≡ true → Called s m t n scratch after tight p ≡ Rest s m t n scratch after tight p x → foundMap r ≡ Called s m t n scratch after tight p
+      found r a f e =
+          let some-map : foundMap r ≡ some (prefix (r .map)) = ap {B = Option (List ℕ)} (λ (b : Bool). cond b (some (prefix (r .map))) none) f in
+          some-map ∙ sym (e ∙ hit s t (marked n scratch) n after (prefix p) tight (same s m t n scratch after tight p (T .reached)) (m - (p .len + 1)) (short s m t n scratch after tight p (T .reached) (T .room)) x (T .element .0) (sym open-is ∙ h) pass (prefix (r .map)) (sym inner ∙ sym a ∙ some-map) (T .element .1))

@@ -6,7 +6,7 @@
 -- ---- one turn of the loop that notes the pairs of the newest element
 -- ---- a partial map
 use mathlib.Core.Path.{_≡_, sym, ap, ap₂, subst, _∙_}
-use mathlib.Core.Bool.{Bool, true, false, _&&_, and-true, and-assoc}
+use mathlib.Core.Bool.{Bool, true, false, _&&_, and-true, and-false, and-assoc}
 use mathlib.Core.List.{List, [], _∷_, _++_}
 use Prim.Native.Nat.{ℕ, zero, suc, _+_, _-_, _≤_, _<_}
 use native.Mathlib.Numerals.{add-one}
@@ -15,6 +15,7 @@ use lib.ListN.{length, getD, take, length-set, replicate, length-replicate, getD
 use Rattle.semigroups.specs.Lists.{range, elements, at, all, member}
 use Rattle.semigroups.specs.Tables.{Product, Element, Closed}
 use Rattle.semigroups.specs.Search.{passes}
+use Rattle.semigroups.proofs.Booleans.{both}
 use Rattle.backtrack.specs.Marks.{allows, merge, noted, imageProduct, asks, agreeOn, cross, newFits, Reads}
 use Rattle.backtrack.specs.State.{prefix, Placing, Tracks, Holds}
 use Rattle.backtrack.specs.declared.Partial.{Partial}
@@ -147,12 +148,27 @@ module _ (m : ℕ) (s : Product) (n : ℕ) (t : Product) (closed : Closed m s) (
   short : length (prefix p) < m
   short = let l = long in omega arith
 
+  abbrev g : List ℕ
+  g = prefix p ++ x ∷ []
+
+  abbrev allowed : Bool
+  allowed = allows (getD (p .forced) (p .len + 1) 0) x && allows (getD (p .owner) x 0) (p .len + 1)
+
   -- The marks and the new pairs decide whether x passes as the next image.
-  pub trial-decides : m ≤ 120 → passes s t (prefix p) ≡ true → Element 120 x → member x (prefix p) ≡ false
-      → passes s t (prefix p ++ x ∷ []) ≡ ((allows (getD (p .forced) (p .len + 1) 0) x && allows (getD (p .owner) x 0) (p .len + 1)) && newFits s t (prefix p ++ x ∷ []))
-  trial-decides hm pass hx fresh =
-      decides m s t closed (prefix p) x short hm (p .forced) (p .owner) tracked pass hx fresh
-      ∙ ap (λ (k : ℕ). (allows (getD (p .forced) (k + 1) 0) x && allows (getD (p .owner) x 0) (k + 1)) && newFits s t (prefix p ++ x ∷ [])) long
+  module _ (hm : m ≤ 120) (pass : passes s t (prefix p) ≡ true) (hx : Element 120 x) (fresh : member x (prefix p) ≡ false) where
+    decided : passes s t g ≡ (allowed && newFits s t g)
+    decided =
+        decides m s t closed (prefix p) x short hm (p .forced) (p .owner) tracked pass hx fresh
+        ∙ ap (λ (k : ℕ). (allows (getD (p .forced) (k + 1) 0) x && allows (getD (p .owner) x 0) (k + 1)) && newFits s t g) long
+
+    pub marks-refuse : allowed ≡ false → passes s t g ≡ false
+    marks-refuse e = decided ∙ ap (λ (b : Bool). b && newFits s t g) e
+
+    pub pairs-refuse : newFits s t g ≡ false → passes s t g ≡ false
+    pairs-refuse e = decided ∙ ap (λ (b : Bool). allowed && b) e ∙ and-false allowed
+
+    pub both-allow : allowed ≡ true → newFits s t g ≡ true → passes s t g ≡ true
+    both-allow e h = decided ∙ both allowed (newFits s t g) e h
 
   -- With x placed, no pair of it is noted yet.
   pub placed-next : (q : Partial) → prefix q ≡ prefix p ++ x ∷ [] → q .len ≡ p .len + 1 → q .forced ≡ p .forced → q .owner ≡ p .owner → Tracks s t (prefix q) (q .len - 1) 0 (q .forced) (q .owner)

@@ -5,10 +5,10 @@ use mathlib.Core.Path.{_≡_}
 use mathlib.Core.Bool.{Bool, true, false, cond, _&&_}
 use mathlib.Core.Option.{Option, none, some}
 use mathlib.Core.List.{List}
-use Prim.Native.Nat.{ℕ, suc, _≤_}
+use Prim.Native.Nat.{ℕ, suc, _≤_, _<_}
 use lib.ListN.{length, getD, take}
-use Rattle.semigroups.specs.Lists.{elements, all, member}
-use Rattle.semigroups.specs.Tables.{Product}
+use Rattle.semigroups.specs.Lists.{elements, at, all, member}
+use Rattle.semigroups.specs.Tables.{Product, Element}
 use Rattle.semigroups.specs.Scratch.{scratchSize}
 use Rattle.semigroups.specs.Maps.{Ask, first, next}
 use Rattle.semigroups.specs.Search.{passes, Placed}
@@ -27,6 +27,15 @@ pub record Placing (n : ℕ) (image used : List ℕ) (len : ℕ) : Type 0 where
   pub fit : len ≤ 120
   pub placed : Placed n (take len image)
   pub uses : (y : ℕ) → y ≤ 120 → getD used y 0 ≡ cond (member y (take len image)) 1 0
+
+-- The images of the first `len` elements, x as that of the next, and which target elements other than x they use.
+pub record Trial (n : ℕ) (image used : List ℕ) (len x : ℕ) : Type 0 where
+  pub long : length image ≡ 120
+  pub wide : length used ≡ 121
+  pub room : len < 120
+  pub placed : (a : ℕ) → Element len a → Element n (at image a)
+  pub element : Element n x
+  pub uses : (y : ℕ) → y ≤ 120 → (y ≡ x → ⊥) → getD used y 0 ≡ cond (member y (take len image)) 1 0
 
 -- The marks say what the pairs of the first k elements ask, and the first j of the pairs with element k + 1.
 pub record Tracks (s t : Product) (f : List ℕ) (k j : ℕ) (forced owner : List ℕ) : Type 0 where

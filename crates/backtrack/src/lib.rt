@@ -12,7 +12,7 @@ ghost use Rattle.semigroups.specs.Tables.{Product, product, Element, Filled};
 ghost use Rattle.semigroups.specs.Scratch.{scratchSize, marked};
 ghost use Rattle.semigroups.specs.Search.{fits, passes, search};
 ghost use Rattle.backtrack.specs.Marks.{allows, noted, imageProduct, newFits};
-ghost use Rattle.backtrack.specs.State.{prefix, Placing, Tracks, Holds, Reached, foundMap, asked};
+ghost use Rattle.backtrack.specs.State.{prefix, Placing, Trial, Tracks, Holds, Reached, foundMap, asked};
 
 // The map placed so far. Element i's image is image[i - 1]; used[y] is 1 where y is an image. The marks: forced[c] is the target product that the
 // pairs placed ask of source element c, owner[y] the source element that they reserve target element y for.
@@ -78,7 +78,20 @@ fn note_pair(
     note(owner, z, c);
 }
 
-// Whether the pair a, b of the elements placed fits: its product, where placed, goes to the product of the images, which is unused otherwise.
+// The image of element a, where x is that of the next element.
+fn image_of(image: &[u8; 120], len: usize, x: usize, a: usize) -> usize
+    requires { ⌜ (length (now image) ≡ 120) × (len < 120) × Element (len + 1) a ⌝ }
+    requires { ⌜ (Element len a → at (now image) a ≤ 120) ⌝ }
+    ensures answer { λ r. ⌜ r ≡ at (take len (now (image .entry)) ++ x ∷ []) a ⌝ }
+{
+    if a <= len {
+        return image[a - 1] as usize;
+    }
+    x
+}
+
+// Whether the pair a, b fits, where x is the image of the next element: its product, where placed, goes to the product of the images, which is
+// unused otherwise. x may be placed already.
 fn pair_fits(
     source: &[u8],
     m: usize,
@@ -87,22 +100,66 @@ fn pair_fits(
     image: &[u8; 120],
     used: &[u8; 121],
     len: usize,
+    x: usize,
     a: usize,
     b: usize,
 ) -> bool
     requires { ⌜ Filled m (now source) × Filled n (now target) ⌝ }
-    requires { ⌜ Placing n (now image) (now used) len × (len ≤ m) ⌝ }
-    requires { ⌜ Element len a × Element len b ⌝ }
-    ensures answer { λ r. ⌜ r ≡ fits (product m (now (source .entry))) (product n (now (target .entry))) (take len (now (image .entry))) a b ⌝ }
+    requires { ⌜ Trial n (now image) (now used) len x × (len < m) ⌝ }
+    requires { ⌜ Element (len + 1) a × Element (len + 1) b ⌝ }
+    ensures answer { λ r. ⌜ r ≡ fits (product m (now (source .entry))) (product n (now (target .entry))) (take len (now (image .entry)) ++ x ∷ []) a b ⌝ }
 {
     let c = tables::times(source, m, a, b);
-    let x = image[a - 1] as usize;
-    let y = image[b - 1] as usize;
-    let z = tables::times(target, n, x, y);
-    if c <= len {
-        return image[c - 1] as usize == z;
+    let y = image_of(image, len, x, a);
+    let z = image_of(image, len, x, b);
+    let v = tables::times(target, n, y, z);
+    if c <= len + 1 {
+        return image_of(image, len, x, c) == v;
     }
-    used[z] == 0
+    if v == x {
+        return false;
+    }
+    used[v] == 0
+}
+
+// Whether the pairs of the next element fit, where x is its image. One lifetime, as one map lends both arrays.
+fn new_fits<'a>(
+    source: &[u8],
+    m: usize,
+    target: &[u8],
+    n: usize,
+    image: &'a [u8; 120],
+    used: &'a [u8; 121],
+    len: usize,
+    x: usize,
+) -> bool
+    requires { ⌜ Filled m (now source) × Filled n (now target) ⌝ }
+    requires { ⌜ Trial n (now image) (now used) len x × (len < m) ⌝ }
+    ensures answer { λ r. ⌜ r ≡ newFits (product m (now (source .entry))) (product n (now (target .entry))) (take len (now (image .entry)) ++ x ∷ []) ⌝ }
+{
+    let next = len + 1;
+    let mut j: usize = 1;
+    while j <= next {
+        if !pair_fits(source, m, target, n, image, used, len, x, j, next) {
+            return false;
+        }
+        if !pair_fits(source, m, target, n, image, used, len, x, next, j) {
+            return false;
+        }
+        j += 1;
+    }
+    true
+}
+
+// Whether the marks allow x as the image of element `next`.
+fn settled<'a>(forced: &'a [u8; 121], owner: &'a [u8; 121], next: usize, x: usize) -> bool
+    requires { ⌜ (next ≤ 120) × (x ≤ 120) ⌝ }
+    ensures answer { λ r. ⌜ r ≡ (allows (getD (now (forced .entry)) next 0) x && allows (getD (now (owner .entry)) x 0) next) ⌝ }
+{
+    if !allowed(forced[next], x) {
+        return false;
+    }
+    allowed(owner[x], next)
 }
 
 // Whether x is `low` or more, unused, and a candidate for element i.
@@ -151,46 +208,17 @@ impl Partial {
         p
     }
 
-    // Whether the marks allow x as the image of the next element.
-    fn settled(self, x: usize) -> bool
-        requires { ⌜ (x ≤ 120) × (self .len < 120) ⌝ }
-        ensures answer { λ r. ⌜ r ≡ (allows (getD (self .forced) (self .len + 1) 0) x && allows (getD (self .owner) x 0) (self .len + 1)) ⌝ }
-    {
-        let next = self.len + 1;
-        if !allowed(self.forced[next], x) {
-            return false;
-        }
-        allowed(self.owner[x], next)
-    }
-
     // Whether the pairs of the newest element fit.
     fn test(self, source: &[u8], m: usize, target: &[u8], n: usize) -> Tested
         requires { ⌜ Filled m (now source) × Filled n (now target) ⌝ }
-        requires { ⌜ Placing n (self .image) (self .used) (self .len) × (self .len ≤ m) ⌝ }
+        requires { ⌜ Placing n (self .image) (self .used) (self .len) × Element m (self .len) ⌝ }
         ensures answer { λ r. ⌜ r .ok ≡ newFits (product m (now (source .entry))) (product n (now (target .entry))) (prefix self) ⌝ }
         ensures same { λ r. ⌜ r .map ≡ self ⌝ }
     {
-        let len = self.len;
-        let image = self.image;
-        let used = self.used;
-        let mut j: usize = 1;
-        while j <= len {
-            if !pair_fits(source, m, target, n, &image, &used, len, j, len) {
-                return Tested {
-                    ok: false,
-                    map: self,
-                };
-            }
-            if !pair_fits(source, m, target, n, &image, &used, len, len, j) {
-                return Tested {
-                    ok: false,
-                    map: self,
-                };
-            }
-            j += 1;
-        }
+        let before = self.len - 1;
+        let x = self.image[before] as usize;
         Tested {
-            ok: true,
+            ok: new_fits(source, m, target, n, &self.image, &self.used, before, x),
             map: self,
         }
     }
@@ -251,7 +279,7 @@ impl Partial {
         ensures answer { λ r. ⌜ r .ok ≡ passes (product m (now (source .entry))) (product n (now (target .entry))) (prefix self ++ x ∷ []) ⌝ }
         ensures more { λ r. ⌜ (r .ok ≡ true → Holds (product m (now (source .entry))) n (product n (now (target .entry))) (r .map) × (prefix (r .map) ≡ prefix self ++ x ∷ []) × (r .map .len ≡ self .len + 1)) ⌝ }
     {
-        if !self.settled(x) {
+        if !settled(&self.forced, &self.owner, self.len + 1, x) {
             return Tested {
                 ok: false,
                 map: self,
@@ -296,11 +324,15 @@ fn extend(
     let mut x: usize = 1;
     while x <= n {
         if open(&p.used, scratch, n, at + 1, low, x) {
-            let q = p.tried(source, m, target, n, x);
-            if q.ok {
-                let r = extend(source, m, target, n, scratch, after, x == low, q.map);
-                if r.ok {
-                    return r;
+            // Looked at by reference, so an image that does not fit costs no copy of the map.
+            if settled(&p.forced, &p.owner, at + 1, x) {
+                if new_fits(source, m, target, n, &p.image, &p.used, at, x) {
+                    // x fits, so `tried` says ok.
+                    let q = p.tried(source, m, target, n, x);
+                    let r = extend(source, m, target, n, scratch, after, x == low, q.map);
+                    if r.ok {
+                        return r;
+                    }
                 }
             }
         }

@@ -1,98 +1,107 @@
 -- `pair_fits` meets its contract: the product is looked up, and with it an image or a use. Assumes nothing.
-use Prim.Native.Nat.{ℕ, _-_, _≤_}
+use mathlib.Core.Path.{_≡_, sym, ap, ap₂, subst, _∙_}
+use mathlib.Core.List.{[], _∷_, _++_}
+use Prim.Native.Nat.{ℕ, _+_, _≤_}
 use native.Mathlib.Omega.{arith}
 use borrow.Author.Needs.{needs}
-use lib.ListN.{getD}
+use lib.Dec.{eqb}
+use lib.ListN.{take}
+use Rattle.semigroups.specs.Lists.{at}
 use Rattle.semigroups.specs.Tables.{product, Element}
-use Rattle.backtrack.proofs.Placing.{image-element, fits-inside, fits-outside}
+use Rattle.backtrack.proofs.Placing.{next-element, fits-inside, fits-itself, fits-outside}
 use Rattle.backtrack.proofs.pair_fits.Statement.{statement}
 use Rattle.backtrack.proofs.pair_fits.Tie as tie
 
 times-requires : tie.Need-times-requires
 times-requires c κs = search needs
 
-sub-x : tie.Need-sub-x
-sub-x c = search needs
+image-of-requires : tie.Need-image-of-requires
+image-of-requires c κs =
+    let z = c .before .before .before in
+    let o = z .pre .0 .1 .order in
+    let x = z .pre .1 .0 .0 in
+    ((x .long, x .room, z .pre .1 .1 .0), λ h. let e = x .placed (z .args .a) h in omega arith)
 
-element-copy-out-x : tie.Need-element-copy-out-x
-element-copy-out-x c = search needs
-
-cast-x : tie.Need-cast-x
-cast-x c =
+image-of-requires-2 : tie.Need-image-of-requires-2
+image-of-requires-2 c κs =
     let z = c .before .before .before .before in
     let o = z .pre .0 .1 .order in
-    let e = image-element (z .args .n) (z .args .image .now) (z .args .used .now) (z .args .len) (z .pre .1 .0 .0) (z .args .a) (z .pre .1 .1 .0) in
-    omega arith
-
-sub-y : tie.Need-sub-y
-sub-y c = search needs
-
-element-copy-out-y : tie.Need-element-copy-out-y
-element-copy-out-y c = search needs
-
-cast-y : tie.Need-cast-y
-cast-y c =
-    let z = c .before .before .before .before .before in
-    let o = z .pre .0 .1 .order in
-    let e = image-element (z .args .n) (z .args .image .now) (z .args .used .now) (z .args .len) (z .pre .1 .0 .0) (z .args .b) (z .pre .1 .1 .1) in
-    omega arith
+    let x = z .pre .1 .0 .0 in
+    ((x .long, x .room, z .pre .1 .1 .1), λ h. let e = x .placed (z .args .b) h in omega arith)
 
 times-requires-2 : tie.Need-times-requires-2
 times-requires-2 c κs =
     let z = c .before .before .before .before .before in
-    let element : (i : ℕ) → Element (z .args .len) i → Element (z .args .n) (getD (z .args .image .now) (i - 1) 0) = image-element (z .args .n) (z .args .image .now) (z .args .used .now) (z .args .len) (z .pre .1 .0 .0) in
-    (z .pre .0 .1, (element (z .args .a) (z .pre .1 .1 .0), element (z .args .b) (z .pre .1 .1 .1)))
+    let a = z .args in
+    let element : (i y : ℕ) → Element (a .len + 1) i → y ≡ at (take (a .len) (a .image .now) ++ a .x ∷ []) i → Element (a .n) y =
+    (λ i y h e. subst (Element (a .n)) (sym e) (next-element (a .n) (a .image .now) (a .used .now) (a .len) (a .x) (z .pre .1 .0 .0) i h)) in
+    let y = c .before .image-of in
+    let v = c .image-of2 in
+    (z .pre .0 .1, (element (a .a) (y .result) (z .pre .1 .1 .0) (y .ensures), element (a .b) (v .result) (z .pre .1 .1 .1) (v .ensures)))
 
-sub-result : tie.Need-sub-result
-sub-result c = search needs
+add-if1 : tie.Need-add-if1
+add-if1 c = search needs
 
-element-copy-out-result : tie.Need-element-copy-out-result
-element-copy-out-result c = search needs
-
-cast-result : tie.Need-cast-result
-cast-result c =
-    let z = c .before .before .before .before .before .before .before .before in
+image-of-requires-3 : tie.Need-image-of-requires-3
+image-of-requires-3 c κs =
+    let z = c .before .before .before .before .before .before .before in
     let o = z .pre .0 .1 .order in
-    let w = c .before .before .before .before .before .times in
-    let e = image-element (z .args .n) (z .args .image .now) (z .args .used .now) (z .args .len) (z .pre .1 .0 .0) (w .result) (w .ensures .1 .0, c .before .if1 .taken) in
-    omega arith
+    let x = z .pre .1 .0 .0 in
+    let p = c .before .before .before .before .times in
+    ((x .long, x .room, (p .ensures .1 .0, c .if1 .taken)), λ h. let e = x .placed (p .result) h in omega arith)
 
 returns : tie.Need-returns
 returns c =
     let z = c .before .before .before .before .before .before .before .before in
-    let w = c .before .before .before .before .before .times in
-    fits-inside (z .args .n) (z .args .image .now) (z .args .used .now) (z .args .len) (z .pre .1 .0 .0) (product (z .args .m) (z .args .source .now)) (product (z .args .n) (z .args .target .now)) (z .args .a) (z .args .b) (z .pre .1 .1 .0) (z .pre .1 .1 .1)
-    (w .result) (c .before .before .times2 .result) (w .ensures .0) (c .before .before .times2 .ensures .0) (w .ensures .1 .0) (c .before .if1 .taken)
-
-element-copy-out-result-2 : tie.Need-element-copy-out-result-2
-element-copy-out-result-2 c = search needs
+    let a = z .args in
+    let p = c .before .before .before .before .before .times in
+    let y = c .before .before .before .before .image-of in
+    let u = c .before .before .before .image-of2 in
+    let v = c .before .before .times2 in
+    let i = c .image-of3 in
+    let t = product (a .n) (a .target .now) in
+    ap (λ (w : ℕ). eqb w (v .result)) (i .ensures)
+    ∙ fits-inside (a .n) (a .image .now) (a .used .now) (a .len) (a .x) (z .pre .1 .0 .0) (product (a .m) (a .source .now)) t (a .a) (a .b) (p .result) (v .result) (p .ensures .0) (v .ensures .0 ∙ ap₂ t (y .ensures) (u .ensures)) (c .before .if1 .taken)
 
 returns-2 : tie.Need-returns-2
 returns-2 c =
     let z = c .before .before .before .before .before .before .before .before in
-    let w = c .before .before .before .before .before .times in
+    let a = z .args in
+    let p = c .before .before .before .before .before .times in
+    let y = c .before .before .before .before .image-of in
+    let u = c .before .before .before .image-of2 in
     let v = c .before .before .times2 in
+    let t = product (a .n) (a .target .now) in
+    fits-itself (a .n) (a .image .now) (a .used .now) (a .len) (a .x) (z .pre .1 .0 .0) (product (a .m) (a .source .now)) t (a .a) (a .b) (p .result) (v .result) (p .ensures .0) (v .ensures .0 ∙ ap₂ t (y .ensures) (u .ensures)) (c .before .if1 .left) (c .if2 .taken)
+
+element-copy-out-result : tie.Need-element-copy-out-result
+element-copy-out-result c = search needs
+
+returns-3 : tie.Need-returns-3
+returns-3 c =
+    let z = c .before .before .before .before .before .before .before .before .before in
+    let a = z .args in
+    let p = c .before .before .before .before .before .before .times in
+    let y = c .before .before .before .before .before .image-of in
+    let u = c .before .before .before .before .image-of2 in
+    let v = c .before .before .before .times2 in
+    let t = product (a .n) (a .target .now) in
     let o = z .pre .0 .1 .order in
     let e = v .ensures .1 in
     let small : v .result ≤ 120 = omega arith in
-    fits-outside (z .args .n) (z .args .image .now) (z .args .used .now) (z .args .len) (z .pre .1 .0 .0) (product (z .args .m) (z .args .source .now)) (product (z .args .n) (z .args .target .now)) (z .args .a) (z .args .b) (z .pre .1 .1 .0) (z .pre .1 .1 .1)
-    (w .result) (v .result) (w .ensures .0) (v .ensures .0) small (c .before .if1 .left)
+    fits-outside (a .n) (a .image .now) (a .used .now) (a .len) (a .x) (z .pre .1 .0 .0) (product (a .m) (a .source .now)) t (a .a) (a .b) (p .result) (v .result) (p .ensures .0) (v .ensures .0 ∙ ap₂ t (y .ensures) (u .ensures)) small (c .before .before .if1 .left) (c .before .if2 .left)
 
 pub pair-fits-spec : {M : Type 1} → statement M
 pair-fits-spec =
     tie.close
     (tie.spec
     times-requires
-    sub-x
-    element-copy-out-x
-    cast-x
-    sub-y
-    element-copy-out-y
-    cast-y
+    image-of-requires
+    image-of-requires-2
     times-requires-2
-    sub-result
-    element-copy-out-result
-    cast-result
+    add-if1
+    image-of-requires-3
     returns
-    element-copy-out-result-2
-    returns-2)
+    returns-2
+    element-copy-out-result
+    returns-3)

@@ -1,12 +1,9 @@
--- `Partial::settled` meets its contract: both marks are asked. Assumes nothing.
+-- `settled` meets its contract: both marks are asked. Assumes nothing.
 use mathlib.Core.Path.{sym, _∙_}
 use borrow.Author.Tests.{not-true, not-false}
 use borrow.Author.Needs.{needs}
-use Rattle.backtrack.proofs.Partial.settled.Statement.{statement}
-use Rattle.backtrack.proofs.Partial.settled.Tie as tie
-
-add-next : tie.Need-add-next
-add-next c = search needs
+use Rattle.backtrack.proofs.settled.Statement.{statement}
+use Rattle.backtrack.proofs.settled.Tie as tie
 
 element-copy-out-allowed : tie.Need-element-copy-out-allowed
 element-copy-out-allowed c = search needs
@@ -30,7 +27,6 @@ pub settled-spec : {M : Type 1} → statement M
 settled-spec =
     tie.close
     (tie.spec
-    add-next
     element-copy-out-allowed
     allowed-requires
     returns
