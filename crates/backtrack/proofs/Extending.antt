@@ -1,6 +1,4 @@
 -- One call of the search over a partial map: what is left of it, turn by turn. Assumes nothing.
--- Nothing placed.
--- What a call is to answer, and what is left of it from x on.
 use mathlib.Core.Path.{_≡_, sym, ap, ap₂, _∙_}
 use mathlib.Core.Bool.{Bool, true, false, cond, not, _&&_}
 use mathlib.Core.Option.{Option, none, some}
@@ -25,6 +23,7 @@ use Rattle.backtrack.proofs.Placing.{prefix-length, used-image}
 use Rattle.backtrack.proofs.Noting.{marks-refuse, pairs-refuse, both-allow}
 use Rattle.backtrack.proofs.Steps.{lowest, leftFrom, whole, begin, end, isOpen, shut, fails, back, hit, still}
 
+-- Nothing placed.
 pub start : (s : Product) (m : ℕ) (t : Product) (n : ℕ) (scratch after : List ℕ) (tight : Bool) (p : Partial) → p .len ≡ 0 → Holds s n t p → scratchSize m n ≤ length scratch → length after ≡ m
     → Reached s m t n scratch after tight p
 unfolding passes all elements range
@@ -38,6 +37,7 @@ start s m t n scratch after tight p e H space bound =
       same = λ _. rw e;
     }
 
+-- What a call is to answer, and what is left of it from x on.
 abbrev pub Called : Product → ℕ → Product → ℕ → List ℕ → List ℕ → Bool → Partial → Option (List ℕ)
 Called s m t n scratch after tight p = search s t (marked n scratch) (asked tight after) n (m - p .len) (prefix p)
 

@@ -1,13 +1,5 @@
 -- Marks and the pairs of the new element decide what all pairs decide. The idea: a pair placed before can fail now only where its product is the new
 -- element and its target product another one, or the other way round. Assumes nothing.
--- ---- one more value asked
--- Marks after one more pair, which asks y₀ of c₀.
--- ---- one more element
--- A test over 1 to k + 1 is one over 1 to k, and one at k + 1.
--- Tests that agree at 1 to k.
--- The pairs of k + 1 elements are those of k, and those of the last.
--- ---- the test by marks is the test of all pairs
--- ---- the pairs of the newest element, one after another
 use mathlib.Core.Path.{_≡_, refl, sym, ap, ap₂, subst, _∙_}
 use mathlib.Core.Logic.{_⊎_, inl, inr, ⊎-elim}
 use mathlib.Core.Bool.{Bool, true, false, cond, not, _&&_, _||_, and-true, and-false, or-true, or-false, or-assoc}
@@ -28,6 +20,8 @@ use Rattle.semigroups.proofs.NoRepeats.{place-mem}
 use Rattle.semigroups.proofs.Completions.{allFrom, all-step}
 use Rattle.backtrack.specs.Marks.{allows, merge, noted, imageProduct, asks, agreeOn, cross, newFits, Reads}
 
+-- ---- one more value asked
+
 merge-allows : (v y₀ y : ℕ) → 1 ≤ y₀ → y ≤ 120 → allows (merge v y₀) y ≡ (allows v y && eqb y₀ y)
 merge-allows v y₀ y lo hi =
     elim (eqb v 0) as (λ w. eqb v 0 ≡ w → allows (cond (w || eqb v y₀) y₀ 255) y ≡ ((w || eqb v y) && eqb y₀ y)) [
@@ -40,6 +34,7 @@ merge-allows v y₀ y lo hi =
       ] refl)
     ] refl
 
+-- Marks after one more pair, which asks y₀ of c₀.
 pub note-reads : (marks : List ℕ) (q : ℕ → ℕ → Bool) (c₀ y₀ : ℕ) → length marks ≡ 121 → Element 120 c₀ → Element 120 y₀ → Reads marks q
     → Reads (noted marks c₀ y₀) (λ c y. q c y && (not (eqb c₀ c) || eqb y₀ y))
 note-reads marks q c₀ y₀ l hc hy R c y hc′ hy′ =
@@ -56,18 +51,23 @@ note-reads marks q c₀ y₀ l hc hy R c y hc′ hy′ =
           ∙ R c y hc′ hy′ ∙ sym (and-true (q c y)))
     ] refl
 
+-- ---- one more element
+
+-- A test over 1 to k + 1 is one over 1 to k, and one at k + 1.
 pub each-more : (k : ℕ) (p : ℕ → Bool) → all p (elements (suc k)) ≡ (all p (elements k) && p (suc k))
 each-more k p =
     same-truth (all p (elements (suc k))) (all p (elements k) && p (suc k))
     (λ h. both (all p (elements k)) (p (suc k)) (each-of k p (λ i w. each-at (suc k) p h i (omega arith))) (each-at (suc k) p h (suc k) (omega arith)))
     (λ h. each-of (suc k) p (λ i w. ⊎-elim (λ (e : i ≡ suc k). ap p e ∙ and-right (all p (elements k)) (p (suc k)) h) (λ (l : i < suc k). each-at k p (and-left (all p (elements k)) (p (suc k)) h) i (omega arith)) (eq-or-lt-of-le (w .1))))
 
+-- Tests that agree at 1 to k.
 pub each-same : (k : ℕ) (p q : ℕ → Bool) → ((i : ℕ) → Element k i → p i ≡ q i) → all p (elements k) ≡ all q (elements k)
 each-same k p q h =
     same-truth (all p (elements k)) (all q (elements k))
     (λ e. each-of k q (λ i w. sym (h i w) ∙ each-at k p e i w))
     (λ e. each-of k p (λ i w. h i w ∙ each-at k q e i w))
 
+-- The pairs of k + 1 elements are those of k, and those of the last.
 square-more : (p : ℕ → ℕ → Bool) (k : ℕ) → all (λ a. all (p a) (elements (suc k))) (elements (suc k)) ≡ (all (λ a. all (p a) (elements k)) (elements k) && all (λ j. cross p (suc k) j) (elements (suc k)))
 square-more p k =
     same-truth whole (old && new)
@@ -96,6 +96,8 @@ square-more p k =
 pub agreeOn-more : (u v : Product) (k c y : ℕ) → agreeOn u v (suc k) c y ≡ (agreeOn u v k c y && all (λ j. cross (asks u v c y) (suc k) j) (elements (suc k)))
 unfolding agreeOn
 agreeOn-more u v k c y = square-more (asks u v c y) k
+
+-- ---- the test by marks is the test of all pairs
 
 asked : (u v c y : ℕ) → (not (eqb u c) || eqb v y) ≡ true → u ≡ c → v ≡ y
 asked u v c y e q = ⊎-elim (λ h. absurd (eqb-false u c (not-true (eqb u c) h) q)) (λ h. eqb-true v y h) (or-holds (not (eqb u c)) (eqb v y) e)
@@ -211,6 +213,8 @@ module _ (m : ℕ) (s t : Product) (closed : Closed m s) (f : List ℕ) (x : ℕ
     pub settle : passes s t g ≡ (agreeOn s (imageProduct t f) k (suc k) x && agreeOn (imageProduct t f) s k x (suc k) && newFits s t g)
     unfolding passes newFits
     settle = rw (length-snoc f x) (square-more (fits s t g) k ∙ ap (λ (b : Bool). b && all (λ j. cross (fits s t g) (suc k) j) (elements (suc k))) old-pairs)
+
+-- ---- the pairs of the newest element, one after another
 
 module _ (p : ℕ → ℕ → Bool) (k j : ℕ) (h : j ≤ k) where
   pub first-fails : p j k ≡ false → allFrom (cross p k) k j ≡ false

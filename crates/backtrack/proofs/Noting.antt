@@ -1,10 +1,4 @@
 -- The marks as pairs are noted and an element is placed, and what they decide of the next image. Assumes nothing.
--- ---- the pairs of the newest element
--- What marks say of the pairs of the first k elements and the first j pairs with the next.
--- One array of marks, after both pairs of elements j + 1 and k + 1.
--- Nothing placed, nothing asked.
--- ---- one turn of the loop that notes the pairs of the newest element
--- ---- a partial map
 use mathlib.Core.Path.{_≡_, sym, ap, ap₂, subst, _∙_}
 use mathlib.Core.Bool.{Bool, true, false, _&&_, and-true, and-false, and-assoc}
 use mathlib.Core.List.{List, [], _∷_, _++_}
@@ -22,9 +16,13 @@ use Rattle.backtrack.specs.declared.Partial.{Partial}
 use Rattle.backtrack.proofs.Placing.{prefix-length, prefix-at, image-element}
 use Rattle.backtrack.proofs.Marks.{note-reads, each-more, agreeOn-more, agreeOn-forced, agreeOn-owner, settle}
 
+-- ---- the pairs of the newest element
+
+-- What marks say of the pairs of the first k elements and the first j pairs with the next.
 abbrev said : Product → Product → ℕ → ℕ → ℕ → ℕ → Bool
 said u v k j c y = agreeOn u v k c y && all (λ i. cross (asks u v c y) (suc k) i) (elements j)
 
+-- One array of marks, after both pairs of elements j + 1 and k + 1.
 both-noted : (u v : Product) (k j : ℕ) (marks : List ℕ) → length marks ≡ 121 → Element 120 (u (suc j) (suc k)) → Element 120 (v (suc j) (suc k)) → Element 120 (u (suc k) (suc j)) → Element 120 (v (suc k) (suc j))
     → Reads marks (said u v k j)
     → Reads (noted (noted marks (u (suc j) (suc k)) (v (suc j) (suc k))) (u (suc k) (suc j)) (v (suc k) (suc j))) (said u v k (suc j))
@@ -67,6 +65,7 @@ module _ (s t : Product) (f : List ℕ) (k : ℕ) where
         reserved = λ c y hc hy. W .reserved c y hc hy ∙ sym (and-true (agreeOn v s (suc k) c y) ∙ agreeOn-more v s k c y);
       }
 
+-- Nothing placed, nothing asked.
 pub nothing-noted : (s t : Product) → Tracks s t [] 0 0 (replicate 121 0) (replicate 121 0)
 unfolding agreeOn all elements range
 nothing-noted s t =
@@ -100,6 +99,8 @@ module _ (m : ℕ) (s t : Product) (closed : Closed m s) (f : List ℕ) (x : ℕ
       settle m s t closed f x short pass fresh
       ∙ ap (λ (b : Bool). b && newFits s t (f ++ x ∷ []))
       (ap₂ _&&_ (ap (λ (i : ℕ). agreeOn s (imageProduct t f) k i x) (sym (add-one k)) ∙ sym F) (ap (λ (i : ℕ). agreeOn (imageProduct t f) s k x i) (sym (add-one k)) ∙ sym O))
+
+-- ---- one turn of the loop that notes the pairs of the newest element
 
 module _ (m : ℕ) (s : Product) (n : ℕ) (t : Product) (source : Closed m s) (target : Closed n t) (hm : m ≤ 120) (hn : n ≤ 120)
     (image used : List ℕ) (len : ℕ) (P : Placing n image used len) (fit : len ≤ m) (j : ℕ) (hj : Element len j) where
@@ -137,6 +138,8 @@ module _ (m : ℕ) (s : Product) (n : ℕ) (t : Product) (source : Closed m s) (
   turns-done h i e forced owner W =
       let last : suc (len - 1) ≡ len = omega arith in
       subst (λ (k : ℕ). Tracks s t f k 0 forced owner) last (all-noted s t f (len - 1) forced owner (subst (λ (k : ℕ). Tracks s t f (len - 1) k forced owner) (let z : i - 1 ≡ suc (len - 1) = omega arith in z) W))
+
+-- ---- a partial map
 
 module _ (m : ℕ) (s : Product) (n : ℕ) (t : Product) (closed : Closed m s) (p : Partial) (H : Holds s n t p) (room : p .len < m) (x : ℕ) where
   long : length (prefix p) ≡ p .len

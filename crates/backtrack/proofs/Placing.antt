@@ -1,5 +1,4 @@
 -- The images placed and the target elements used, as a pair is looked up and as an element is placed. Assumes nothing.
--- Nothing placed.
 use mathlib.Core.Path.{_≡_, refl, sym, ap, subst, _∙_}
 use mathlib.Core.Bool.{Bool, true, false, cond, not, _||_, or-true, or-false}
 use mathlib.Core.Logic.{⊎-elim}
@@ -154,6 +153,7 @@ module _ (n : ℕ) (image used : List ℕ) (len : ℕ) (P : Placing n image used
           uses = λ y hy e. P .uses y hy ∙ ap (λ (b : Bool). cond b 1 0) (earlier-used y e);
         }
 
+-- Nothing placed.
 pub no-placing : (n : ℕ) → Placing n (replicate 120 0) (replicate 121 0) 0
 unfolding member
 no-placing n =

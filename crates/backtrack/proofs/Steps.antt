@@ -1,8 +1,5 @@
 -- The steps of one call of the search, over the values that it holds: what is left of the search at x is the answer at x, or what is left at x + 1.
 -- Assumes nothing.
--- The smallest next entry that is not too early.
--- The answer at x of the search behind p, where d elements are left to place after x.
--- What is left of it from x on.
 use mathlib.Core.Path.{_≡_, refl, sym, ap, ap₂, _∙_}
 use mathlib.Core.Bool.{Bool, true, false, cond, not, _&&_, and-false}
 use mathlib.Core.Logic.{_⊎_, inl, inr}
@@ -23,12 +20,15 @@ use Rattle.semigroups.proofs.ListOrder.{earlier-skip, earlier-above, earlier-he
 use Rattle.semigroups.proofs.Completions.{firstFrom, first-start, first-skip, first-hit, first-end, firstOf-same}
 use Rattle.backtrack.specs.State.{asked}
 
+-- The smallest next entry that is not too early.
 abbrev pub lowest : Bool → List ℕ → ℕ → ℕ
 lowest tight after i = cond tight (getD after i 0) 0
 
+-- The answer at x of the search behind p, where d elements are left to place after x.
 abbrev answerAt : Product → Product → (ℕ → ℕ → Bool) → Ask → ℕ → ℕ → List ℕ → ℕ → Option (List ℕ)
 answerAt s t candidate ask n d p x = cond (admits s t candidate ask p x) (search s t candidate ask n d (p ++ x ∷ [])) none
 
+-- What is left of it from x on.
 unfoldable pub leftFrom : Product → Product → (ℕ → ℕ → Bool) → Ask → ℕ → ℕ → List ℕ → ℕ → Option (List ℕ)
 leftFrom s t candidate ask n d p x = firstFrom (answerAt s t candidate ask n d p) n x
 
