@@ -1,11 +1,4 @@
 -- The questions of a search in the code's order, and what the marked search finds. Assumes nothing.
--- ---- the questions
--- ---- what the search finds
--- Where the orders do not fit there is no map.
--- The search over the marks of a kind finds what is asked for, where the orders fit.
--- ---- a call behind its questions
--- What is asked of the search is what is asked of the call.
--- ---- what is said and left
 use mathlib.Core.Path.{_≡_, refl, sym, ap, ap₂, _∙_, subst}
 use mathlib.Core.Bool.{Bool, true, false}
 use mathlib.Core.List.{List, []}
@@ -28,6 +21,8 @@ use Rattle.backtrack.specs.State.{foundMap, asked}
 use Rattle.search.specs.Calls.{Lent, Request, askOf, answerOf, scratchOf, answered}
 use Rattle.search.specs.Answers.{requestOf, orderFits}
 
+-- ---- the questions
+
 module _ (m : ℕ) (source : List ℕ) (n : ℕ) (target : List ℕ) (k l : ℕ) where
   pub tables-refused : (r : Refusal) → tablesRefusal m source n target ≡ some r → searchRefusal m source n target k l ≡ some r
   unfolding searchRefusal checkRefusal firstNo orElse
@@ -45,10 +40,13 @@ module _ (m : ℕ) (source : List ℕ) (n : ℕ) (target : List ℕ) (k l : ℕ)
   unfolding searchRefusal checkRefusal firstNo orElse
   none-refused e q h = rw (e, eq-eqb k m q, le-leb (scratchSize m n) l h)
 
+-- ---- what the search finds
+
 earliest-empty : (ask : Ask) → earliest ask [] ≡ none
 unfolding earliest find
 earliest-empty ask = refl
 
+-- Where the orders do not fit there is no map.
 pub unfit : (kind : Kind) (m : ℕ) (s : Product) (n : ℕ) (t : Product) → orderFits kind m n ≡ false → (ask : Ask) → earliest ask (maps kind m s n t) ≡ none
 unfit embeddings m s n t e ask = ap (earliest ask) (no-embedding m s n t (leb-false m n e)) ∙ earliest-empty ask
 unfit isomorphisms m s n t e ask = ap (earliest ask) (no-isomorphism m s n t (eqb-false m n e)) ∙ earliest-empty ask
@@ -71,6 +69,7 @@ found-isomorphism n s t source target scratch ask =
     (marked-sound n s n t source target scratch (candidate isomorphisms n s n t) (profile-sound n s t source target)) ask
     ∙ ap (earliest ask) (sym (one-order n s t))
 
+-- The search over the marks of a kind finds what is asked for, where the orders fit.
 pub finds : (kind : Kind) (m : ℕ) (s : Product) (n : ℕ) (t : Product) → Closed m s → Closed n t → (scratch : List ℕ) → orderFits kind m n ≡ true → (ask : Ask)
     → searched s t (marked n (scratchAfter m n (candidate kind m s n t) scratch)) ask n m [] ≡ earliest ask (maps kind m s n t)
 finds embeddings m s n t source target scratch e ask = found-embedding m s n t source target scratch ask
@@ -79,6 +78,9 @@ finds isomorphisms m s n t source target scratch e ask =
     subst (λ (k : ℕ). Closed k t → searched s t (marked k (scratchAfter m k (candidate isomorphisms m s k t) scratch)) ask k m [] ≡ earliest ask (maps isomorphisms m s k t)) q
     (λ target. found-isomorphism m s t source target scratch ask) target
 
+-- ---- a call behind its questions
+
+-- What is asked of the search is what is asked of the call.
 asked-request : (later : Bool) (bytes : List ℕ) → asked later bytes ≡ askOf (requestOf later) bytes
 asked-request true bytes = refl
 asked-request false bytes = refl
@@ -98,6 +100,8 @@ module _ (kind : Kind) (later : Bool) (l : Lent) (source : Closed (l .m) (produc
   answer-found e scratch es r a =
       a ∙ ap₂ (λ (b : List ℕ) (q : Ask). searched (product (l .m) (l .source)) (product (l .n) (l .target)) (marked (l .n) b) q (l .n) (l .m) []) es (asked-request later (l .map))
       ∙ finds kind (l .m) (product (l .m) (l .source)) (l .n) (product (l .n) (l .target)) source target (l .scratch) e (askOf request (l .map))
+
+-- ---- what is said and left
 
 module _ (o : Option (List ℕ)) (bytes scratch : List ℕ) where
   pub nothing-left : o ≡ none → (nothing ≡ answered o bytes scratch .says) × (bytes ≡ answered o bytes scratch .map)

@@ -1,6 +1,4 @@
 -- Laws of sums and counts over a list. Assumes nothing.
--- ---- how often a number stands in a list
--- A number that stands in a list with no entry twice stands there once.
 use mathlib.Core.Path.{_≡_, refl, sym, ap, ap₂, _∙_}
 use mathlib.Core.Bool.{Bool, true, false, cond}
 use mathlib.Core.Logic.{_⊎_, inl, inr}
@@ -75,6 +73,9 @@ module _ {A B : Type 0} where
   sum-swap w [] r = sym (sum-zeros r)
   sum-swap w (x ∷ l) r = ap (λ (b : ℕ). sum (w x) r + b) (sum-swap w l r) ∙ sym (sum-add (w x) (λ y. sum (λ z. w z y) l) r)
 
+-- ---- how often a number stands in a list
+
+-- A number that stands in a list with no entry twice stands there once.
 pub count-once : (x : ℕ) (l : List ℕ) → NoRepeats l → List·Memᴰ x l → count (eqb x) l ≡ 1
 unfolding count sum
 count-once x [] u m = absurd (List·Memᴰ·not-nil m)
