@@ -152,15 +152,15 @@ fn time_embeddings() {
         let name = format!("first_embedding, {name}");
         time_search(&name, tickdrizzle::first_embedding, plain::first_embedding, source, target);
     };
-    let show = example(include_bytes!("../../../../examples/touring/source.csv"));
-    let rig = example(include_bytes!("../../../../examples/touring/target.csv"));
+    let part = example(include_bytes!("../../../../examples/touring/source.csv"));
+    let whole = example(include_bytes!("../../../../examples/touring/target.csv"));
     time("group of order 2 in degree 3: 19 trials", &cyclic_group(2), &transformations());
     time("left zeros, 60 in 120: 60 trials", &left_zero(60), &left_zero(120));
     time("chain of 120 onto itself: 120 trials", &chain(120), &chain(120));
     time("null table of order 120 onto itself: 120 trials", &null(120), &null(120));
     let band = relabelled(&rectangular_band(4, 5));
     time("rectangular band 4 by 5 in 8 by 15: 400 trials", &band, &rectangular_band(8, 15));
-    time("examples/touring, 31 in 59: 652 trials", &show, &rig);
+    time("examples/touring, 31 in 59: 652 trials", &part, &whole);
     time("chain of 7 in unions of 5 points, none: 61 thousand trials", &chain(7), &unions(5));
     time("chain of 8 in unions of 6 points, none: 1.1 million trials", &chain(8), &unions(6));
     let (band, narrow) = (rectangular_band(3, 3), rectangular_band(2, 20));
