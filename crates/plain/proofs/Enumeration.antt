@@ -16,7 +16,7 @@ use Rattle.semigroups.specs.Tables.{Element, IsList}
 use Rattle.semigroups.proofs.NoRepeats.{place-mem, place-unique}
 use Rattle.semigroups.proofs.ListOrder.{earlier-tail, lists-increasing, increasing-no-repeats, mem-lists, length-lists}
 use Rattle.semigroups.proofs.Tables.{list-at}
-use Rattle.transformations.proofs.Digits.{digits, list-place, drop-digit, last-digit}
+use Rattle.semigroups.proofs.Digits.{digits, list-place, drop-digit, last-digit}
 use Rattle.plain.specs.Enumeration.{numbered}
 
 -- ---- how many lists there are

@@ -19,7 +19,7 @@ use Rattle.semigroups.proofs.Composition.{at-after, length-after}
 use Rattle.semigroups.proofs.Tables.{list-at, length-grid, grid-at, place-below}
 use Rattle.semigroups.proofs.Transformations.{transformation-list, product-composite, transformations-closed, length-cells}
 use Rattle.transformations.specs.Answers.{transformationSays, cellsAfter, imageBytes}
-use Rattle.transformations.proofs.Digits.{digits, digit-below, digits-number, digits-take, drop-digit, last-digit}
+use Rattle.semigroups.proofs.Digits.{digits, digit-below, digits-number, digits-take, drop-digit, last-digit}
 
 -- ---- one transformation
 

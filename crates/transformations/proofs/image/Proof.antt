@@ -7,7 +7,7 @@ use borrow.Author.Needs.{needs}
 use lib.ListN.{take}
 use Rattle.semigroups.specs.Tables.{Element}
 use Rattle.semigroups.specs.Transformations.{transformation}
-use Rattle.transformations.proofs.Digits.{digits}
+use Rattle.semigroups.proofs.Digits.{digits}
 use Rattle.transformations.proofs.Degrees.{image-element, image-start, image-next, image-last}
 use Rattle.transformations.proofs.image.Statement.{statement}
 use Rattle.transformations.proofs.image.Tie as tie

@@ -4,7 +4,7 @@ use Prim.Native.Nat.{suc, _-_}
 use native.Mathlib.Omega.{arith}
 use Rattle.semigroups.specs.Lists.{at}
 use Rattle.semigroups.specs.Transformations.{transformation}
-use Rattle.transformations.proofs.Writing.{AtRow, AtCell, grid-begin, row-begin, place-inside, cell-next, row-length, row-end, grid-end}
+use Rattle.semigroups.proofs.Writing.{AtRow, AtCell, grid-begin, row-begin, place-inside, cell-next, row-length, row-end, grid-end}
 use Rattle.transformations.proofs.Degrees.{order-small, image-room, image-element, number-of, images-written}
 use Rattle.transformations.proofs.image_lists.Statement.{statement}
 use Rattle.transformations.proofs.image_lists.Tie as tie

@@ -4,7 +4,7 @@ use Prim.Native.Nat.{suc, _-_}
 use native.Mathlib.Omega.{arith}
 use Rattle.semigroups.specs.Transformations.{transformationProduct}
 use Rattle.semigroups.proofs.Transformations.{transformations-closed}
-use Rattle.transformations.proofs.Writing.{AtRow, AtCell, grid-begin, row-begin, place-inside, cell-length, cell-next, row-length, row-end, grid-end}
+use Rattle.semigroups.proofs.Writing.{AtRow, AtCell, grid-begin, row-begin, place-inside, cell-length, cell-next, row-length, row-end, grid-end}
 use Rattle.transformations.proofs.Degrees.{order-range, order-small, cell-room, number-of, table-written}
 use Rattle.transformations.proofs.write.Statement.{statement}
 use Rattle.transformations.proofs.write.Tie as tie

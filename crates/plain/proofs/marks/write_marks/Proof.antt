@@ -6,7 +6,7 @@ use borrow.Author.Needs.{needs}
 use denote.Ref.{now}
 use lib.ListN.{length}
 use Rattle.semigroups.specs.Scratch.{scratchSize}
-use Rattle.transformations.proofs.Writing.{AtRow, AtCell, grid-begin, row-begin, place-inside, cell-length, cell-next, row-length, row-end, grid-end}
+use Rattle.semigroups.proofs.Writing.{AtRow, AtCell, grid-begin, row-begin, place-inside, cell-length, cell-next, row-length, row-end, grid-end}
 use Rattle.plain.specs.Marks.{kindOf}
 use Rattle.plain.proofs.Marking.{markAt, mark-at, marks-small, marks-grid}
 use Rattle.plain.proofs.marks.write_marks.Statement.{statement}
