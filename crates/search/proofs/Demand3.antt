@@ -6,10 +6,10 @@ use mathlib.Core.Option.{Option, none, some, orElse}
 use Prim.Native.Nat.{ℕ}
 use native.Mathlib.Omega.{arith}
 use lib.ListN.{length, replicate}
-use Rattle.semigroups.specs.Lists.{range, elements, at, all, find, keep, count, sum, member, distinct, earlier, lists}
+use Rattle.semigroups.specs.Lists.{range, elements, at, all, find, keep, firstOf, count, sum, member, distinct, earlier, lists}
 use Rattle.semigroups.specs.Tables.{product, grid, Accepted, isElement, associates, badCell, badTriple}
 use Rattle.semigroups.specs.Scratch.{scratchSize}
-use Rattle.semigroups.specs.Questions.{Refusal, no, firstNo, cellsRefusal, tableRefusal, tablesRefusal, checkRefusal, searchRefusal}
+use Rattle.semigroups.specs.Questions.{Refusal, no, searchRefusal}
 use Rattle.semigroups.specs.Maps.{isHomomorphism, isEmbedding, isIsomorphism, isomorphisms, maps, next, earliest, after}
 use Rattle.semigroups.specs.Walks.{refused, found, nothing, Outcome, held, outcomeOf, nextOutcome, walk, claim}
 use Rattle.semigroups.specs.Transformations.{transformations, transformationOrder, transformation, numberOf, transformationProduct, transformationCells}
@@ -117,7 +117,7 @@ answers-two =
     ∷ record { says = found; buffer = 4 ∷ 2 ∷ 3 ∷ 1 ∷ [] } ∷ record { says = nothing; buffer = 4 ∷ 2 ∷ 3 ∷ 1 ∷ [] } ∷ []
 
 claim-two : claim (refusal (two .order)) (zeros (two .order)) (fullList (two .order) (two .cells) (two .cells)) 0 (map ontoItself scratches) ≡ answers-two
-unfolding ontoItself scratches answers-two refusal two range elements at all find keep count sum member distinct earlier lists product grid isElement associates badCell badTriple firstNo cellsRefusal tableRefusal tablesRefusal checkRefusal searchRefusal scratchSize isHomomorphism isEmbedding isIsomorphism maps after transformations transformationOrder transformation numberOf transformationProduct transformationCells orElse flatMap held
+unfolding ontoItself scratches answers-two refusal two range elements at all find keep count sum member distinct earlier lists product grid isElement associates badCell badTriple firstOf searchRefusal scratchSize isHomomorphism isEmbedding isIsomorphism maps after transformations transformationOrder transformation numberOf transformationProduct transformationCells orElse flatMap held
 claim-two = refl
 
 two-walk : walk nextIsomorphism (map ontoItself scratches) (zeros (two .order)) ≡ answers-two

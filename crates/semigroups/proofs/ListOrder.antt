@@ -152,5 +152,12 @@ find-earliest p m n e q =
       before-others = λ g h. find-first (λ (a b : List ℕ). earlier a b ≡ true) p (lists m n) (lists-increasing m n) e q g (lists-mem m n g (h .0)) (h .1);
     }
 
+-- There is only one earliest list.
+pub earliest-unique : {P : List ℕ → Type 0} {a b : List ℕ} → Earliest P a → Earliest P b → a ≡ b
+earliest-unique {P} {a} {b} h k =
+    ⊎-elim (λ (e : b ≡ a). sym e)
+    (λ (p : earlier a b ≡ true). ⊎-elim (λ (e : a ≡ b). e) (λ (q : earlier b a ≡ true). absurd (clash {b = earlier b a} q (earlier-asymmetric a b p))) (k .before-others a (h .has)))
+    (h .before-others b (k .has))
+
 pub find-nowhere : (p : List ℕ → Bool) (m n : ℕ) → find p (lists m n) ≡ none → (f : List ℕ) → IsList m n f → p f ≡ false
 find-nowhere p m n q f h = find-none p (lists m n) q f (lists-mem m n f h)
