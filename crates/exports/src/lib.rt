@@ -9,12 +9,12 @@ ghost use Rattle.semigroups.specs.Questions.{naming, tableRefusal, elementRefus
 ghost use Rattle.semigroups.specs.Calls.{givenUnless};
 ghost use Rattle.tables.specs.Answers.{sideNumber, faultRefusal, verdictRefusal};
 ghost use Rattle.invariants.specs.Answers.{elementFaultRefusal, indexPeriodSays, profileSays};
-ghost use Rattle.maps.specs.Answers.{mapCheck, answerSays as mapSays};
+ghost use Rattle.maps.specs.Answers.{mapCheck, mapAnswerSays};
 ghost use Rattle.search.specs.Calls.{theFirst, theNext, lend, call};
-ghost use Rattle.search.specs.Answers.{answerSays as searchSays};
-ghost use Rattle.transformations.specs.Answers.{transformationSays, cellsAfter as transformationCellsAfter, answerSays as transformationAnswer};
+ghost use Rattle.search.specs.Answers.{searchAnswerSays};
+ghost use Rattle.transformations.specs.Answers.{transformationSays, transformationCellsAfter, transformationAnswerSays};
 ghost use Rattle.csv.specs.Calls.{loadAnswer, cellsAfter, saveAnswer, textAfter};
-ghost use Rattle.text.specs.Answers.{faultRefusal as textRefusal, loadedAnswer, savedAnswer};
+ghost use Rattle.text.specs.Answers.{textFaultRefusal, loadedAnswer, savedAnswer};
 ghost use Rattle.exports.specs.Answers.{words, refusalWords, questionWords, answerWords, searchWords, indexPeriodValues, profileValues, checkedValues, numberValues};
 use invariants::ElementFault;
 use invariants::IndexPeriodAnswer;
@@ -62,7 +62,7 @@ fn element_words(fault: ElementFault) -> [u64; 8]
 }
 
 fn text_words(fault: TextFault) -> [u64; 8]
-    ensures answer { λ r. ⌜ r ≡ refusalWords (textRefusal fault) ⌝ }
+    ensures answer { λ r. ⌜ r ≡ refusalWords (textFaultRefusal fault) ⌝ }
 {
     match fault {
         TextFault::Length => [20, 0, 0, 0, 0, 0, 0, 0],
@@ -118,7 +118,7 @@ fn profile_words(said: ProfileAnswer) -> [u64; 8]
 }
 
 fn map_words(said: MapAnswer) -> [u64; 8]
-    ensures answer { λ r. ⌜ r ≡ answerWords checkedValues (mapSays said) ⌝ }
+    ensures answer { λ r. ⌜ r ≡ answerWords checkedValues (mapAnswerSays said) ⌝ }
 {
     match said {
         MapAnswer::Refused(side, fault) => side_words(side, fault),
@@ -131,7 +131,7 @@ fn map_words(said: MapAnswer) -> [u64; 8]
 }
 
 fn search_words(said: SearchAnswer) -> [u64; 8]
-    ensures answer { λ r. ⌜ r ≡ searchWords (searchSays said) ⌝ }
+    ensures answer { λ r. ⌜ r ≡ searchWords (searchAnswerSays said) ⌝ }
 {
     match said {
         SearchAnswer::Found => [0, 0, 1, 0, 0, 0, 0, 0],
@@ -143,7 +143,7 @@ fn search_words(said: SearchAnswer) -> [u64; 8]
 }
 
 fn transformation_words(said: TransformationAnswer) -> [u64; 8]
-    ensures answer { λ r. ⌜ r ≡ answerWords numberValues (transformationAnswer said) ⌝ }
+    ensures answer { λ r. ⌜ r ≡ answerWords numberValues (transformationAnswerSays said) ⌝ }
 {
     match said {
         TransformationAnswer::Degree => [8, 0, 0, 0, 0, 0, 0, 0],
