@@ -56,8 +56,8 @@ abbrev pub refusalNumbers : Refusal → Numbers
 refusalNumbers r = record { number = r .number; side = sideOf (r .side); first = getD (r .values) 0 0; second = getD (r .values) 1 0; third = getD (r .values) 2 0 }
 
 -- The same numbers with another side.
-abbrev pub sided : ℕ → Numbers → Numbers
-sided side r = record { number = r .number; side = side; first = r .first; second = r .second; third = r .third }
+abbrev pub numbersNaming : ℕ → Numbers → Numbers
+numbersNaming side r = record { number = r .number; side = side; first = r .first; second = r .second; third = r .third }
 
 -- The numbers lose nothing: at most three values are said. The question's number has at most two digits.
 pub record Brief (r : Refusal) : Type 0 where

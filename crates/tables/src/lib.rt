@@ -1,10 +1,10 @@
 // The four questions about a table: an order and cells, of any content. The first "no" is the answer, with the cell or the triple that is said with it.
 ghost use mathlib.Core.Path.{_≡_};
+ghost use mathlib.Core.List.{[], _∷_};
 ghost use mathlib.Core.Option.{Option·map};
 ghost use Rattle.semigroups.specs.Tables.{Element, Filled, product, badCell, badTriple};
 ghost use Rattle.semigroups.specs.Questions.{no, cellsRefusal, tableRefusal, tablesRefusal};
-ghost use mathlib.Core.List.{[], _∷_};
-ghost use Rattle.tables.specs.Answers.{faultRefusal, verdictRefusal, sideNumber, placeOption, pairRefusal, refusalNumbers, sided};
+ghost use Rattle.tables.specs.Answers.{faultRefusal, verdictRefusal, sideNumber, placeOption, pairRefusal, refusalNumbers, numbersNaming};
 
 // Why a table is refused: questions 1 to 4, with the first cell, counted from 1, or the first triple.
 pub enum Fault {
@@ -74,7 +74,7 @@ impl Refusal {
 
     // The same refusal of one of two tables.
     pub fn naming(self, side: Side) -> Self
-        ensures answer { λ r. ⌜ r ≡ sided (sideNumber side) self ⌝ }
+        ensures answer { λ r. ⌜ r ≡ numbersNaming (sideNumber side) self ⌝ }
     {
         Refusal {
             number: self.number,

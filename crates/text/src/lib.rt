@@ -13,8 +13,8 @@ ghost use Rattle.csv.specs.Tables.{fieldsOf, orderOf, cellsOf, rowFields, table
 ghost use Rattle.csv.specs.Questions.{bytesRefusal, endRefusal, fieldRefusal, fieldsRefusal, gridRefusal};
 ghost use Rattle.semigroups.specs.Calls.{overwritten};
 ghost use Rattle.csv.specs.Calls.{loadAnswer, cellsAfter, saveAnswer, textAfter};
-ghost use Rattle.text.specs.Answers.{textFaultRefusal, judgedRefusal, loadedAnswer, savedAnswer};
 ghost use Rattle.tables.specs.Answers.{refusalNumbers};
+ghost use Rattle.text.specs.Answers.{textFaultRefusal, judgedRefusal, loadedAnswer, savedAnswer};
 use tables::Refusal;
 
 // Why a text is refused: questions 20 to 26, 1 and 27. 21 carries the place of the byte, from 0.
