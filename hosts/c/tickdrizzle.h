@@ -6,14 +6,14 @@
  * A map is one byte for each source element, its image. Elements count from 1, and byte 0 stands for no element.
  *
  * Every buffer is a pointer and a length in bytes; any content and any length, order, element or degree is allowed.
- * What the caller must see to: no pointer is NULL, each points to as many bytes as its length says (answer: to eight
- * numbers), and no buffer that is written overlaps another one; source and target may be one table. The functions keep
- * no pointer and no state.
+ * What the caller must see to: no pointer is NULL, each points to as many bytes as its length says (answer: to
+ * sixteen numbers), and no buffer that is written overlaps another one; source and target may be one table. The functions
+ * keep no pointer and no state.
  *
- * Each call writes all eight numbers of answer:
- *   answer[0]     0, or where the call is refused the number of the earliest failed question (TICKDRIZZLE_NO_...)
- *   answer[1]     the table that a refusal names (TICKDRIZZLE_SOURCE, TICKDRIZZLE_TARGET), else 0
- *   answer[2..7]  the values said below, then zeros
+ * Each call writes all sixteen numbers of answer:
+ *   answer[0]      0, or where the call is refused the number of the earliest failed question (TICKDRIZZLE_NO_...)
+ *   answer[1]      the table that a refusal names (TICKDRIZZLE_SOURCE, TICKDRIZZLE_TARGET), else 0
+ *   answer[2..15]  the values said below, then zeros
  * A refused call changes no byte of any buffer. Bytes behind the part that a call is said to write stay as they were.
  */
 #ifndef TICKDRIZZLE_H
@@ -34,7 +34,7 @@ extern "C" {
 #define TICKDRIZZLE_GREATEST_DEGREE 3
 #define TICKDRIZZLE_MOST_CELLS 14400   /* cells of a table of order 120 */
 #define TICKDRIZZLE_LONGEST_TEXT 57720 /* text of a table of order 120 whose cells have three digits each */
-#define TICKDRIZZLE_ANSWERS 8          /* numbers in an answer */
+#define TICKDRIZZLE_ANSWERS 16         /* numbers in an answer */
 
 /* The questions, by number, each with the values that its refusal carries from answer[2] on. */
 #define TICKDRIZZLE_NO_ORDER 1          /* is the order 1 to 120? */
@@ -47,12 +47,13 @@ extern "C" {
 #define TICKDRIZZLE_NO_DEGREE 8         /* is the degree 1 to 3? */
 #define TICKDRIZZLE_NO_TABLE_ROOM 9     /* has the buffer room for the table of transformations? */
 #define TICKDRIZZLE_NO_TEXT_LENGTH 20   /* is the text 1 to 57720 bytes long? */
-#define TICKDRIZZLE_NO_TEXT_BYTE 21     /* are all bytes digits, commas, CR LF pairs? the first other's place, from 0 */
+#define TICKDRIZZLE_NO_TEXT_BYTE 21     /* is every byte a digit, a comma or part of a CR LF pair? the first other's
+                                           place, from 0 */
 #define TICKDRIZZLE_NO_TEXT_END 22      /* does the text end in CR LF? */
 #define TICKDRIZZLE_NO_FIELD_LENGTH 23  /* is each field 1 to 3 bytes long? */
 #define TICKDRIZZLE_NO_FIELD_START 24   /* is its first byte other than 0? */
 #define TICKDRIZZLE_NO_FIELD_RANGE 25   /* is it at most 120? */
-#define TICKDRIZZLE_NO_SQUARE 26        /* as many records as the first has fields, each with that many? */
+#define TICKDRIZZLE_NO_SQUARE 26        /* are there as many records as the first has fields, each with that many? */
 #define TICKDRIZZLE_NO_CELL_ROOM 27     /* has the buffer room for the cells? */
 #define TICKDRIZZLE_NO_TEXT_ROOM 28     /* has the buffer room for the text? */
 

@@ -1,7 +1,7 @@
 // What is said, as numbers.
 ghost use mathlib.Core.Path.{_≡_};
 ghost use Rattle.tables.specs.Answers.{faultRefusal, verdictRefusal};
-ghost use Rattle.search.specs.Answers.{answerSays};
+ghost use Rattle.search.specs.Answers.{searchAnswerSays as answerSays};
 ghost use Rattle.plain.specs.Said.{refusalSaid, saidOf};
 ghost use Rattle.cases.specs.Said.{sameSaid, saidNumber};
 use plain::Said;

@@ -7,7 +7,7 @@ ghost use lib.Dec.{eqb};
 ghost use lib.ListN.{drop};
 ghost use Rattle.semigroups.specs.Tables.{Accepted};
 ghost use Rattle.search.specs.Calls.{lend, call};
-ghost use Rattle.search.specs.Answers.{answerSays, requestOf};
+ghost use Rattle.search.specs.Answers.{searchAnswerSays as answerSays, requestOf};
 ghost use Rattle.plain.specs.Marks.{kindOf};
 ghost use Rattle.cases.specs.Said.{saidNumber};
 ghost use Rattle.cases.specs.Tally.{Within, Agreed};

@@ -3,3 +3,4 @@ pub mod Counts
 pub mod PerElement
 pub mod Powers
 pub mod Questions
+pub mod Refusals

@@ -7,10 +7,12 @@ ghost use Rattle.semigroups.specs.Tables.{product, Element, Filled};
 ghost use Rattle.semigroups.specs.Questions.{elementRefusal};
 ghost use Rattle.semigroups.specs.Invariants.{index, period, indexPeriod, frequency, diagonalFrequency, rowFrequency, columnFrequency, profile};
 ghost use Rattle.semigroups.specs.Calls.{givenUnless};
-ghost use Rattle.invariants.specs.Answers.{elementVerdictRefusal, indexPeriodValue, indexPeriodSays, profileValue, profileSays};
+ghost use Rattle.tables.specs.Answers.{refusalNumbers};
+ghost use Rattle.invariants.specs.Answers.{elementFaultRefusal, elementVerdictRefusal, indexPeriodValue, indexPeriodSays, profileValue, profileSays};
 ghost use Rattle.invariants.specs.PerElement.{perElement};
 ghost use Rattle.invariants.specs.Counts.{every, occurrences, Reached};
 use tables::Fault;
+use tables::Refusal;
 use tables::Verdict;
 
 // ---- the questions
@@ -19,6 +21,17 @@ use tables::Verdict;
 pub enum ElementFault {
     Table(Fault),
     NotElement,
+}
+
+impl ElementFault {
+    pub fn refusal(self) -> Refusal
+        ensures answer { λ r. ⌜ r ≡ refusalNumbers (elementFaultRefusal self) ⌝ }
+    {
+        match self {
+            ElementFault::Table(fault) => fault.refusal(),
+            ElementFault::NotElement => Refusal::by(7, 0),
+        }
+    }
 }
 
 pub enum ElementVerdict {

@@ -18,13 +18,13 @@ unfoldable pub mapCheck : ℕ → List ℕ → ℕ → List ℕ → List ℕ →
 mapCheck m source n target f = givenUnless (checkRefusal m source n target (length f)) (checkMap m (product m source) n (product n target) f)
 
 -- The number, side and values of each refusal; the element or the pair of each fault.
-abbrev pub answerSays : MapAnswer → Answer Checked
-answerSays (Refused side fault) = refused (naming (sideNumber side) (faultRefusal fault))
-answerSays MapLength = refused (no 5 [])
-answerSays Holds = gives holds
-answerSays (Outside i) = gives (outside i)
-answerSays (EqualImages i j) = gives (equalImages (i ∷ j ∷ []))
-answerSays (WrongProduct i j) = gives (wrongProduct (i ∷ j ∷ []))
+abbrev pub mapAnswerSays : MapAnswer → Answer Checked
+mapAnswerSays (Refused side fault) = refused (naming (sideNumber side) (faultRefusal fault))
+mapAnswerSays MapLength = refused (no 5 [])
+mapAnswerSays Holds = gives holds
+mapAnswerSays (Outside i) = gives (outside i)
+mapAnswerSays (EqualImages i j) = gives (equalImages (i ∷ j ∷ []))
+mapAnswerSays (WrongProduct i j) = gives (wrongProduct (i ∷ j ∷ []))
 
 -- The pair, where there is one.
 abbrev pub pairOption : Pair → Option (List ℕ)

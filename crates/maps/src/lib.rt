@@ -11,7 +11,7 @@ ghost use Rattle.semigroups.specs.Lists.{at};
 ghost use Rattle.semigroups.specs.Tables.{Product, Element, Filled, IsList, product};
 ghost use Rattle.semigroups.specs.MapCheck.{firstEqual, firstWrong, checkMap};
 ghost use Rattle.semigroups.specs.Calls.{gives};
-ghost use Rattle.maps.specs.Answers.{mapCheck, answerSays, pairOption};
+ghost use Rattle.maps.specs.Answers.{mapCheck, mapAnswerSays, pairOption};
 
 pub enum MapAnswer {
     // Questions 1 to 4 of a table, and question 5.
@@ -85,7 +85,7 @@ fn wrong_product(source: &[u8], m: usize, target: &[u8], n: usize, map: &[u8]) -
 // What the check says of m bytes: an image outside the target, equal images, a wrong product, in this order.
 fn examine(source: &[u8], m: usize, target: &[u8], n: usize, map: &[u8]) -> MapAnswer
     requires { ⌜ Filled m (now source) ⌝ ∗ ⌜ Filled n (now target) ⌝ ∗ ⌜ length (now map) ≡ m ⌝ }
-    ensures answer { λ r. ⌜ answerSays r ≡ gives (checkMap m (product m (now (source .entry))) n (product n (now (target .entry))) (now (map .entry))) ⌝ }
+    ensures answer { λ r. ⌜ mapAnswerSays r ≡ gives (checkMap m (product m (now (source .entry))) n (product n (now (target .entry))) (now (map .entry))) ⌝ }
 {
     let place = tables::outside(map, n);
     if let Place::At(i) = place {
@@ -103,7 +103,7 @@ fn examine(source: &[u8], m: usize, target: &[u8], n: usize, map: &[u8]) -> MapA
 
 // Whether the map is an embedding of the source, of order m, in the target, of order n.
 pub fn check(source: &[u8], m: usize, target: &[u8], n: usize, map: &[u8]) -> MapAnswer
-    ensures answer { λ r. ⌜ answerSays r ≡ mapCheck m (now (source .entry)) n (now (target .entry)) (now (map .entry)) ⌝ }
+    ensures answer { λ r. ⌜ mapAnswerSays r ≡ mapCheck m (now (source .entry)) n (now (target .entry)) (now (map .entry)) ⌝ }
 {
     let verdict = tables::check_pair(source, m, target, n);
     if let PairVerdict::Refused(side, fault) = verdict {

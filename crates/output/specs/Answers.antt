@@ -9,5 +9,5 @@ use Rattle.output.specs.declared.FileVerdict.the-variants.{Accepted, Tex
 
 abbrev pub verdictAnswer : FileVerdict → Answer ℕ
 verdictAnswer (Accepted n) = gives n
-verdictAnswer (Text fault) = refused (text.faultRefusal fault)
+verdictAnswer (Text fault) = refused (text.textFaultRefusal fault)
 verdictAnswer (Table fault) = refused (tables.faultRefusal fault)

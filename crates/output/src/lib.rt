@@ -12,7 +12,7 @@ ghost use Rattle.csv.specs.Records.{lineText, rowsText};
 ghost use Rattle.semigroups.specs.Calls.{overwritten};
 ghost use Rattle.csv.specs.Calls.{cellsAfter};
 ghost use Rattle.tables.specs.Answers.{sideNumber, faultRefusal as tableRefusal};
-ghost use Rattle.text.specs.Answers.{faultRefusal as textRefusal};
+ghost use Rattle.text.specs.Answers.{textFaultRefusal as textRefusal};
 ghost use Rattle.search.specs.Calls.{theFirst, lend, call};
 ghost use Rattle.output.specs.Records.{firstRecord, pairRecords, foundRecords, refusedRecord, searchRecords, fileRecords};
 ghost use Rattle.output.specs.Files.{fileAnswer};

@@ -15,12 +15,12 @@ use Rattle.search.specs.declared.SearchAnswer.{SearchAnswer}
 use Rattle.search.specs.declared.SearchAnswer.the-variants.{Found, Nothing, Refused, MapLength, ScratchLength}
 
 -- 1 to 4 name their side and carry the cell or the triple; 5 and 6 name none and carry nothing.
-abbrev pub answerSays : SearchAnswer → said.Said Refusal
-answerSays Found = said.found
-answerSays Nothing = said.nothing
-answerSays (Refused side fault) = said.refused (naming (sideNumber side) (faultRefusal fault))
-answerSays MapLength = said.refused (no 5 [])
-answerSays ScratchLength = said.refused (no 6 [])
+abbrev pub searchAnswerSays : SearchAnswer → said.Said Refusal
+searchAnswerSays Found = said.found
+searchAnswerSays Nothing = said.nothing
+searchAnswerSays (Refused side fault) = said.refused (naming (sideNumber side) (faultRefusal fault))
+searchAnswerSays MapLength = said.refused (no 5 [])
+searchAnswerSays ScratchLength = said.refused (no 6 [])
 
 abbrev pub kindOf : Kind → maps.Kind
 kindOf Embeddings = maps.embeddings

@@ -8,7 +8,7 @@ ghost use Rattle.semigroups.specs.Scratch.{scratchSize, scratchAfter};
 ghost use Rattle.semigroups.specs.Maps.{embeddings, isomorphisms};
 ghost use Rattle.semigroups.specs.Candidates.{candidate};
 ghost use Rattle.search.specs.Calls.{theFirst, theNext, lend, behind, call};
-ghost use Rattle.search.specs.Answers.{answerSays, kindOf, requestOf, orderFits};
+ghost use Rattle.search.specs.Answers.{searchAnswerSays, kindOf, requestOf, orderFits};
 use tables::Fault;
 use tables::PairVerdict;
 use tables::Side;
@@ -75,7 +75,7 @@ fn answer(
 ) -> SearchAnswer
     requires { ⌜ Accepted m (now source) × Accepted n (now target) ⌝ }
     requires { ⌜ (length (now map) ≡ m) × (scratchSize m n ≤ length (now scratch)) ⌝ }
-    ensures answer { λ r. ⌜ answerSays r ≡ behind (kindOf kind) (requestOf next) (lend (now (source .entry)) m (now (target .entry)) n (now (map .entry)) (now (scratch .entry))) .says ⌝ }
+    ensures answer { λ r. ⌜ searchAnswerSays r ≡ behind (kindOf kind) (requestOf next) (lend (now (source .entry)) m (now (target .entry)) n (now (map .entry)) (now (scratch .entry))) .says ⌝ }
     ensures map { λ _. ⌜ now (map .exit) ≡ behind (kindOf kind) (requestOf next) (lend (now (source .entry)) m (now (target .entry)) n (now (map .entry)) (now (scratch .entry))) .map ⌝ }
     ensures scratch { λ _. ⌜ now (scratch .exit) ≡ behind (kindOf kind) (requestOf next) (lend (now (source .entry)) m (now (target .entry)) n (now (map .entry)) (now (scratch .entry))) .scratch ⌝ }
 {
@@ -104,7 +104,7 @@ fn search(
     map: &mut [u8],
     scratch: &mut [u8],
 ) -> SearchAnswer
-    ensures answer { λ r. ⌜ answerSays r ≡ call (kindOf kind) (requestOf next) (lend (now (source .entry)) m (now (target .entry)) n (now (map .entry)) (now (scratch .entry))) .says ⌝ }
+    ensures answer { λ r. ⌜ searchAnswerSays r ≡ call (kindOf kind) (requestOf next) (lend (now (source .entry)) m (now (target .entry)) n (now (map .entry)) (now (scratch .entry))) .says ⌝ }
     ensures map { λ _. ⌜ now (map .exit) ≡ call (kindOf kind) (requestOf next) (lend (now (source .entry)) m (now (target .entry)) n (now (map .entry)) (now (scratch .entry))) .map ⌝ }
     ensures scratch { λ _. ⌜ now (scratch .exit) ≡ call (kindOf kind) (requestOf next) (lend (now (source .entry)) m (now (target .entry)) n (now (map .entry)) (now (scratch .entry))) .scratch ⌝ }
 {
@@ -130,7 +130,7 @@ pub fn first_embedding(
     map: &mut [u8],
     scratch: &mut [u8],
 ) -> SearchAnswer
-    ensures answer { λ r. ⌜ answerSays r ≡ call embeddings theFirst (lend (now (source .entry)) m (now (target .entry)) n (now (map .entry)) (now (scratch .entry))) .says ⌝ }
+    ensures answer { λ r. ⌜ searchAnswerSays r ≡ call embeddings theFirst (lend (now (source .entry)) m (now (target .entry)) n (now (map .entry)) (now (scratch .entry))) .says ⌝ }
     ensures map { λ _. ⌜ now (map .exit) ≡ call embeddings theFirst (lend (now (source .entry)) m (now (target .entry)) n (now (map .entry)) (now (scratch .entry))) .map ⌝ }
     ensures scratch { λ _. ⌜ now (scratch .exit) ≡ call embeddings theFirst (lend (now (source .entry)) m (now (target .entry)) n (now (map .entry)) (now (scratch .entry))) .scratch ⌝ }
 {
@@ -146,7 +146,7 @@ pub fn next_embedding(
     map: &mut [u8],
     scratch: &mut [u8],
 ) -> SearchAnswer
-    ensures answer { λ r. ⌜ answerSays r ≡ call embeddings theNext (lend (now (source .entry)) m (now (target .entry)) n (now (map .entry)) (now (scratch .entry))) .says ⌝ }
+    ensures answer { λ r. ⌜ searchAnswerSays r ≡ call embeddings theNext (lend (now (source .entry)) m (now (target .entry)) n (now (map .entry)) (now (scratch .entry))) .says ⌝ }
     ensures map { λ _. ⌜ now (map .exit) ≡ call embeddings theNext (lend (now (source .entry)) m (now (target .entry)) n (now (map .entry)) (now (scratch .entry))) .map ⌝ }
     ensures scratch { λ _. ⌜ now (scratch .exit) ≡ call embeddings theNext (lend (now (source .entry)) m (now (target .entry)) n (now (map .entry)) (now (scratch .entry))) .scratch ⌝ }
 {
@@ -162,7 +162,7 @@ pub fn first_isomorphism(
     map: &mut [u8],
     scratch: &mut [u8],
 ) -> SearchAnswer
-    ensures answer { λ r. ⌜ answerSays r ≡ call isomorphisms theFirst (lend (now (source .entry)) m (now (target .entry)) n (now (map .entry)) (now (scratch .entry))) .says ⌝ }
+    ensures answer { λ r. ⌜ searchAnswerSays r ≡ call isomorphisms theFirst (lend (now (source .entry)) m (now (target .entry)) n (now (map .entry)) (now (scratch .entry))) .says ⌝ }
     ensures map { λ _. ⌜ now (map .exit) ≡ call isomorphisms theFirst (lend (now (source .entry)) m (now (target .entry)) n (now (map .entry)) (now (scratch .entry))) .map ⌝ }
     ensures scratch { λ _. ⌜ now (scratch .exit) ≡ call isomorphisms theFirst (lend (now (source .entry)) m (now (target .entry)) n (now (map .entry)) (now (scratch .entry))) .scratch ⌝ }
 {
@@ -187,7 +187,7 @@ pub fn next_isomorphism(
     map: &mut [u8],
     scratch: &mut [u8],
 ) -> SearchAnswer
-    ensures answer { λ r. ⌜ answerSays r ≡ call isomorphisms theNext (lend (now (source .entry)) m (now (target .entry)) n (now (map .entry)) (now (scratch .entry))) .says ⌝ }
+    ensures answer { λ r. ⌜ searchAnswerSays r ≡ call isomorphisms theNext (lend (now (source .entry)) m (now (target .entry)) n (now (map .entry)) (now (scratch .entry))) .says ⌝ }
     ensures map { λ _. ⌜ now (map .exit) ≡ call isomorphisms theNext (lend (now (source .entry)) m (now (target .entry)) n (now (map .entry)) (now (scratch .entry))) .map ⌝ }
     ensures scratch { λ _. ⌜ now (scratch .exit) ≡ call isomorphisms theNext (lend (now (source .entry)) m (now (target .entry)) n (now (map .entry)) (now (scratch .entry))) .scratch ⌝ }
 {

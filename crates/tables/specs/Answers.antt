@@ -2,7 +2,8 @@
 -- Assumes nothing.
 use mathlib.Core.List.{[], _∷_}
 use mathlib.Core.Option.{Option, none, some}
-use Prim.Native.Nat.{ℕ}
+use Prim.Native.Nat.{ℕ, _≤_, _<_}
+use lib.ListN.{length, getD}
 use Rattle.semigroups.specs.Questions.{Refusal, no, naming}
 use Rattle.tables.specs.declared.Fault.{Fault}
 use Rattle.tables.specs.declared.Fault.the-variants.{Order, Size, Cell, Triple}
@@ -12,6 +13,7 @@ use Rattle.tables.specs.declared.Side.{Side}
 use Rattle.tables.specs.declared.Side.the-variants.{Source, Target}
 use Rattle.tables.specs.declared.PairVerdict.{PairVerdict}
 use Rattle.tables.specs.declared.PairVerdict.the-variants as pair
+use Rattle.tables.specs.declared.Refusal.{Refusal as Numbers}
 use Rattle.tables.specs.declared.Place.{Place}
 use Rattle.tables.specs.declared.Place.the-variants.{At, Nowhere}
 
@@ -41,3 +43,23 @@ pairRefusal (pair.Refused side fault) = some (naming (sideNumber side) (faultRef
 abbrev pub placeOption : Place → Option ℕ
 placeOption (At k) = some k
 placeOption Nowhere = none
+
+-- ---- refusals as numbers
+
+-- 0 stands for no side.
+abbrev pub sideOf : Option ℕ → ℕ
+sideOf none = 0
+sideOf (some side) = side
+
+-- The number, the side and three values, with 0 for those that are not said.
+abbrev pub refusalNumbers : Refusal → Numbers
+refusalNumbers r = record { number = r .number; side = sideOf (r .side); first = getD (r .values) 0 0; second = getD (r .values) 1 0; third = getD (r .values) 2 0 }
+
+-- The same numbers with another side.
+abbrev pub numbersNaming : ℕ → Numbers → Numbers
+numbersNaming side r = record { number = r .number; side = side; first = r .first; second = r .second; third = r .third }
+
+-- The numbers lose nothing: at most three values are said. The question's number has at most two digits.
+pub record Brief (r : Refusal) : Type 0 where
+  pub few-values : length (r .values) ≤ 3
+  pub two-digits : r .number < 100

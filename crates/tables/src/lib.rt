@@ -1,9 +1,10 @@
 // The four questions about a table: an order and cells, of any content. The first "no" is the answer, with the cell or the triple that is said with it.
 ghost use mathlib.Core.Path.{_≡_};
+ghost use mathlib.Core.List.{[], _∷_};
 ghost use mathlib.Core.Option.{Option·map};
 ghost use Rattle.semigroups.specs.Tables.{Element, Filled, product, badCell, badTriple};
 ghost use Rattle.semigroups.specs.Questions.{no, cellsRefusal, tableRefusal, tablesRefusal};
-ghost use Rattle.tables.specs.Answers.{verdictRefusal, placeOption, pairRefusal};
+ghost use Rattle.tables.specs.Answers.{faultRefusal, verdictRefusal, sideNumber, placeOption, pairRefusal, refusalNumbers, numbersNaming};
 
 // Why a table is refused: questions 1 to 4, with the first cell, counted from 1, or the first triple.
 pub enum Fault {
@@ -24,6 +25,15 @@ pub enum Side {
     Target,
 }
 
+// A refusal as numbers: the question; the side that it names, 1 for source or 2 for target, or 0; and the values said with it, then zeros.
+pub struct Refusal {
+    pub number: usize,
+    pub side: usize,
+    pub first: usize,
+    pub second: usize,
+    pub third: usize,
+}
+
 pub enum PairVerdict {
     Accepted,
     Refused(Side, Fault),
@@ -34,6 +44,68 @@ pub enum Place {
     At(usize),
     Nowhere,
 }
+
+// ---- refusals as numbers
+
+impl Side {
+    pub fn number(self) -> usize
+        ensures answer { λ r. ⌜ r ≡ sideNumber self ⌝ }
+    {
+        match self {
+            Side::Source => 1,
+            Side::Target => 2,
+        }
+    }
+}
+
+impl Refusal {
+    // The refusal by question `number`, which names no side and carries one value, or none where that is 0.
+    pub fn by(number: usize, value: usize) -> Self
+        ensures answer { λ r. ⌜ r ≡ refusalNumbers (no number (value ∷ [])) ⌝ }
+    {
+        Refusal {
+            number,
+            side: 0,
+            first: value,
+            second: 0,
+            third: 0,
+        }
+    }
+
+    // The same refusal of one of two tables.
+    pub fn naming(self, side: Side) -> Self
+        ensures answer { λ r. ⌜ r ≡ numbersNaming (sideNumber side) self ⌝ }
+    {
+        Refusal {
+            number: self.number,
+            side: side.number(),
+            first: self.first,
+            second: self.second,
+            third: self.third,
+        }
+    }
+}
+
+impl Fault {
+    pub fn refusal(self) -> Refusal
+        ensures answer { λ r. ⌜ r ≡ refusalNumbers (faultRefusal self) ⌝ }
+    {
+        match self {
+            Fault::Order => Refusal::by(1, 0),
+            Fault::Size => Refusal::by(2, 0),
+            Fault::Cell(cell) => Refusal::by(3, cell),
+            Fault::Triple(i, j, k) => Refusal {
+                number: 4,
+                side: 0,
+                first: i,
+                second: j,
+                third: k,
+            },
+        }
+    }
+}
+
+// ---- the questions
 
 // The product i·j.
 pub fn times(cells: &[u8], n: usize, i: usize, j: usize) -> usize

@@ -4,7 +4,7 @@ use mathlib.Core.List.{[], _∷_}
 use mathlib.Core.Option.{Option, none, some}
 use Prim.Native.Nat.{ℕ}
 use Rattle.semigroups.specs.Questions.{Refusal, no}
-use Rattle.tables.specs.Answers.{faultRefusal as tableRefusal}
+use Rattle.tables.specs.Answers.{faultRefusal}
 use Rattle.semigroups.specs.Calls.{Answer, refused, gives}
 use Rattle.text.specs.declared.TextFault.{TextFault}
 use Rattle.text.specs.declared.TextFault.the-variants.{Length, Byte, End, FieldLength, LeadingZero, FieldValue, Shape, Order, Room}
@@ -15,27 +15,28 @@ use Rattle.text.specs.declared.Saved.{Saved}
 use Rattle.text.specs.declared.Loaded.the-variants.{Order as LoadedOrder, Refused as LoadRefused}
 use Rattle.text.specs.declared.Saved.the-variants.{Length as SavedLength, Refused as SaveRefused, Room as SavedRoom}
 
-abbrev pub faultRefusal : TextFault → Refusal
-faultRefusal Length = no 20 []
-faultRefusal (Byte place) = no 21 (place ∷ [])
-faultRefusal End = no 22 []
-faultRefusal FieldLength = no 23 []
-faultRefusal LeadingZero = no 24 []
-faultRefusal FieldValue = no 25 []
-faultRefusal Shape = no 26 []
-faultRefusal Order = no 1 []
-faultRefusal Room = no 27 []
+-- Only 21 carries something: the place.
+abbrev pub textFaultRefusal : TextFault → Refusal
+textFaultRefusal Length = no 20 []
+textFaultRefusal (Byte place) = no 21 (place ∷ [])
+textFaultRefusal End = no 22 []
+textFaultRefusal FieldLength = no 23 []
+textFaultRefusal LeadingZero = no 24 []
+textFaultRefusal FieldValue = no 25 []
+textFaultRefusal Shape = no 26 []
+textFaultRefusal Order = no 1 []
+textFaultRefusal Room = no 27 []
 
 -- Of a part of the questions: none fails, or this one.
 abbrev pub judgedRefusal : Judged → Option Refusal
 judgedRefusal Passed = none
-judgedRefusal (Failed f) = some (faultRefusal f)
+judgedRefusal (Failed f) = some (textFaultRefusal f)
 
 abbrev pub loadedAnswer : Loaded → Answer ℕ
 loadedAnswer (LoadedOrder n) = gives n
-loadedAnswer (LoadRefused f) = refused (faultRefusal f)
+loadedAnswer (LoadRefused f) = refused (textFaultRefusal f)
 
 abbrev pub savedAnswer : Saved → Answer ℕ
 savedAnswer (SavedLength k) = gives k
-savedAnswer (SaveRefused f) = refused (tableRefusal f)
+savedAnswer (SaveRefused f) = refused (faultRefusal f)
 savedAnswer SavedRoom = refused (no 28 [])

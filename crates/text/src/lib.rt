@@ -13,7 +13,9 @@ ghost use Rattle.csv.specs.Tables.{fieldsOf, orderOf, cellsOf, rowFields, table
 ghost use Rattle.csv.specs.Questions.{bytesRefusal, endRefusal, fieldRefusal, fieldsRefusal, gridRefusal};
 ghost use Rattle.semigroups.specs.Calls.{overwritten};
 ghost use Rattle.csv.specs.Calls.{loadAnswer, cellsAfter, saveAnswer, textAfter};
-ghost use Rattle.text.specs.Answers.{judgedRefusal, loadedAnswer, savedAnswer};
+ghost use Rattle.tables.specs.Answers.{refusalNumbers};
+ghost use Rattle.text.specs.Answers.{textFaultRefusal, judgedRefusal, loadedAnswer, savedAnswer};
+use tables::Refusal;
 
 // Why a text is refused: questions 20 to 26, 1 and 27. 21 carries the place of the byte, from 0.
 pub enum TextFault {
@@ -26,6 +28,24 @@ pub enum TextFault {
     Shape,
     Order,
     Room,
+}
+
+impl TextFault {
+    pub fn refusal(self) -> Refusal
+        ensures answer { λ r. ⌜ r ≡ refusalNumbers (textFaultRefusal self) ⌝ }
+    {
+        match self {
+            TextFault::Length => Refusal::by(20, 0),
+            TextFault::Byte(place) => Refusal::by(21, place),
+            TextFault::End => Refusal::by(22, 0),
+            TextFault::FieldLength => Refusal::by(23, 0),
+            TextFault::LeadingZero => Refusal::by(24, 0),
+            TextFault::FieldValue => Refusal::by(25, 0),
+            TextFault::Shape => Refusal::by(26, 0),
+            TextFault::Order => Refusal::by(1, 0),
+            TextFault::Room => Refusal::by(27, 0),
+        }
+    }
 }
 
 // What loading answers: the order, or the earliest failed question.

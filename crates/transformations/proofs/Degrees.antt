@@ -18,7 +18,7 @@ use Rattle.semigroups.specs.Transformations.{transformationOrder, transformatio
 use Rattle.semigroups.proofs.Composition.{at-after, length-after}
 use Rattle.semigroups.proofs.Tables.{list-at, length-grid, grid-at, place-below}
 use Rattle.semigroups.proofs.Transformations.{transformation-list, product-composite, transformations-closed, length-cells}
-use Rattle.transformations.specs.Answers.{transformationSays, cellsAfter, imageBytes}
+use Rattle.transformations.specs.Answers.{transformationSays, transformationCellsAfter, imageBytes}
 use Rattle.semigroups.proofs.Digits.{digits, digit-below, digits-number, digits-take, drop-digit, last-digit}
 
 -- ---- one transformation
@@ -144,10 +144,10 @@ module _ (d : ℕ) (h : Element 3 d) (n : ℕ) (e : n ≡ transformationOrder d)
 
 module _ (d : ℕ) (before : List ℕ) where
   abbrev Refused : Refusal → Type 0
-  Refused r = (refused r ≡ transformationSays d (length before)) × (before ≡ cellsAfter d before)
+  Refused r = (refused r ≡ transformationSays d (length before)) × (before ≡ transformationCellsAfter d before)
 
   by-question : (r : Refusal) → transformationRefusal d (length before) ≡ some r → Refused r
-  unfolding transformationSays cellsAfter
+  unfolding transformationSays transformationCellsAfter
   by-question r e = (rw e, rw e)
 
   pub degree-low : d < 1 → Refused (no 8 [])
@@ -173,6 +173,6 @@ module _ (d : ℕ) (before : List ℕ) where
         let room : size ≤ length before = subst (λ (m : ℕ). m * m ≤ length before) s h in
         rw (le-leb 1 d (e .0), le-leb d 3 (e .1), le-leb size (length before) room)
 
-    pub cells-enough : n * n ≤ length before → (gives n ≡ transformationSays d (length before)) × (transformationCells d ++ drop (n * n) before ≡ cellsAfter d before)
-    unfolding transformationSays cellsAfter
+    pub cells-enough : n * n ≤ length before → (gives n ≡ transformationSays d (length before)) × (transformationCells d ++ drop (n * n) before ≡ transformationCellsAfter d before)
+    unfolding transformationSays transformationCellsAfter
     cells-enough h = (rw (none-failed h, s), rw (none-failed h, s, length-cells d))

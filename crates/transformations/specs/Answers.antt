@@ -16,14 +16,14 @@ unfoldable pub transformationSays : ℕ → ℕ → Answer ℕ
 transformationSays d size = givenUnless (transformationRefusal d size) (transformationOrder d)
 
 -- The buffer after the call: the cells of the table; later bytes are untouched.
-unfoldable pub cellsAfter : ℕ → List ℕ → List ℕ
-cellsAfter d before = writtenUnless (transformationRefusal d (length before)) (transformationCells d) before
+unfoldable pub transformationCellsAfter : ℕ → List ℕ → List ℕ
+transformationCellsAfter d before = writtenUnless (transformationRefusal d (length before)) (transformationCells d) before
 
 -- The number of each refusal, which carries nothing.
-abbrev pub answerSays : TransformationAnswer → Answer ℕ
-answerSays Degree = refused (no 8 [])
-answerSays Cells = refused (no 9 [])
-answerSays (Order n) = gives n
+abbrev pub transformationAnswerSays : TransformationAnswer → Answer ℕ
+transformationAnswerSays Degree = refused (no 8 [])
+transformationAnswerSays Cells = refused (no 9 [])
+transformationAnswerSays (Order n) = gives n
 
 -- The image lists of all transformations of d points, one after another, in an array of 81 bytes; later bytes are 0.
 unfoldable pub imageBytes : ℕ → List ℕ

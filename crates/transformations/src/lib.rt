@@ -7,7 +7,7 @@ ghost use lib.ListN.{length, drop};
 ghost use Rattle.semigroups.specs.Lists.{at};
 ghost use Rattle.semigroups.specs.Tables.{Element};
 ghost use Rattle.semigroups.specs.Transformations.{transformationOrder, transformation, transformationProduct, transformationCells};
-ghost use Rattle.transformations.specs.Answers.{transformationSays, answerSays, cellsAfter, imageBytes};
+ghost use Rattle.transformations.specs.Answers.{transformationSays, transformationAnswerSays, transformationCellsAfter, imageBytes};
 
 pub enum TransformationAnswer {
     // Questions 8 and 9.
@@ -109,8 +109,8 @@ fn write(images: &[u8; 81], degree: usize, n: usize, cells: &mut [u8])
 
 // Writes the table of all transformations of `degree` points into `cells` and answers its order.
 pub fn fill(degree: usize, cells: &mut [u8]) -> TransformationAnswer
-    ensures answer { λ r. ⌜ answerSays r ≡ transformationSays degree (length (now (cells .entry))) ⌝ }
-    ensures cells { λ r. ⌜ now (cells .exit) ≡ cellsAfter degree (now (cells .entry)) ⌝ }
+    ensures answer { λ r. ⌜ transformationAnswerSays r ≡ transformationSays degree (length (now (cells .entry))) ⌝ }
+    ensures cells { λ r. ⌜ now (cells .exit) ≡ transformationCellsAfter degree (now (cells .entry)) ⌝ }
 {
     if degree < 1 {
         return TransformationAnswer::Degree;

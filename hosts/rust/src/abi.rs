@@ -1,10 +1,13 @@
-//! The calls as the archive has them: slices in, eight numbers out. `hosts/c/tickdrizzle.h` says what each does.
+//! The calls as the archive has them: slices in, sixteen numbers out. `hosts/c/tickdrizzle.h` says what each does.
 //!
 //! All unsafe code of this package is here. What the archive asks of a caller holds by the types: a slice has as many
 //! bytes as its length says, and a `&mut` slice overlaps nothing else that is lent.
 
+/// How many numbers an answer has.
+pub const ANSWERS: usize = 16;
+
 /// The number of the earliest failed question or 0, the side it names or 0, then values and zeros.
-pub type Answer = [u64; 8];
+pub type Answer = [u64; ANSWERS];
 
 extern "C" {
     fn tickdrizzle_check_table(cells: *const u8, cells_length: usize, order: usize, answer: &mut Answer);

@@ -1,4 +1,4 @@
-//! What the calls answer, and how it is read from the eight numbers.
+//! What the calls answer, and how it is read from the sixteen numbers.
 //!
 //! A number that no call answers is a fault of the archive and panics.
 
@@ -27,7 +27,7 @@ pub enum Question {
         /// The first cell that is not, counted from 1.
         cell: usize,
     },
-    /// 4: is (i·j)·k = i·(j·k) for all elements? The first i, j, k that fail.
+    /// 4: is (i·j)·k = i·(j·k) for all i, j, k? The first that fail.
     Associativity {
         /// The first element.
         i: usize,

@@ -39,7 +39,7 @@ pub const GREATEST_DEGREE: usize = 3;
 
 /// Makes a call and decodes what it answers.
 fn answered<T>(call: impl FnOnce(&mut Answer), decode: impl FnOnce(&Answer) -> T) -> Result<T, Refusal> {
-    let mut answer = [0; 8];
+    let mut answer = [0; abi::ANSWERS];
     call(&mut answer);
     match Refusal::decode(&answer) {
         Some(refusal) => Err(refusal),

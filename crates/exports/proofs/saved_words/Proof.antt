@@ -1,39 +1,64 @@
--- `saved_words` meets its contract: the length, or the failed question; a table's fault names no side.
+-- `saved_words` meets its contract: the length, or the failed question.
 -- Assumes nothing.
+use mathlib.Core.Path.{ap, _∙_}
+use Rattle.tables.proofs.Refusals.{fault-brief}
+use Rattle.exports.specs.Answers.{numbersWords}
+use Rattle.exports.proofs.Values.{refusal-said}
 use borrow.Author.Needs.{needs}
-use Rattle.exports.proofs.Words.{sideless}
 use Rattle.exports.proofs.saved_words.Statement.{statement}
 use Rattle.exports.proofs.saved_words.Tie as tie
 
 enum-known-said : tie.Need-enum-known-said
 enum-known-said c = search needs
 
+slice-aggregate-words : tie.Need-slice-aggregate-words
+slice-aggregate-words c = search needs
+
+words-requires : tie.Need-words-requires
+words-requires c κs = search needs
+
 enum-known-said-2 : tie.Need-enum-known-said-2
 enum-known-said-2 c = search needs
 
-fault-words-requires : tie.Need-fault-words-requires
-fault-words-requires c κs = search needs
+refusal-requires : tie.Need-refusal-requires
+refusal-requires c κs = search needs
+
+refusal-words-requires : tie.Need-refusal-words-requires
+refusal-words-requires c κs = search needs
 
 enum-told : tie.Need-enum-told
 enum-told c = search needs
 
+by-requires : tie.Need-by-requires
+by-requires c κs = search needs
+
+refusal-words-requires-2 : tie.Need-refusal-words-requires-2
+refusal-words-requires-2 c κs = search needs
+
 returns : tie.Need-returns
-returns c = rw (c .before .said .given .1)
+returns c = rw (c .before .before .before .said .given .1) (c .words .ensures)
 
 returns-2 : tie.Need-returns-2
-returns-2 c = rw (c .before .before .said2 .given .1, sideless) (c .fault-words .ensures)
+returns-2 c =
+    let m = c .before .before .before .said2 .given in
+    rw (m .1) (refusal-said (fault-brief (m .0 .0)) (c .before .refusal .ensures) (c .refusal-words .ensures))
 
 returns-3 : tie.Need-returns-3
-returns-3 c = rw (c .enum-told .given .1)
+returns-3 c = rw (c .before .before .enum-told .given .1) (c .refusal-words2 .ensures ∙ ap numbersWords (c .before .by .ensures))
 
 pub saved-words-spec : {M : Type 1} → statement M
 saved-words-spec =
     tie.close
     (tie.spec
     enum-known-said
+    slice-aggregate-words
+    words-requires
     enum-known-said-2
-    fault-words-requires
+    refusal-requires
+    refusal-words-requires
     enum-told
+    by-requires
+    refusal-words-requires-2
     returns
     returns-2
     returns-3)

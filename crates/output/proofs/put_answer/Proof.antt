@@ -9,7 +9,7 @@ use lib.ListN.{length}
 use denote.Ref.{now}
 use Rattle.semigroups.specs.Maps.{embeddings}
 use Rattle.search.specs.Calls.{Lent, lend, theFirst, call}
-use Rattle.search.specs.Answers.{answerSays}
+use Rattle.search.specs.Answers.{searchAnswerSays as answerSays}
 use Rattle.output.proofs.Said.{found-sized, nothing-sized, found-answer, nothing-answer, refused-answer, sideless-answer}
 use Rattle.output.proofs.put_answer.Statement.{statement}
 use Rattle.output.proofs.put_answer.Tie as tie

@@ -101,7 +101,7 @@ impl Call {
 
     /// Makes the call by the archive; the answer holds random numbers before.
     pub fn by_archive(&mut self, random: &mut Random) -> Answer {
-        let mut answer = [(); 8].map(|()| random.number());
+        let mut answer = [(); abi::ANSWERS].map(|()| random.number());
         match self {
             Call::CheckTable { table } => abi::check_table(&table.cells, table.order, &mut answer),
             Call::IndexPeriod { table, element } => {
@@ -191,7 +191,7 @@ fn encoded<T>(says: Result<T, Refusal>, values: impl FnOnce(T) -> Vec<usize>) ->
             (question.number(), side, question_values(question))
         }
     };
-    let mut answer = [0; 8];
+    let mut answer = [0; abi::ANSWERS];
     answer[0] = number;
     answer[1] = side;
     for (place, value) in values.into_iter().enumerate() {

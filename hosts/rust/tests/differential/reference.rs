@@ -1,7 +1,7 @@
 //! The calls written again, from the text of the rules and from nothing of the library: questions asked one after the
 //! other, least numbers found by trying numbers from below, maps found by trying lists.
 
-use tickdrizzle::abi::Answer;
+use tickdrizzle::abi::{Answer, ANSWERS};
 
 /// The first question that failed: its number, the side it names or 0, the values said with it.
 struct No {
@@ -29,13 +29,13 @@ fn numbers(values: &[usize]) -> Vec<u64> {
     values.iter().map(|&value| value as u64).collect()
 }
 
-/// The eight numbers of an answer.
+/// The numbers of an answer.
 fn answer(says: Says) -> Answer {
     let (number, side, values) = match says {
         Ok(values) => (0, 0, values),
         Err(no) => (no.number, no.side, no.values),
     };
-    let mut answer = [0; 8];
+    let mut answer = [0; ANSWERS];
     answer[0] = number;
     answer[1] = side;
     answer[2..2 + values.len()].copy_from_slice(&values);

@@ -2,7 +2,7 @@
 use mathlib.Core.Path.{_≡_, sym, ap, _∙_}
 use Rattle.semigroups.specs.Lists.{at}
 use Rattle.text.specs.declared.TextFault.{TextFault}
-use Rattle.text.specs.Answers.{faultRefusal}
+use Rattle.text.specs.Answers.{textFaultRefusal as faultRefusal}
 use Rattle.plain.specs.declared.Said.{Said}
 use Rattle.plain.specs.Said.{refusalSaid}
 use borrow.Author.Needs.{needs}

@@ -2,7 +2,7 @@
 use mathlib.Core.Path.{_≡_, sym, ap, _∙_}
 use Rattle.semigroups.specs.Lists.{at}
 use Rattle.transformations.specs.declared.TransformationAnswer.{TransformationAnswer}
-use Rattle.transformations.specs.Answers.{answerSays}
+use Rattle.transformations.specs.Answers.{transformationAnswerSays as answerSays}
 use Rattle.plain.specs.declared.Said.{Said}
 use Rattle.cases.specs.Answering.{answerSaid}
 use borrow.Author.Needs.{needs}
