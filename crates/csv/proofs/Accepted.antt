@@ -2,7 +2,7 @@
 -- Assumes nothing.
 use mathlib.Core.Path.{_≡_, refl, ap, ap₂, sym, _∙_}
 use mathlib.Core.Bool.{true}
-use mathlib.Core.List.{List, [], _∷_, _++_, map, flatMap, flatten}
+use mathlib.Core.List.{List, [], _∷_, _++_, map, flatten, append-nil}
 use mathlib.Core.Option.{none, orElse}
 use Prim.Native.Nat.{ℕ, zero, suc, _+_, _*_, _≤_, _<_}
 use native.Mathlib.Nat.{mul-le-mul}
@@ -21,10 +21,10 @@ use Rattle.csv.specs.Questions.{fieldRefusal, fieldsRefusal, isSquare, g
 use Rattle.csv.proofs.Every.{Every, every-append}
 use Rattle.csv.proofs.Bytes.{clean, clean-other, other-clean, no-other, closed, closed-some, ends-passes}
 use Rattle.csv.proofs.Scan.{none-refused}
-use Rattle.csv.proofs.Rows.{Digits, Row, Rows, rows-rowsText, rowsText-rows, clean-rows, rowsText-clean, rowsText-ends}
+use Rattle.csv.proofs.Rows.{Digits, Row, Rows, rows-rowsText, rowsText-rows, clean-rows, rows-some, rowsText-clean, rowsText-ends}
 use Rattle.csv.proofs.Decimals.{numeral-one, numeral-digits, numeral-long, numeral-leading, digits-few, value-numeral, numeral-value}
 use Rattle.csv.proofs.Fields.{Number, field-passes, field-passed, no-fields, fields-first, fields-passed}
-use Rattle.csv.proofs.Records.{ends}
+use Rattle.csv.proofs.Records.{ends, missing-none}
 use Rattle.csv.proofs.Tables.{split, Even, length-split, split-even, flatten-split, split-flatten, table-rows, flatten-map, text-length}
 use Rattle.csv.proofs.Judging.{says-passed}
 use Rattle.csv.proofs.Loading.{Loadable, cells-length, loads}
@@ -221,16 +221,16 @@ module _ (t : List ℕ) (room : ℕ) (l : Loadable t room) where
       ap rowsText (table-rows (orderOf t) (cellsOf t) (cells-length (orderOf t) t (l .grid)))
       ∙ ap (λ (rs : List (List ℕ)). rowsText (map (map numeral) rs)) cut
       ∙ ap rowsText (rows-back (rows t) whole-rows (numbers-of (flatten (rows t)) (l .grid .numbers)))
-      ∙ rowsText-rows t (closed t (l .end))
+      ∙ rowsText-rows t
+      ∙ ap (λ (m : List ℕ). t ++ m) (missing-none t (closed t (l .end)))
+      ∙ append-nil t
 
   pub first-row : 1 ≤ orderOf t
-  unfolding orderOf rowsText flatMap
-  first-row = go (rows t) (rowsText-rows t (closed t (l .end))) whole-rows
-    where
-      go : (rs : List (List (List ℕ))) → rowsText rs ≡ t → Rows rs → 1 ≤ length (getD rs 0 [])
-      go [] e r = let w : ⊥ = omega (arith, ap length e, closed-some t (l .end)) in absurd w
-      go ([] ∷ rs) e r = absurd (r .0)
-      go ((f ∷ fs) ∷ rs) e r = omega arith
+  unfolding orderOf
+  first-row =
+      let some = closed-some t (l .end) in
+      let r = rows-some t (omega arith) (other-clean t (no-other t (l .bytes))) in
+      rw (r .3) (omega arith)
 
   -- Where no entry is above its order, the cells fill a table.
   pub text-filled : ((k : ℕ) → k < length (cellsOf t) → getD (cellsOf t) k 0 ≤ orderOf t) → Filled (orderOf t) (cellsOf t)

@@ -1,17 +1,17 @@
 -- The field of digits at a place of a text, and questions 22 to 25.
 -- Assumes nothing.
-use mathlib.Core.Path.{_≡_, refl, ap}
-use mathlib.Core.Bool.{Bool, true, false, _&&_, not, and-false}
+use mathlib.Core.Path.{_≡_, refl, ap, sym, _∙_}
+use mathlib.Core.Bool.{Bool, true, false, _&&_, not, cond, and-false}
 use mathlib.Core.List.{List, [], _∷_, flatMap}
 use mathlib.Core.Option.{none, some, orElse}
 use Prim.Native.Nat.{ℕ, suc, _+_, _-_, _*_, _^_, _≤_, _<_}
 use native.Mathlib.Nat.{pow-suc, pow-le-pow-right}
 use native.Mathlib.Numerals.{add-one}
 use native.Mathlib.Omega.{arith}
-use lib.Dec.{eqb, leb}
-use lib.ListN.{length, getD, drop, drop-of-length-le, List·getD-eq-default}
+use lib.Dec.{eqb, leb, ltb}
+use lib.ListN.{length, getD, drop, length-drop, drop-of-length-le, List·getD-eq-default}
 use lib.Seq.{drop-cons}
-use borrow.Author.Tests.{leb-true, leb-false, le-leb, lt-leb, eqb-false, ne-eqb, not-true}
+use borrow.Author.Tests.{leb-true, leb-false, le-leb, lt-leb, le-ltb, eqb-false, ne-eqb, not-true}
 use Rattle.semigroups.specs.Tables.{isElement}
 use Rattle.semigroups.specs.Lists.{firstOf}
 use Rattle.semigroups.specs.Questions.{no}
@@ -20,6 +20,7 @@ use Rattle.semigroups.proofs.Lists.{is-element}
 use Rattle.semigroups.proofs.Questions.{ask-passed, all-passed, first-append, both-passed}
 use Rattle.csv.specs.Decimals.{isDigit, digits, value}
 use Rattle.csv.specs.Records.{isBreak}
+use Rattle.csv.specs.Cursor.{fieldEnd, commaBehind, nextField, fieldFollows}
 use Rattle.csv.specs.Questions.{breakAt, endRefusal, fieldQuestions, fieldRefusal, fieldsQuestions, fieldsRefusal}
 
 -- ---- the digits at a place
@@ -63,6 +64,42 @@ module _ (t : List ℕ) (i : ℕ) where
 
   pub digits-first : 1 ≤ length (digits (drop i t)) → getD (digits (drop i t)) 0 0 ≡ getD t i 0
   digits-first h = let d = digit-here h in rw (digits-more (d .0) (d .1))
+
+digits-short : (l : List ℕ) → length (digits l) ≤ length l
+unfolding digits
+digits-short [] = omega arith
+digits-short (b ∷ l) = elim (isDigit b) as (λ e. length (cond e (b ∷ digits l) []) ≤ suc (length l)) [ true ↦ omega (arith, digits-short l) | false ↦ omega arith ]
+
+pub end-inside : (t : List ℕ) (at : ℕ) → at ≤ length t → fieldEnd t at ≤ length t
+end-inside t at h = omega (arith, digits-short (drop at t), length-drop at t)
+
+-- ---- what stands behind a field
+
+-- A field ends here, and the cursor goes on there.
+pub record Goes (t : List ℕ) (at end next : ℕ) (comma more : Bool) : Type 0 where
+  pub ending : end ≡ fieldEnd t at
+  pub place : next ≡ nextField t at
+  pub same-record : comma ≡ commaBehind t at
+  pub further : more ≡ fieldFollows t at
+
+module _ (t : List ℕ) (at : ℕ) {end : ℕ} (e : end ≡ fieldEnd t at) where
+  pub nothing-behind : length t ≤ end → Goes t at end (end + 2) false false
+  unfolding commaBehind nextField fieldFollows
+  nothing-behind h =
+      let b = ap (λ (i : ℕ). getD t i 0) (sym e) ∙ List·getD-eq-default t 0 {n = end} h in
+      record { ending = e; place = rw (b, e); same-record = rw b; further = rw b (simp (le-ltb (fieldEnd t at + 2) (length t) (omega arith))) }
+
+  pub comma-behind : getD t end 0 ≡ 44 → Goes t at end (end + 1) true true
+  unfolding commaBehind nextField fieldFollows
+  comma-behind c =
+      let b = ap (λ (i : ℕ). getD t i 0) (sym e) ∙ c in
+      record { ending = e; place = rw (b, e); same-record = rw b; further = rw b }
+
+  pub break-behind : (getD t end 0 ≡ 44 → ⊥) → Goes t at end (end + 2) false (ltb (end + 2) (length t))
+  unfolding commaBehind nextField fieldFollows
+  break-behind h =
+      let b = ap (λ (i : ℕ). eqb (getD t i 0) 44) (sym e) ∙ ne-eqb (getD t end 0) 44 h in
+      record { ending = e; place = rw (b, e); same-record = rw b; further = rw (b, e) }
 
 -- A list with no entry.
 pub empty : (l : List ℕ) → length l ≤ 0 → l ≡ []

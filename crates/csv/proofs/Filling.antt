@@ -1,81 +1,64 @@
 -- Reading a text for its cells: at the start of a field, the numbers written so far and those of the fields that are left are the cells.
 -- Assumes nothing.
-use mathlib.Core.Path.{_≡_, refl, ap, sym, _∙_}
+use mathlib.Core.Path.{_≡_, ap, sym, _∙_}
+use mathlib.Core.Bool.{Bool, true, false}
 use mathlib.Core.List.{List, [], _∷_, map, flatten}
 use mathlib.Core.Option.{none}
 use Prim.Native.Nat.{ℕ, _+_, _≤_, _<_}
 use native.Mathlib.Omega.{arith}
-use lib.ListN.{length, getD, drop, set}
+use lib.ListN.{length, drop, set}
 use Rattle.csv.specs.Decimals.{digits, value}
 use Rattle.csv.specs.Records.{rows}
+use Rattle.csv.specs.Cursor.{nextField, fieldFollows}
 use Rattle.csv.specs.Tables.{fieldsOf, cellsOf}
-use Rattle.csv.specs.Questions.{bytesRefusal, endRefusal, fieldRefusal, fieldsRefusal}
+use Rattle.csv.specs.Questions.{bytesRefusal, fieldRefusal, fieldsRefusal}
 use Rattle.semigroups.specs.Calls.{overwritten}
-use Rattle.csv.proofs.Reading.{Left, Turn, comma, line-break, turn, left-none, all-left}
+use Rattle.csv.proofs.Reading.{Left, Turn, behind, flatten-behind, turn, left-none, all-left}
 use Rattle.csv.proofs.Writing.{Writing, write-first, write-length, write-room, write-next, write-last, sets-overwritten}
 use Rattle.csv.proofs.Fields.{fields-passed}
 
-pub record Filling (t before cells : List ℕ) (at k : ℕ) : Type 0 where
+pub record Filling (t before cells : List ℕ) (at k : ℕ) (more : Bool) : Type 0 where
   pub rest : List (List (List ℕ))
-  pub left : Left t at rest
+  pub left : Left t at more rest
   pub writing : Writing before 0 (cellsOf t) (map value (flatten rest)) cells k
   pub numbers : fieldsRefusal (flatten rest) ≡ none
 
-pub fill-first : {t before : List ℕ} → bytesRefusal t ≡ none → endRefusal t ≡ none → fieldsRefusal (fieldsOf t) ≡ none → Filling t before before 0 0
+pub fill-first : {t before : List ℕ} → 1 ≤ length t → bytesRefusal t ≡ none → fieldsRefusal (fieldsOf t) ≡ none → Filling t before before 0 0 true
 unfolding fieldsOf cellsOf
-fill-first {t} {before} b e n = record { rest = rows t; left = all-left t b e; writing = write-first before 0 (cellsOf t); numbers = n }
+fill-first {t} {before} one b n = record { rest = rows t; left = all-left one b; writing = write-first before 0 (cellsOf t); numbers = n }
 
-module _ {t before cells : List ℕ} {at k : ℕ} (g : Filling t before cells at k) where
+module _ {t before cells : List ℕ} {at k : ℕ} {more : Bool} (g : Filling t before cells at k more) where
   pub fill-length : length cells ≡ length before
   fill-length = write-length (g .writing)
 
-  module _ (room : length (cellsOf t) ≤ length before) where
-    pub fill-done : length t ≤ at → cells ≡ overwritten (cellsOf t) before
-    unfolding flatten
-    fill-done h =
-        let e = left-none t at (g .rest) h (g .left) in
-        write-last (g .writing) (ap (λ (rs : List (List (List ℕ))). map value (flatten rs)) e) .0 ∙ sets-overwritten before (cellsOf t) room
+  pub fill-done : length (cellsOf t) ≤ length before → more ≡ false → cells ≡ overwritten (cellsOf t) before
+  unfolding flatten
+  fill-done room h =
+      write-last (g .writing) (ap (λ (rs : List (List (List ℕ))). map value (flatten rs)) (left-none h (g .left))) .0 ∙ sets-overwritten before (cellsOf t) room
 
-    module _ {end : ℕ} (inside : at < length t) (d : end ≡ at + length (digits (drop at t))) where
-      pub here : Turn t at end (g .rest)
-      here = turn t at inside end (g .rest) d (g .left)
+  module _ (h : more ≡ true) where
+    pub here : Turn t at (g .rest)
+    here = turn h (g .left)
 
-      -- The field at this place is the first that is left.
-      first : {rs : List (List (List ℕ))} → Turn t at end rs → (fs : List (List ℕ)) × (flatten rs ≡ digits (drop at t) ∷ fs)
-      unfolding flatten
-      first (comma {g = h} {gs = gs} {rs = rs} e i b l) = (flatten ((h ∷ gs) ∷ rs), rw e)
-      first (line-break {rs = rs} e i b l) = (flatten rs, rw e)
+    -- The field at this place is the first that is left.
+    first : flatten (g .rest) ≡ digits (drop at t) ∷ flatten (behind (here .fields) (here .later))
+    first = ap flatten (here .here) ∙ flatten-behind (digits (drop at t)) (here .fields) (here .later)
 
-      pub fill-field : fieldRefusal (digits (drop at t)) ≡ none
-      fill-field = let q = first here in fields-passed (digits (drop at t)) (q .0) (rw (q .1) at (g .numbers)) .0
+    passed : (fieldRefusal (digits (drop at t)) ≡ none) × (fieldsRefusal (flatten (behind (here .fields) (here .later))) ≡ none)
+    passed = fields-passed (digits (drop at t)) (flatten (behind (here .fields) (here .later))) (rw first at (g .numbers))
 
-      pub fill-room : k < length cells
-      fill-room =
-          let q = first here in
-          omega (arith, write-room (g .writing) (omega arith), ap (λ (fs : List (List ℕ)). length (map value fs)) (q .1))
+    pub fill-field : fieldRefusal (digits (drop at t)) ≡ none
+    fill-field = passed .0
 
-      module _ {x : ℕ} (e : x ≡ value (digits (drop at t))) where
-        step : (at′ : ℕ) (rs : List (List (List ℕ))) → Left t at′ rs → flatten (g .rest) ≡ digits (drop at t) ∷ flatten rs → Filling t before (set cells k x) at′ (k + 1)
-        step at′ rs l q =
-            record {
-              rest = rs;
-              left = l;
-              writing = write-next (g .writing) (x ∷ []) (map value (flatten rs)) (ap (map value) q ∙ rw (sym e));
-              numbers = fields-passed (digits (drop at t)) (flatten rs) (rw q at (g .numbers)) .1;
-            }
+    pub fill-room : length (cellsOf t) ≤ length before → k < length cells
+    fill-room room = omega (arith, write-room (g .writing) (omega arith), ap (λ (fs : List (List ℕ)). length (map value fs)) first)
 
-        pub fill-comma : getD t end 0 ≡ 44 → Filling t before (set cells k x) (end + 1) (k + 1)
-        unfolding flatten here step
-        fill-comma c = go refl here
-          where
-            go : {rs : List (List (List ℕ))} → g .rest ≡ rs → Turn t at end rs → Filling t before (set cells k x) (end + 1) (k + 1)
-            go q (comma {g = h} {gs = gs} {rs = rs} m i b l) = step (end + 1) ((h ∷ gs) ∷ rs) l (rw (q, m))
-            go q (line-break m i b l) = let w : ⊥ = omega arith in absurd w
-
-        pub fill-break : (getD t end 0 ≡ 44 → ⊥) → Filling t before (set cells k x) (end + 2) (k + 1)
-        unfolding flatten here step
-        fill-break c = go refl here
-          where
-            go : {rs : List (List (List ℕ))} → g .rest ≡ rs → Turn t at end rs → Filling t before (set cells k x) (end + 2) (k + 1)
-            go q (comma m i b l) = absurd (c b)
-            go q (line-break {rs = rs} m i b l) = step (end + 2) rs l (rw (q, m))
+    pub fill-next : {x : ℕ} → x ≡ value (digits (drop at t)) → Filling t before (set cells k x) (nextField t at) (k + 1) (fieldFollows t at)
+    fill-next {x} e =
+        let rs = behind (here .fields) (here .later) in
+        record {
+          rest = rs;
+          left = here .left;
+          writing = write-next (g .writing) (x ∷ []) (map value (flatten rs)) (ap (map value) first ∙ rw (sym e));
+          numbers = passed .1;
+        }

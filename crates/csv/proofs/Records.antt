@@ -102,13 +102,26 @@ break-bytes b c h = go (eqb b 13) (eqb c 10) refl refl h
     go true false e f g = let z : _≡_ {A = ℕ} 0 1 = cc in let w : ⊥ = omega arith in absurd w
     go false y e f g = let z : _≡_ {A = ℕ} 0 1 = cc in let w : ⊥ = omega arith in absurd w
 
-pub linesText-records : (t : List ℕ) → ends t ≡ true → linesText (records t) ≡ t
-unfolding records linesText flatMap ends
-linesText-records [] h = refl
-linesText-records (b ∷ []) h = let z : _≡_ {A = ℕ} 0 1 = cc in let w : ⊥ = omega arith in absurd w
-linesText-records (b ∷ c ∷ t) h = go (linesText-records t) (linesText-records (c ∷ t)) (isBreak b c) refl h
+-- The line break that the last record lacks.
+abbrev pub closing : Bool → List ℕ
+closing true = []
+closing false = 13 ∷ 10 ∷ []
+
+unfoldable pub missing : List ℕ → List ℕ
+missing t = closing (ends t)
+
+-- The records, each closed, are the text with that line break.
+pub linesText-records : (t : List ℕ) → linesText (records t) ≡ t ++ missing t
+unfolding records linesText flatMap ends missing
+linesText-records [] = refl
+linesText-records (b ∷ []) = refl
+linesText-records (b ∷ c ∷ t) = go (linesText-records t) (linesText-records (c ∷ t)) (isBreak b c) refl
   where
-    go : (ends t ≡ true → linesText (records t) ≡ t) → (ends (c ∷ t) ≡ true → linesText (records (c ∷ t)) ≡ c ∷ t) → (e : Bool) → isBreak b c ≡ e
-        → cond e (ends t) (ends (c ∷ t)) ≡ true → linesText (cond e ([] ∷ records t) (onto b (records (c ∷ t)))) ≡ b ∷ c ∷ t
-    go closed opened true e g = let p = break-bytes b c e in let q = closed g in cc
-    go closed opened false e g = onto-lines b (records (c ∷ t)) (records-cons c t) ∙ ap (λ (l : List ℕ). b ∷ l) (opened g)
+    go : linesText (records t) ≡ t ++ missing t → linesText (records (c ∷ t)) ≡ (c ∷ t) ++ missing (c ∷ t) → (e : Bool) → isBreak b c ≡ e
+        → linesText (cond e ([] ∷ records t) (onto b (records (c ∷ t)))) ≡ b ∷ c ∷ (t ++ closing (cond e (ends t) (ends (c ∷ t))))
+    go closed opened true e = let p = break-bytes b c e in cc
+    go closed opened false e = onto-lines b (records (c ∷ t)) (records-cons c t) ∙ ap (λ (l : List ℕ). b ∷ l) opened
+
+pub missing-none : (t : List ℕ) → ends t ≡ true → missing t ≡ []
+unfolding missing
+missing-none t h = rw h

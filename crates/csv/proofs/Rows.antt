@@ -1,17 +1,19 @@
--- A text of digits, commas and line breaks that ends in a line break is the text of its rows, and rows of digits are the rows of their text.
+-- A text of digits, commas and line breaks, with the line break that its last record may lack, is the text of its rows; rows of digits are the
+-- rows of their text.
 -- Assumes nothing.
-use mathlib.Core.Path.{_≡_, refl, ap, _∙_}
+use mathlib.Core.Path.{_≡_, refl, ap, sym, _∙_}
 use mathlib.Core.Bool.{Bool, true, false, _&&_, _||_, cond}
 use mathlib.Core.List.{List, [], _∷_, _++_, map, flatMap, append-assoc}
 use Prim.Native.Nat.{ℕ, _≤_}
 use native.Mathlib.Omega.{arith}
 use lib.Dec.{eqb, leb}
+use lib.ListN.{length, length-append}
 use borrow.Author.Tests.{eqb-true, ne-eqb, leb-true}
 use Rattle.semigroups.proofs.Booleans.{and-left, and-right}
 use Rattle.csv.specs.Decimals.{isDigit}
 use Rattle.csv.specs.Records.{isBreak, onto, records, fields, rows, recordText, lineText, rowsText}
 use Rattle.csv.proofs.Every.{Every, every-append, every-map}
-use Rattle.csv.proofs.Records.{Cons, Plain, Whole, fields-cons, recordText-fields, fields-recordText, records-closed, linesText, linesText-records, ends}
+use Rattle.csv.proofs.Records.{Cons, Plain, Whole, fields-cons, recordText-fields, fields-recordText, records-closed, linesText, linesText-records, ends, missing}
 use Rattle.csv.proofs.Bytes.{inField, clean}
 
 -- ---- digits
@@ -115,9 +117,9 @@ unfolding rowsText lineText linesText flatMap
 rowsText-fields [] = refl
 rowsText-fields (r ∷ l) = cc (recordText-fields r, rowsText-fields l)
 
-pub rowsText-rows : (t : List ℕ) → ends t ≡ true → rowsText (rows t) ≡ t
+pub rowsText-rows : (t : List ℕ) → rowsText (rows t) ≡ t ++ missing t
 unfolding rows
-rowsText-rows t h = rowsText-fields (records t) ∙ linesText-records t h
+rowsText-rows t = rowsText-fields (records t) ∙ linesText-records t
 
 onto-in : (b : ℕ) (l : List (List ℕ)) → inField b ≡ true → Every InRecord l → Every InRecord (onto b l)
 unfolding onto
@@ -163,3 +165,13 @@ rows-in (r ∷ l) h = (row-of (fields r) (fields-cons r) (fields-digits r (h .0)
 pub clean-rows : (t : List ℕ) → clean t ≡ true → Rows (rows t)
 unfolding rows
 clean-rows t h = rows-in (records t) (records-in t h)
+
+-- A text of some bytes has a first row, and that a first field.
+pub rows-some : (t : List ℕ) → 1 ≤ length t → clean t ≡ true → (f : List ℕ) × (fs : List (List ℕ)) × (rs : List (List (List ℕ))) × (rows t ≡ (f ∷ fs) ∷ rs)
+unfolding rowsText flatMap
+rows-some t h c = go (rows t) refl (clean-rows t c)
+  where
+    go : (l : List (List (List ℕ))) → rows t ≡ l → Rows l → (f : List ℕ) × (fs : List (List ℕ)) × (rs : List (List (List ℕ))) × (rows t ≡ (f ∷ fs) ∷ rs)
+    go [] e r = let w : ⊥ = omega (arith, length-append t (missing t), ap length (sym (ap rowsText e) ∙ rowsText-rows t)) in absurd w
+    go ([] ∷ rs) e r = absurd (r .0)
+    go ((f ∷ fs) ∷ rs) e r = (f, fs, rs, e)

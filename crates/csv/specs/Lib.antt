@@ -1,5 +1,6 @@
 pub mod Decimals
 pub mod Records
+pub mod Cursor
 pub mod Tables
 pub mod Questions
 pub mod Calls

@@ -9,12 +9,14 @@ ghost use lib.Seq.{sets};
 ghost use Rattle.semigroups.specs.Tables.{Element, Filled};
 ghost use Rattle.csv.specs.Decimals.{digits, value, numeral};
 ghost use Rattle.csv.specs.Records.{lineText};
+ghost use Rattle.csv.specs.Cursor.{fieldEnd};
 ghost use Rattle.csv.specs.Tables.{fieldsOf, orderOf, cellsOf, rowFields, tableText};
 ghost use Rattle.csv.specs.Questions.{bytesRefusal, endRefusal, fieldRefusal, fieldsRefusal, gridRefusal};
 ghost use Rattle.semigroups.specs.Calls.{overwritten};
 ghost use Rattle.csv.specs.Calls.{loadAnswer, cellsAfter, saveAnswer, textAfter};
 ghost use Rattle.tables.specs.Answers.{refusalNumbers};
 ghost use Rattle.text.specs.Answers.{textFaultRefusal, judgedRefusal, loadedAnswer, savedAnswer};
+ghost use Rattle.text.specs.Fields.{fieldAt};
 use tables::Refusal;
 
 // Why a text is refused: questions 20 to 26, 1 and 27. 21 carries the place of the byte, from 0.
@@ -118,7 +120,7 @@ fn judge_end(text: &[u8]) -> Judged
 // The place behind the digits that stand from `at` on.
 fn digits_end(text: &[u8], at: usize) -> usize
     requires { ⌜ at ≤ length (now text) ⌝ }
-    ensures answer { λ r. ⌜ r ≡ at + length (digits (drop at (now (text .entry)))) ⌝ }
+    ensures answer { λ r. ⌜ r ≡ fieldEnd (now (text .entry)) at ⌝ }
 {
     let mut i = at;
     while i < text.len() {
@@ -137,7 +139,7 @@ fn digits_end(text: &[u8], at: usize) -> usize
 // The number that the digits from `at` to `end` stand for: at most three of them.
 fn read_number(text: &[u8], at: usize, end: usize) -> usize
     requires inside { ⌜ at ≤ length (now text) ⌝ }
-    requires whole { ⌜ end ≡ at + length (digits (drop at (now text))) ⌝ }
+    requires whole { ⌜ end ≡ fieldEnd (now text) at ⌝ }
     requires short { ⌜ length (digits (drop at (now text))) ≤ 3 ⌝ }
     ensures answer { λ r. ⌜ r ≡ value (digits (drop at (now (text .entry)))) ⌝ }
 {
@@ -153,7 +155,7 @@ fn read_number(text: &[u8], at: usize, end: usize) -> usize
 // Questions 23, 24 and 25 about the field of digits from `at` to `end`.
 fn judge_field(text: &[u8], at: usize, end: usize) -> Judged
     requires inside { ⌜ at ≤ length (now text) ⌝ }
-    requires whole { ⌜ end ≡ at + length (digits (drop at (now text))) ⌝ }
+    requires whole { ⌜ end ≡ fieldEnd (now text) at ⌝ }
     ensures answer { λ r. ⌜ judgedRefusal r ≡ fieldRefusal (digits (drop at (now (text .entry)))) ⌝ }
 {
     if end - at < 1 {
@@ -171,47 +173,88 @@ fn judge_field(text: &[u8], at: usize, end: usize) -> Judged
     Judged::Passed
 }
 
+// A field of the text: the place behind it, where the next field begins, whether a comma stands between the two, and whether there is a next one.
+struct Field {
+    end: usize,
+    next: usize,
+    comma: bool,
+    more: bool,
+}
+
+// The field that begins at `at`: where the text ends, an empty one.
+fn next_field(text: &[u8], at: usize) -> Field
+    requires { ⌜ at ≤ length (now text) ⌝ }
+    ensures answer { λ r. ⌜ r ≡ fieldAt (now (text .entry)) at ⌝ }
+{
+    let end = digits_end(text, at);
+    if text.len() <= end {
+        return Field {
+            end: end,
+            next: end + 2,
+            comma: false,
+            more: false,
+        };
+    }
+    if text[end] == 44 {
+        return Field {
+            end: end,
+            next: end + 1,
+            comma: true,
+            more: true,
+        };
+    }
+    Field {
+        end: end,
+        next: end + 2,
+        comma: false,
+        more: end + 2 < text.len(),
+    }
+}
+
 // The number of fields of the first record.
 fn columns(text: &[u8]) -> usize
+    requires some { ⌜ 1 ≤ length (now text) ⌝ }
     requires bytes { ⌜ bytesRefusal (now text) ≡ none ⌝ }
-    requires end { ⌜ endRefusal (now text) ≡ none ⌝ }
     ensures answer { λ r. ⌜ r ≡ orderOf (now (text .entry)) ⌝ }
 {
-    let mut n: usize = 1;
-    let mut end = digits_end(text, 0);
-    while text[end] == 44 {
+    let mut n: usize = 0;
+    let mut at: usize = 0;
+    let mut comma = true;
+    while comma {
+        let field = next_field(text, at);
         n += 1;
-        end = digits_end(text, end + 1);
+        at = field.next;
+        comma = field.comma;
     }
     n
 }
 
 // Questions 23 to 25 about each field; then, where they pass, 26: are there n records, each with n fields?
 fn judge_fields(text: &[u8], n: usize) -> Judged
+    requires some { ⌜ 1 ≤ length (now text) ⌝ }
     requires bytes { ⌜ bytesRefusal (now text) ≡ none ⌝ }
-    requires end { ⌜ endRefusal (now text) ≡ none ⌝ }
     ensures answer { λ r. ⌜ judgedRefusal r ≡ gridRefusal n (now (text .entry)) ⌝ }
 {
     let mut at: usize = 0;
+    let mut more = true;
     let mut row: usize = 0;
     let mut column: usize = 0;
     let mut square = true;
-    while at < text.len() {
-        let end = digits_end(text, at);
-        let field = judge_field(text, at, end);
-        if let Judged::Failed(f) = field {
+    while more {
+        let field = next_field(text, at);
+        let judged = judge_field(text, at, field.end);
+        if let Judged::Failed(f) = judged {
             return Judged::Failed(f);
         }
+        at = field.next;
+        more = field.more;
         column += 1;
-        if text[end] == 44 {
-            at = end + 1;
-        } else {
+        if !field.comma {
             if column != n {
                 square = false;
             }
             column = 0;
             row += 1;
-            at = end + 2;
         }
     }
     if !square {
@@ -225,23 +268,21 @@ fn judge_fields(text: &[u8], n: usize) -> Judged
 
 // Writes the number of each field to `cells`, in reading order.
 fn fill(text: &[u8], cells: &mut [u8])
+    requires some { ⌜ 1 ≤ length (now text) ⌝ }
     requires bytes { ⌜ bytesRefusal (now text) ≡ none ⌝ }
-    requires end { ⌜ endRefusal (now text) ≡ none ⌝ }
     requires numbers { ⌜ fieldsRefusal (fieldsOf (now text)) ≡ none ⌝ }
     requires room { ⌜ length (cellsOf (now text)) ≤ length (now cells) ⌝ }
     ensures cells { λ _. ⌜ now (cells .exit) ≡ overwritten (cellsOf (now (text .entry))) (now (cells .entry)) ⌝ }
 {
     let mut at: usize = 0;
+    let mut more = true;
     let mut k: usize = 0;
-    while at < text.len() {
-        let end = digits_end(text, at);
-        cells[k] = read_number(text, at, end) as u8;
+    while more {
+        let field = next_field(text, at);
+        cells[k] = read_number(text, at, field.end) as u8;
         k += 1;
-        if text[end] == 44 {
-            at = end + 1;
-        } else {
-            at = end + 2;
-        }
+        at = field.next;
+        more = field.more;
     }
 }
 

@@ -1,120 +1,115 @@
 -- `judge_fields` answers questions 23 to 26. The loop's invariant: the fields and the shape that are left from the field at `at` on tell the answers.
 -- Assumes nothing.
 use mathlib.Core.Path.{_≡_, ap, sym, _∙_}
+use mathlib.Core.Bool.{true, false}
 use mathlib.Core.Option.{none}
 use mathlib.Core.Logic.{⊎-elim}
-use Prim.Native.Nat.{_+_, _-_, _<_}
+use mathlib.Core.List.{List}
+use Prim.Native.Nat.{ℕ, _+_, _-_}
 use native.Mathlib.Omega.{arith}
 use lib.ListN.{length, drop}
 use denote.Ref.{now}
 use borrow.Author.Needs.{needs}
+use borrow.Author.Tests.{not-true, not-false}
 use Rattle.csv.specs.Decimals.{digits}
+use Rattle.csv.specs.Cursor.{commaBehind}
 use Rattle.csv.specs.Questions.{fieldRefusal}
+use Rattle.text.specs.declared.Field.{Field}
+use Rattle.text.specs.Fields.{fieldAt}
 use Rattle.text.specs.Answers.{judgedRefusal}
-use Rattle.csv.proofs.Reading.{Turn, turn-inside, break-inside}
+use Rattle.csv.proofs.Reading.{turn-forward}
 use Rattle.csv.proofs.Judging.{Judging, here, judge-first, judge-refused, judge-comma, judge-break, judge-uneven, says-field, end-uneven, end-many, end-square}
 use Rattle.text.proofs.judge_fields.Statement.{statement}
 use Rattle.text.proofs.judge_fields.Tie as tie
 
 abbrev Inv-loop : tie.InvT-loop
-Inv-loop text n at₀ row₀ column₀ square₀ at row column square = Judging text n at row column square
+Inv-loop text n at₀ more₀ row₀ column₀ square₀ at more row column square = Judging text n at row column square more
 
 abbrev μ-loop : tie.MeasureT-loop
-μ-loop text n at₀ row₀ column₀ square₀ at row column square = length text - at
+μ-loop text n at₀ more₀ row₀ column₀ square₀ at more row column square = length text + 1 - at
 
--- In a turn whose field passes: the end of the field lies inside, and questions 23 to 25 pass.
+-- In a turn whose field passes 23 to 25.
 module _ (c : tie.After-enum-told Inv-loop μ-loop) where
   abbrev at-loop : tie.At-loop Inv-loop μ-loop
   at-loop = c .before .before .before .before .before
 
-  abbrev inside : at-loop .loop .at < length (now (at-loop .before .before .args .text))
-  inside = c .before .before .before .before .loop-test .taken
+  abbrev text-of : List ℕ
+  text-of = now (at-loop .before .before .args .text)
 
-  abbrev ending : c .before .before .before .digits-end .result ≡ at-loop .loop .at + length (digits (drop (at-loop .loop .at) (now (at-loop .before .before .args .text))))
-  ending = c .before .before .before .digits-end .ensures
+  abbrev inv : Judging text-of (at-loop .before .before .args .n) (at-loop .loop .at) (at-loop .loop .row) (at-loop .loop .column) (at-loop .loop .square) (at-loop .loop .more)
+  inv = at-loop .loop .inv
 
-  turn-here : Turn (now (at-loop .before .before .args .text)) (at-loop .loop .at) (c .before .before .before .digits-end .result) (at-loop .loop .inv .rest)
-  turn-here = here (at-loop .loop .inv) inside ending
+  abbrev field : c .before .before .before .next-field .result ≡ fieldAt text-of (at-loop .loop .at)
+  field = c .before .before .before .next-field .ensures
 
-  passes : fieldRefusal (digits (drop (at-loop .loop .at) (now (at-loop .before .before .args .text)))) ≡ none
+  abbrev goes-on : at-loop .loop .more ≡ true
+  goes-on = c .before .before .before .before .loop-test .taken
+
+  passes : fieldRefusal (digits (drop (at-loop .loop .at) text-of)) ≡ none
   passes = sym (c .before .before .judge-field .ensures) ∙ ap judgedRefusal (c .enum-told .given .1)
 
 loop-holds : tie.Need-loop-holds Inv-loop μ-loop
-loop-holds c =
-    let s = c .before in
-    judge-first (s .pre .0) (s .pre .1)
+loop-holds c = judge-first (c .before .pre .0) (c .before .pre .1)
 
-digits-end-requires : tie.Need-digits-end-requires Inv-loop μ-loop
-digits-end-requires c κs = omega arith
+next-field-requires : tie.Need-next-field-requires Inv-loop μ-loop
+next-field-requires c κs = here (c .before .loop .inv) (c .loop-test .taken) .inside
 
 judge-field-requires : tie.Need-judge-field-requires Inv-loop μ-loop
-judge-field-requires c κs = (omega arith, c .digits-end .ensures)
+judge-field-requires c κs =
+    let f = c .next-field .ensures in
+    (here (c .before .before .loop .inv) (c .before .loop-test .taken) .inside, rw f)
 
-enum-known-field : tie.Need-enum-known-field Inv-loop μ-loop
-enum-known-field c = search needs
+enum-known-judged : tie.Need-enum-known-judged Inv-loop μ-loop
+enum-known-judged c = search needs
 
 returns : tie.Need-returns Inv-loop μ-loop
 returns c =
     let l = c .before .before .before .before .before .before in
-    let h = c .before .before .before .before .before in
     says-field _ _
-    (judge-refused (l .loop .inv) (h .loop-test .taken) (c .before .before .before .before .digits-end .ensures)
-    (sym (c .before .before .before .judge-field .ensures) ∙ ap judgedRefusal (c .before .field .given .1)))
+    (judge-refused (l .loop .inv) (c .before .before .before .before .before .loop-test .taken)
+    (sym (c .before .before .before .judge-field .ensures) ∙ ap judgedRefusal (c .before .judged .given .1)))
 
 enum-told : tie.Need-enum-told Inv-loop μ-loop
 enum-told c = search needs
 
 add-column : tie.Need-add-column Inv-loop μ-loop
 add-column c =
-    let l = c .before .before .before .before .before in
-    let w = l .loop .inv .few-columns in
-    omega arith
-
-shared-slice-read-if1 : tie.Need-shared-slice-read-if1 Inv-loop μ-loop
-shared-slice-read-if1 c =
-    let x = c .before in
-    omega (arith, turn-inside (turn-here x))
-
-add-at : tie.Need-add-at Inv-loop μ-loop
-add-at c =
-    let x = c .before .before in
-    omega (arith, turn-inside (turn-here x))
-
-loop-less : tie.Need-loop-less Inv-loop μ-loop
-loop-less c =
-    let x = c .before .before in
-    let e = ending x in
-    omega (arith, turn-inside (turn-here x))
-
-loop-again : tie.Need-loop-again Inv-loop μ-loop
-loop-again c =
-    let x = c .before .before in
-    judge-comma (at-loop x .loop .inv) (inside x) (ending x) (passes x) (c .if1 .taken)
+    let w = inv c .few-columns in
+    omega (arith, here (inv c) (goes-on c) .inside)
 
 add-row : tie.Need-add-row Inv-loop μ-loop
 add-row c =
-    let l = c .before .before .before .before .before .before .before .before in
-    let w = l .loop .inv .few-rows in
-    omega arith
-
-add-at-2 : tie.Need-add-at-2 Inv-loop μ-loop
-add-at-2 c =
     let x = c .before .before .before in
-    omega (arith, break-inside (turn-here x) (c .before .if1 .left))
+    let w = inv x .few-rows in
+    omega (arith, here (inv x) (goes-on x) .inside)
+
+loop-less : tie.Need-loop-less Inv-loop μ-loop
+loop-less c =
+    let x = c .before .before .before in
+    let f = field x in
+    rw f (turn-forward (here (inv x) (goes-on x)))
+
+loop-again : tie.Need-loop-again Inv-loop μ-loop
+loop-again c =
+    let x = c .before .before .before in
+    let f = field x in
+    let comma : commaBehind (text-of x) (at-loop x .loop .at) ≡ false = sym (ap (λ (r : Field). r .comma) f) ∙ not-true _ (c .before .if1 .taken) in
+    rw f
+    (⊎-elim (λ w. rw (w .1) (judge-uneven (inv x) (goes-on x) (passes x) comma (w .0 .taken)))
+    (λ w. rw (w .1) (judge-break (inv x) (goes-on x) (passes x) comma (w .0 .left)))
+    (c .if2 .came))
 
 loop-less-2 : tie.Need-loop-less-2 Inv-loop μ-loop
 loop-less-2 c =
-    let x = c .before .before .before in
-    let e = ending x in
-    omega (arith, break-inside (turn-here x) (c .before .if1 .left))
+    let x = c .before .before in
+    let f = field x in
+    rw f (turn-forward (here (inv x) (goes-on x)))
 
 loop-again-2 : tie.Need-loop-again-2 Inv-loop μ-loop
 loop-again-2 c =
-    let x = c .before .before .before in
-    let k = at-loop x .loop .inv in
-    ⊎-elim (λ w. rw (w .1) (judge-uneven k (inside x) (ending x) (passes x) (c .before .if1 .left) (w .0 .taken)))
-    (λ w. rw (w .1) (judge-break k (inside x) (ending x) (passes x) (c .before .if1 .left) (w .0 .left)))
-    (c .if2 .came)
+    let x = c .before .before in
+    let f = field x in
+    rw f (judge-comma (inv x) (goes-on x) (passes x) (sym (ap (λ (r : Field). r .comma) f) ∙ not-false _ (c .if1 .left)))
 
 returns-2 : tie.Need-returns-2 Inv-loop μ-loop
 returns-2 c = end-uneven (c .before .before .loop .inv) (c .before .loop-test .left) (c .if3 .taken)
@@ -132,18 +127,15 @@ judge-fields-spec =
     Inv-loop
     μ-loop
     loop-holds
-    digits-end-requires
+    next-field-requires
     judge-field-requires
-    enum-known-field
+    enum-known-judged
     returns
     enum-told
     add-column
-    shared-slice-read-if1
-    add-at
+    add-row
     loop-less
     loop-again
-    add-row
-    add-at-2
     loop-less-2
     loop-again-2
     returns-2

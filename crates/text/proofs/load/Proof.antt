@@ -3,7 +3,8 @@
 use mathlib.Core.List.{List}
 use mathlib.Core.Path.{_≡_, ap, sym, _∙_}
 use mathlib.Core.Option.{none}
-use Prim.Native.Nat.{ℕ}
+use Prim.Native.Nat.{ℕ, _≤_}
+use lib.ListN.{length}
 use native.Mathlib.Omega.{arith}
 use denote.Ref.{now}
 use borrow.Author.Needs.{needs}
@@ -22,6 +23,9 @@ module _ (c : tie.After-enum-told) where
 
   abbrev text-of : List ℕ
   text-of = now (sized .before .before .before .before .args .text)
+
+  abbrev some : 1 ≤ length text-of
+  some = sized .before .if1 .left
 
   bytes-pass : bytesRefusal text-of ≡ none
   bytes-pass = sym (c .before .before .judge-bytes .ensures) ∙ ap judgedRefusal (c .enum-told .given .1)
@@ -80,10 +84,10 @@ enum-told-2 : tie.Need-enum-told-2
 enum-told-2 c = search needs
 
 columns-requires : tie.Need-columns-requires
-columns-requires c κs = (bytes-pass (bytes-told c), end-pass c)
+columns-requires c κs = (some (bytes-told c), bytes-pass (bytes-told c))
 
 judge-fields-requires : tie.Need-judge-fields-requires
-judge-fields-requires c κs = (bytes-pass (bytes-told (c .before)), end-pass (c .before))
+judge-fields-requires c κs = (some (bytes-told (c .before)), bytes-pass (bytes-told (c .before)))
 
 enum-known-fields : tie.Need-enum-known-fields
 enum-known-fields c = search needs
@@ -123,7 +127,7 @@ fill-requires c κs =
     let z = c .before .before .before in
     let y = end-told z in
     let g = grid-passed _ _ (grid-pass z) in
-    (bytes-pass (bytes-told y), (end-pass y, (g .numbers, omega (arith, cells-length _ _ g))))
+    (some (bytes-told y), (bytes-pass (bytes-told y), (g .numbers, omega (arith, cells-length _ _ g))))
 
 same-length : tie.Need-same-length
 same-length c = search needs
