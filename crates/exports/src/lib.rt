@@ -106,8 +106,8 @@ fn profile_words(said: ProfileAnswer) -> [u64; 8]
         ProfileAnswer::Value(p) => [
             0,
             0,
-            p.index as u64,
-            p.period as u64,
+            p.powers.index as u64,
+            p.powers.period as u64,
             p.frequency as u64,
             p.diagonal as u64,
             p.row as u64,
