@@ -1,30 +1,28 @@
--- Keys: their parts can be told apart, since each fits its digit; and the keys of all elements, filled place by place. Assumes nothing.
-use mathlib.Core.Path.{_≡_, ap, ap₂, _∙_}
+-- Keys: their parts can be told apart, since each takes one of its values; and the keys of all elements, one part more at a time. Assumes nothing.
+use mathlib.Core.Path.{_≡_, refl, sym, ap, ap₂, _∙_}
 use mathlib.Core.Logic.{⊎-elim}
-use mathlib.Core.Bool.{Bool, true, _&&_, and-assoc}
-use mathlib.Core.List.{List}
+use mathlib.Core.Bool.{Bool, true, _&&_, and-true, and-assoc}
+use mathlib.Core.List.{List, [], _∷_}
 use Prim.Native.Nat.{ℕ, suc, _+_, _-_, _*_, _≤_, _<_}
-use native.Mathlib.Nat.{mul-le-mul-right, suc-mul}
+use native.Mathlib.Nat.{mul-le-mul-right, suc-mul, zero-mul}
 use native.Mathlib.Omega.{arith}
 use borrow.Author.Tests.{eqb-true, eq-eqb}
 use lib.Dec.{eqb}
-use lib.ListN.{getD, set}
-use Rattle.semigroups.specs.Lists.{elements, at}
-use Rattle.semigroups.specs.Tables.{Product, product, Element, Filled}
+use lib.ListN.{getD, take, replicate}
+use Rattle.semigroups.specs.Lists.{at, all}
+use Rattle.semigroups.specs.Tables.{Product, product, Element, Closed, Filled}
 use Rattle.semigroups.specs.Invariants.{IndexPeriod, Profile, index, period, indexPeriod, sameIndexPeriod, frequency, diagonalFrequency, rowFrequency, columnFrequency, profile, sameProfile}
 use Rattle.semigroups.specs.Maps.{embeddings, isomorphisms}
 use Rattle.semigroups.specs.Candidates.{candidate}
 use Rattle.semigroups.specs.Scratch.{scratchAfter}
 use Rattle.semigroups.proofs.Booleans.{same-truth, both, and-left, and-right, trichotomy}
-use Rattle.semigroups.proofs.Lists.{length-elements}
-use Rattle.semigroups.proofs.Sums.{count-at-most}
 use Rattle.semigroups.proofs.Tables.{product-element}
-use Rattle.semigroups.proofs.Frequencies.{frequency-cells}
-use Rattle.invariants.specs.PerElement.{perElement}
-use Rattle.invariants.proofs.Powers.{period-at-most}
-use Rattle.invariants.proofs.Counts.{cells-at-most, row-at-most, column-at-most}
-use Rattle.invariants.proofs.PerElement.{per-element-at, fill-step}
-use Rattle.candidates.specs.Keys.{indexPeriodKey, profileKey, sameKey}
+use Rattle.invariants.specs.declared.ElementCounts.{ElementCounts}
+use Rattle.invariants.specs.PerElement.{perElement, AllCounts}
+use Rattle.invariants.proofs.Powers.{index-at-most, period-at-most}
+use Rattle.invariants.proofs.Counts.{frequency-at-most, diagonal-at-most, row-at-most, column-at-most}
+use Rattle.invariants.proofs.PerElement.{per-element-at, per-element-same, zero-start}
+use Rattle.candidates.specs.Keys.{Part, packed, indexPeriodParts, countParts, indexPeriodKey, profileKey, appended, Room, sameKey}
 use Rattle.candidates.proofs.Marks.{scratch-same}
 
 -- ---- digits
@@ -60,112 +58,130 @@ digit base a b x y hb hy = same-truth (eqb (a * base + b) (x * base + y)) (eqb a
 
 -- ---- keys
 
-pub index-period-keys : (u v : IndexPeriod) → u .period < 256 → v .period < 256 → eqb (indexPeriodKey u) (indexPeriodKey v) ≡ sameIndexPeriod u v
-unfolding indexPeriodKey sameIndexPeriod
-index-period-keys u v hu hv = digit 256 (u .index) (u .period) (v .index) (v .period) hu hv
+module _ {A : Type 0} where
+  -- Each part fits.
+  abbrev pub Fits : List (Part A) → A → Type 0
+  Fits [] v = Unit {0}
+  Fits (p ∷ parts) v = (p .number v < p .values) × Fits parts v
 
--- Each part fits its digit.
-pub record Packed (v : Profile) : Type 0 where
-  pub period : v .period < 256
-  pub frequency : v .frequency < 65536
-  pub diagonal : v .diagonal < 256
-  pub row : v .row < 256
-  pub column : v .column < 256
+  -- Keys with further parts are equal exactly where the keys and the parts are.
+  packed-same : (parts : List (Part A)) (u v : A) (x y : ℕ) → Fits parts u → Fits parts v → eqb (packed parts u x) (packed parts v y) ≡ (eqb x y && all (λ p. eqb (p .number u) (p .number v)) parts)
+  unfolding packed all
+  packed-same [] u v x y hu hv = sym (and-true (eqb x y))
+  packed-same (p ∷ parts) u v x y hu hv =
+      packed-same parts u v (x * p .values + p .number u) (y * p .values + p .number v) (hu .1) (hv .1)
+      ∙ ap (λ (b : Bool). b && all (λ q. eqb (q .number u) (q .number v)) parts) (digit (p .values) x (p .number u) y (p .number v) (hu .0) (hv .0))
+      ∙ and-assoc (eqb x y) (eqb (p .number u) (p .number v)) (all (λ q. eqb (q .number u) (q .number v)) parts)
 
-pub profile-keys : (u v : Profile) → Packed u → Packed v → eqb (profileKey u) (profileKey v) ≡ sameProfile u v
-unfolding profileKey sameProfile sameIndexPeriod
+pub index-period-keys : (u v : IndexPeriod) → Fits indexPeriodParts u → Fits indexPeriodParts v → eqb (indexPeriodKey u) (indexPeriodKey v) ≡ sameIndexPeriod u v
+unfolding indexPeriodKey sameIndexPeriod all
+index-period-keys u v hu hv = packed-same indexPeriodParts u v 0 0 hu hv ∙ simp and-true
+
+-- Each part of a profile fits.
+abbrev pub ProfileFits : Profile → Type 0
+ProfileFits v = Fits indexPeriodParts (v .powers) × Fits countParts v
+
+pub profile-keys : (u v : Profile) → ProfileFits u → ProfileFits v → eqb (profileKey u) (profileKey v) ≡ sameProfile u v
+unfolding profileKey sameProfile all
 profile-keys u v hu hv =
-    digit 256 (rows u) (u .column) (rows v) (v .column) (hu .column) (hv .column)
-    ∙ ap (λ (b : Bool). b && eqb (u .column) (v .column))
-    (digit 256 (diagonals u) (u .row) (diagonals v) (v .row) (hu .row) (hv .row)
-    ∙ ap (λ (b : Bool). b && eqb (u .row) (v .row))
-    (digit 256 (frequencies u) (u .diagonal) (frequencies v) (v .diagonal) (hu .diagonal) (hv .diagonal)
-    ∙ ap (λ (b : Bool). b && eqb (u .diagonal) (v .diagonal))
-    (digit 65536 (indexPeriodKey (powers u)) (u .frequency) (indexPeriodKey (powers v)) (v .frequency) (hu .frequency) (hv .frequency)
-    ∙ ap (λ (b : Bool). b && eqb (u .frequency) (v .frequency)) (index-period-keys (powers u) (powers v) (hu .period) (hv .period)))))
-    ∙ simp and-assoc
-  where
-    powers : Profile → IndexPeriod
-    powers w = record { index = w .index; period = w .period }
+    packed-same countParts u v (indexPeriodKey (u .powers)) (indexPeriodKey (v .powers)) (hu .1) (hv .1) ∙ rw (index-period-keys (u .powers) (v .powers) (hu .0) (hv .0)) (simp and-true)
 
-    frequencies : Profile → ℕ
-    frequencies w = indexPeriodKey (powers w) * 65536 + w .frequency
-
-    diagonals : Profile → ℕ
-    diagonals w = frequencies w * 256 + w .diagonal
-
-    rows : Profile → ℕ
-    rows w = diagonals w * 256 + w .row
-
--- ---- the elements of a table
+-- ---- the elements of a table: each number takes one of its values
 
 module _ (n : ℕ) (cells : List ℕ) (t : Filled n cells) (a : ℕ) (h : Element n a) where
   abbrev s : Product
   s = product n cells
 
-  period-fits : period n s a < 256
-  period-fits = let l = t .order in omega (arith, period-at-most n s a (product-element n cells (t .size) (t .in-range)) h)
+  closed : Closed n s
+  closed = product-element n cells (t .size) (t .in-range)
 
-  pub index-period-packed : indexPeriod n s a .period < 256
-  unfolding indexPeriod
-  index-period-packed = period-fits
+  pub index-fits : index n s a < 256
+  index-fits = let l = t .order in omega (arith, index-at-most n s a closed h)
+
+  pub period-fits : period n s a < 256
+  period-fits = let l = t .order in omega (arith, period-at-most n s a closed h)
+
+  pub frequency-fits : frequency n s a < 65536
+  frequency-fits = omega (arith, frequency-at-most n cells t a)
 
   pub diagonal-fits : diagonalFrequency n s a < 256
-  unfolding diagonalFrequency
-  diagonal-fits = let l = t .order in let c = count-at-most (λ i. eqb (s i i) a) (elements n) in omega (arith, length-elements n)
+  diagonal-fits = let l = t .order in omega (arith, diagonal-at-most n cells a)
 
-  frequency-fits : frequency n s a < 65536
-  frequency-fits = let e = frequency-cells n cells (t .size) a in let c = count-at-most (λ x. eqb x a) cells in omega (arith, cells-at-most n cells t)
+  pub row-fits : rowFrequency n s a < 256
+  row-fits = let l = t .order in omega (arith, row-at-most n cells a)
 
-  pub profile-packed : Packed (profile n s a)
+  pub column-fits : columnFrequency n s a < 256
+  column-fits = let l = t .order in omega (arith, column-at-most n cells a)
+
+  pub index-period-key-fits : indexPeriodKey (indexPeriod n s a) < 65536
+  unfolding indexPeriodKey packed indexPeriod
+  index-period-key-fits = let i = index-fits in let p = period-fits in omega arith
+
+  index-period-fits : Fits indexPeriodParts (indexPeriod n s a)
+  unfolding indexPeriod
+  index-period-fits = (index-fits, (period-fits, tt))
+
+  profile-fits : ProfileFits (profile n s a)
   unfolding profile
-  profile-packed =
-      let l = t .order in
-      record {
-        period = period-fits;
-        frequency = frequency-fits;
-        diagonal = diagonal-fits;
-        row = omega (arith, row-at-most n cells a);
-        column = omega (arith, column-at-most n cells a);
-      }
+  profile-fits = (index-period-fits, (frequency-fits, (diagonal-fits, (row-fits, (column-fits, tt)))))
 
 -- ---- the keys of all elements
 
--- Place k holds the value of element k + 1.
-module _ (w : ℕ → ℕ) where
-  pub value-at : (n k : ℕ) (l : List ℕ) → l ≡ perElement n w → k < n → getD l k 0 ≡ w (k + 1)
-  value-at n k l e h =
-      ap₂ (λ (x : List ℕ) (i : ℕ). getD x i 0) e (let z : k ≡ k + 1 - 1 = omega arith in z) ∙ per-element-at n w (k + 1) (omega arith)
+-- They are `key` of each element, and below the bound.
+pub record AllKeys (n : ℕ) (key : ℕ → ℕ) (bound : ℕ) (keys : List ℕ) : Type 0 where
+  pub each : keys ≡ perElement n key
+  pub below : (a : ℕ) → Element n a → key a < bound
 
-  pub value-next : (k v : ℕ) (l : List ℕ) → l ≡ perElement k w → k < 120 → v ≡ w (k + 1) → set l k v ≡ perElement (k + 1) w
-  value-next k v l e h q =
-      let place : k ≡ k + 1 - 1 = omega arith in
-      ap₂ (λ (x : List ℕ) (i : ℕ). set x i v) (e ∙ ap (λ (i : ℕ). perElement i w) place) place
-      ∙ fill-step w (k + 1) v (omega arith) (omega arith) q
-      ∙ ap (λ (i : ℕ). perElement i w) (let z : k + 1 + 1 - 1 ≡ k + 1 = omega arith in z)
+-- There is room behind the keys for a number of each element, and with it they are `longer` of each, below the bound.
+abbrev pub Appends : ℕ → (ℕ → ℕ) → ℕ → ℕ → List ℕ → List ℕ → Type 0
+Appends n longer bound values keys numbers = Room n values keys numbers × ((l : List ℕ) → l ≡ perElement n (appended values keys numbers) → AllKeys n longer bound l)
 
--- What stands at place k of the arrays is the index-period, or the profile, of element k + 1.
-module _ (n : ℕ) (s : Product) (k : ℕ) (h : k < n) where
-  pub index-period-at : (indices periods : List ℕ) → indices ≡ perElement n (index n s) → periods ≡ perElement n (period n s) → record { index = getD indices k 0; period = getD periods k 0 } ≡ indexPeriod n s (k + 1)
-  unfolding indexPeriod
-  index-period-at indices periods e1 e2 =
-      let i = value-at (index n s) n k indices e1 h in
-      let p = value-at (period n s) n k periods e2 h in
-      cc
+-- One part more behind them, given for each element too.
+module _ (n : ℕ) (key : ℕ → ℕ) (bound : ℕ) (keys : List ℕ) (k : AllKeys n key bound keys)
+    (values : ℕ) (number : ℕ → ℕ) (numbers : List ℕ) (e : numbers ≡ perElement n number) (fits : (a : ℕ) → Element n a → number a < values) where
+  appended-at : (a : ℕ) → Element n a → appended values keys numbers a ≡ key a * values + number a
+  unfolding at
+  appended-at a h =
+      ap₂ (λ (x y : ℕ). x * values + y) (ap (λ (l : List ℕ). getD l (a - 1) 0) (k .each) ∙ per-element-at n key a h) (ap (λ (l : List ℕ). getD l (a - 1) 0) e ∙ per-element-at n number a h)
 
-  pub profile-at : (indices periods frequencies diagonals rows columns : List ℕ)
-      → indices ≡ perElement n (index n s) → periods ≡ perElement n (period n s) → frequencies ≡ perElement n (frequency n s)
-      → diagonals ≡ perElement n (diagonalFrequency n s) → rows ≡ perElement n (rowFrequency n s) → columns ≡ perElement n (columnFrequency n s)
-      → record { index = getD indices k 0; period = getD periods k 0; frequency = getD frequencies k 0; diagonal = getD diagonals k 0; row = getD rows k 0; column = getD columns k 0 } ≡ profile n s (k + 1)
-  unfolding profile
-  profile-at indices periods frequencies diagonals rows columns e1 e2 e3 e4 e5 e6 =
-      let i = value-at (index n s) n k indices e1 h in
-      let p = value-at (period n s) n k periods e2 h in
-      let f = value-at (frequency n s) n k frequencies e3 h in
-      let d = value-at (diagonalFrequency n s) n k diagonals e4 h in
-      let r = value-at (rowFrequency n s) n k rows e5 h in
-      let c = value-at (columnFrequency n s) n k columns e6 h in
-      cc
+  still-below : (a : ℕ) → Element n a → key a * values + number a < bound * values
+  still-below a h = let z = zero-mul values in let f = fits a h in omega (arith, lower values (key a) (number a) bound 0 f (k .below a h))
+
+  pub append-part : bound * values ≤ 18446744073709551616 → Appends n (λ a. key a * values + number a) (bound * values) values keys numbers
+  append-part h = (
+    λ a u. let b = still-below a u in omega (arith, appended-at a u),
+    λ l q. record { each = q ∙ per-element-same n (appended values keys numbers) (λ a. key a * values + number a) appended-at; below = still-below },
+  )
+
+-- No part yet.
+pub no-keys : (n : ℕ) → n ≤ 120 → AllKeys n (λ a. 0) 1 (replicate 120 0)
+no-keys n h = record { each = zero-start n (λ a. 0) h (λ x. refl); below = λ a u. omega arith }
+
+-- The parts of a profile one after the other: with each there is room for 64 bits, and the keys have one part more.
+module _ (n : ℕ) (cells : List ℕ) (t : Filled n cells) (r : ElementCounts) (e : AllCounts n (product n cells) r) where
+  -- The key with the first k counts.
+  abbrev pub key : ℕ → ℕ → ℕ
+  key k a = packed (take k countParts) (profile n (product n cells) a) (indexPeriodKey (indexPeriod n (product n cells) a))
+
+  pub powers-keys : (keys : List ℕ) → keys ≡ perElement n (λ a. indexPeriodKey (indexPeriod n (product n cells) a)) → AllKeys n (key 0) 65536 keys
+  unfolding packed
+  powers-keys keys q = record { each = q; below = index-period-key-fits n cells t }
+
+  pub append-frequency : (keys : List ℕ) → AllKeys n (key 0) 65536 keys → Appends n (key 1) 4294967296 65536 keys (r .frequency)
+  unfolding packed profile
+  append-frequency keys k = append-part n _ 65536 keys k 65536 (frequency n (product n cells)) (r .frequency) (e .frequency) (frequency-fits n cells t) (omega arith)
+
+  pub append-diagonal : (keys : List ℕ) → AllKeys n (key 1) 4294967296 keys → Appends n (key 2) 1099511627776 256 keys (r .diagonal)
+  unfolding packed profile
+  append-diagonal keys k = append-part n _ 4294967296 keys k 256 (diagonalFrequency n (product n cells)) (r .diagonal) (e .diagonal) (diagonal-fits n cells t) (omega arith)
+
+  pub append-row : (keys : List ℕ) → AllKeys n (key 2) 1099511627776 keys → Appends n (key 3) 281474976710656 256 keys (r .row)
+  unfolding packed profile
+  append-row keys k = append-part n _ 1099511627776 keys k 256 (rowFrequency n (product n cells)) (r .row) (e .row) (row-fits n cells t) (omega arith)
+
+  pub append-column : (keys : List ℕ) → AllKeys n (key 3) 281474976710656 keys → Appends n (key 4) 72057594037927936 256 keys (r .column)
+  unfolding packed profile
+  append-column keys k = append-part n _ 281474976710656 keys k 256 (columnFrequency n (product n cells)) (r .column) (e .column) (column-fits n cells t) (omega arith)
 
 -- ---- candidates
 
@@ -181,7 +197,7 @@ module _ {m : ℕ} {source : List ℕ} {n : ℕ} {target : List ℕ} {sources ta
       scratch-same m n (sameKey sources targets) (candidate embeddings m (product m source) n (product n target))
       (λ i j hi hj.
       ap₂ eqb (key-at m (λ a. indexPeriodKey (indexPeriod m (product m source) a)) sources i hi es) (key-at n (λ a. indexPeriodKey (indexPeriod n (product n target) a)) targets j hj et)
-      ∙ index-period-keys (indexPeriod m (product m source) i) (indexPeriod n (product n target) j) (index-period-packed m source fs i hi) (index-period-packed n target ft j hj)) scratch
+      ∙ index-period-keys (indexPeriod m (product m source) i) (indexPeriod n (product n target) j) (index-period-fits m source fs i hi) (index-period-fits n target ft j hj)) scratch
 
   pub isomorphism-marks : sources ≡ perElement m (λ a. profileKey (profile m (product m source) a)) → targets ≡ perElement n (λ a. profileKey (profile n (product n target) a))
       → scratchAfter m n (sameKey sources targets) scratch ≡ scratchAfter m n (candidate isomorphisms m (product m source) n (product n target)) scratch
@@ -190,4 +206,4 @@ module _ {m : ℕ} {source : List ℕ} {n : ℕ} {target : List ℕ} {sources ta
       scratch-same m n (sameKey sources targets) (candidate isomorphisms m (product m source) n (product n target))
       (λ i j hi hj.
       ap₂ eqb (key-at m (λ a. profileKey (profile m (product m source) a)) sources i hi es) (key-at n (λ a. profileKey (profile n (product n target) a)) targets j hj et)
-      ∙ profile-keys (profile m (product m source) i) (profile n (product n target) j) (profile-packed m source fs i hi) (profile-packed n target ft j hj)) scratch
+      ∙ profile-keys (profile m (product m source) i) (profile n (product n target) j) (profile-fits m source fs i hi) (profile-fits n target ft j hj)) scratch

@@ -10,7 +10,7 @@ ghost use Rattle.semigroups.specs.Candidates.{candidate};
 ghost use Rattle.semigroups.specs.Scratch.{scratchSize, marked, scratchAfter};
 ghost use Rattle.invariants.specs.PerElement.{perElement};
 ghost use Rattle.candidates.specs.Marks.{pairNumber, withMark};
-ghost use Rattle.candidates.specs.Keys.{indexPeriodKey, profileKey, sameKey};
+ghost use Rattle.candidates.specs.Keys.{indexPeriodKey, profileKey, appended, Room, sameKey};
 
 // ---- marks
 
@@ -51,21 +51,19 @@ fn mark(scratch: &mut [u8], n: usize, i: usize, j: usize, candidate: bool)
 
 // ---- keys
 
-// Index and period as one number, a byte each.
-fn index_period_key(index: u8, period: u8) -> u64
-    ensures answer { λ r. ⌜ r ≡ indexPeriodKey (record { index = index; period = period }) ⌝ }
+// Every key with one part more behind it: a number that takes one of `values` values.
+fn append(keys: &[u64; 120], n: usize, values: u64, numbers: &[u16; 120]) -> [u64; 120]
+    requires { ⌜ (n ≤ 120) × Room n values (now keys) (now numbers) ⌝ }
+    ensures answer { λ r. ⌜ r ≡ perElement n (appended values (now (keys .entry)) (now (numbers .entry))) ⌝ }
 {
-    (index as u64) * 256 + (period as u64)
-}
-
-// The six numbers of a profile as one number: the frequency takes two bytes, the others, which are at most 120, one byte each.
-fn profile_key(index: u8, period: u8, frequency: u16, diagonal: u16, row: u8, column: u8) -> u64
-    requires { ⌜ diagonal < 256 ⌝ }
-    ensures answer { λ r. ⌜ r ≡ profileKey (record { index = index; period = period; frequency = frequency; diagonal = diagonal; row = row; column = column }) ⌝ }
-{
-    let powers = index_period_key(index, period);
-    (((powers * 65536 + (frequency as u64)) * 256 + (diagonal as u64)) * 256 + (row as u64)) * 256
-        + (column as u64)
+    let mut longer = [0u64; 120];
+    let mut a: usize = 1;
+    while a <= n {
+        let place = a - 1;
+        longer[place] = keys[place] * values + (numbers[place] as u64);
+        a += 1;
+    }
+    longer
 }
 
 // The index-period key of every element; element a's stands at place a - 1.
@@ -74,13 +72,9 @@ fn index_period_keys(cells: &[u8], n: usize) -> [u64; 120]
     ensures answer { λ r. ⌜ r ≡ perElement n (λ a. indexPeriodKey (indexPeriod n (product n (now (cells .entry))) a)) ⌝ }
 {
     let powers = invariants::all_index_periods(cells, n);
-    let mut keys = [0u64; 120];
-    let mut k: usize = 0;
-    while k < n {
-        keys[k] = index_period_key(powers.index[k], powers.period[k]);
-        k += 1;
-    }
-    keys
+    let none = [0u64; 120];
+    let indices = append(&none, n, 256, &powers.index);
+    append(&indices, n, 256, &powers.period)
 }
 
 // The profile key of every element; element a's stands at place a - 1.
@@ -88,21 +82,12 @@ fn profile_keys(cells: &[u8], n: usize) -> [u64; 120]
     requires { ⌜ Filled n (now cells) ⌝ }
     ensures answer { λ r. ⌜ r ≡ perElement n (λ a. profileKey (profile n (product n (now (cells .entry))) a)) ⌝ }
 {
-    let profiles = invariants::all_profiles(cells, n);
-    let mut keys = [0u64; 120];
-    let mut k: usize = 0;
-    while k < n {
-        keys[k] = profile_key(
-            profiles.index[k],
-            profiles.period[k],
-            profiles.frequency[k],
-            profiles.diagonal[k],
-            profiles.row[k],
-            profiles.column[k],
-        );
-        k += 1;
-    }
-    keys
+    let counts = invariants::all_counts(cells, n);
+    let powers = index_period_keys(cells, n);
+    let frequencies = append(&powers, n, 65536, &counts.frequency);
+    let diagonals = append(&frequencies, n, 256, &counts.diagonal);
+    let rows = append(&diagonals, n, 256, &counts.row);
+    append(&rows, n, 256, &counts.column)
 }
 
 // ---- filling

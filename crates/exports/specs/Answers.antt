@@ -54,9 +54,9 @@ searchWords walks.nothing = valueWords (0 ∷ [])
 abbrev pub indexPeriodValues : IndexPeriod → List ℕ
 indexPeriodValues r = r .index ∷ r .period ∷ []
 
--- The six numbers of a profile.
+-- Those of its index-period, then the four counts of a profile.
 abbrev pub profileValues : Profile → List ℕ
-profileValues r = r .index ∷ r .period ∷ r .frequency ∷ r .diagonal ∷ r .row ∷ r .column ∷ []
+profileValues r = r .powers .index ∷ r .powers .period ∷ r .frequency ∷ r .diagonal ∷ r .row ∷ r .column ∷ []
 
 -- 0 for a map that holds; 1 and the element whose image is outside; 2 and the pair with equal images; 3 and the pair whose product fails.
 abbrev pub checkedValues : Checked → List ℕ

@@ -77,7 +77,14 @@ fn profile_words(said: ProfileAnswer) -> [u64; 16]
         ProfileAnswer::Value(p) => words(
             0,
             0,
-            &[p.index, p.period, p.frequency, p.diagonal, p.row, p.column],
+            &[
+                p.powers.index,
+                p.powers.period,
+                p.frequency,
+                p.diagonal,
+                p.row,
+                p.column,
+            ],
         ),
         ProfileAnswer::Refused(fault) => refusal_words(fault.refusal()),
     }

@@ -1,115 +1,147 @@
--- Counting over cells that stand a step apart: one cell more, and that rows, columns, the diagonal and the whole table are such cells.
--- Assumes nothing.
+-- Counting: one number more, over the places of a list, and over cells that stand a step apart, which rows, columns, the diagonal and the whole table
+-- are. Assumes nothing.
 use mathlib.Core.Path.{_≡_, refl, sym, ap, ap₂, _∙_}
-use mathlib.Core.Bool.{Bool, cond}
-use mathlib.Core.List.{List, [], _∷_, map}
-use Prim.Native.Nat.{ℕ, suc, _+_, _-_, _*_, _≤_, _<_}
+use mathlib.Core.Bool.{Bool, true, false, cond}
+use mathlib.Core.List.{List, [], _∷_}
+use Prim.Native.Nat.{ℕ, zero, suc, _+_, _-_, _*_, _≤_, _<_}
 use native.Mathlib.Nat.{suc-mul, mul-le-mul-right, mul-suc}
 use native.Mathlib.Numerals.{add-one}
 use native.Mathlib.Omega.{arith}
 use borrow.Author.Tests.{eq-eqb, ne-eqb}
 use lib.Dec.{eqb}
-use lib.ListN.{length, getD, take, drop, length-map, length-drop}
-use lib.Seq.{ext-getD, getD-drop, take-all}
+use lib.ListN.{length, getD, take, drop, length-drop}
+use lib.Seq.{getD-drop, take-all}
 use Rattle.semigroups.specs.Lists.{range, elements, sum, count}
 use Rattle.semigroups.specs.Tables.{product, Element, Filled}
 use Rattle.semigroups.specs.Invariants.{frequency, diagonalFrequency, rowFrequency, columnFrequency}
-use Rattle.semigroups.proofs.Lists.{length-range, length-elements, getD-range, getD-map}
-use Rattle.semigroups.proofs.Sums.{sum-append, count-map, count-at-most}
+use Rattle.semigroups.proofs.Lists.{length-range}
+use Rattle.semigroups.proofs.Sums.{sum-append, count-same, count-at-most}
 use Rattle.semigroups.proofs.Frequencies.{frequency-cells}
 use Rattle.tables.proofs.Questions.{square-small}
-use Rattle.invariants.proofs.Lists.{map-range-snoc, map-shift}
-use Rattle.invariants.specs.Counts.{every, occurrences, Reached}
+use Rattle.invariants.proofs.Lists.{range-snoc}
+use Rattle.invariants.specs.Counts.{occurrences, Reached}
 
--- ---- one cell more
+-- ---- numbers in a row
+
+-- What a loop that counts has found after k numbers from i on, and after one more.
+module _ (p : ℕ → Bool) (i : ℕ) where
+  pub count-none : count p (range i 0) ≡ 0
+  unfolding count sum range
+  count-none = refl
+
+  count-more : (k : ℕ) → count p (range i (k + 1)) ≡ count p (range i k) + cond (p (i + k)) 1 0
+  unfolding count
+  count-more k =
+      ap (λ (j : ℕ). sum (λ x. cond (p x) 1 0) (range i j)) (add-one k) ∙ ap (sum (λ x. cond (p x) 1 0)) (range-snoc i k)
+      ∙ sum-append (λ x. cond (p x) 1 0) (range i k) ((i + k) ∷ []) ∙ ap (λ (r : ℕ). sum (λ x. cond (p x) 1 0) (range i k) + r) (last (i + k))
+    where
+      last : (x : ℕ) → sum (λ y. cond (p y) 1 0) (x ∷ []) ≡ cond (p x) 1 0
+      last x = unfold sum in let z : cond (p x) 1 0 + 0 ≡ cond (p x) 1 0 = omega arith in z
+
+  module _ (k x : ℕ) (e : x ≡ i + k) where
+    pub count-hit : p x ≡ true → count p (range i (k + 1)) ≡ count p (range i k) + 1
+    count-hit t = count-more k ∙ ap (λ (b : Bool). count p (range i k) + cond b 1 0) (ap p (sym e) ∙ t)
+
+    pub count-miss : p x ≡ false → count p (range i (k + 1)) ≡ count p (range i k)
+    count-miss t =
+        count-more k ∙ ap (λ (b : Bool). count p (range i k) + cond b 1 0) (ap p (sym e) ∙ t)
+        ∙ (let z : count p (range i k) + 0 ≡ count p (range i k) = omega arith in z)
+
+  pub count-below : (k : ℕ) → count p (range i k) ≤ k
+  count-below k = let h = count-at-most p (range i k) in omega (arith, length-range i k)
+
+-- The same numbers, each one further on.
+count-shift : (p q : ℕ → Bool) (i k : ℕ) → ((j : ℕ) → i ≤ j → j < i + k → p j ≡ q (suc j)) → count p (range i k) ≡ count q (range (suc i) k)
+unfolding count sum range
+count-shift p q i zero h = refl
+count-shift p q i (suc k) h =
+    ap₂ (λ (b : Bool) (r : ℕ). cond b 1 0 + r) (h i (omega arith) (omega arith)) (count-shift p q (suc i) k (λ j lo hi. h j (omega arith) (omega arith)))
+
+-- Over the places of a list is over its entries.
+count-places : (p : ℕ → Bool) (l : List ℕ) → count (λ i. p (getD l i 0)) (range 0 (length l)) ≡ count p l
+unfolding count sum range
+count-places p [] = refl
+count-places p (x ∷ l) =
+    ap (λ (r : ℕ). cond (p x) 1 0 + r) (sym (count-shift (λ i. p (getD l i 0)) (λ i. p (getD (x ∷ l) i 0)) 0 (length l) (λ j lo hi. refl)) ∙ count-places p l)
+
+-- ---- cells a step apart
 
 module _ (a step : ℕ) (cells : List ℕ) where
-  pub none-yet : occurrences a (every step 0 cells) ≡ 0
-  unfolding occurrences every count sum range
-  none-yet = refl
+  pub occurs-none : occurrences a step 0 cells ≡ 0
+  unfolding occurrences
+  occurs-none = count-none (λ i. eqb (getD cells (i * step) 0) a) 0
 
-  one-more : (i : ℕ) → occurrences a (every step (i + 1) cells) ≡ occurrences a (every step i cells) + cond (eqb (getD cells (i * step) 0) a) 1 0
-  unfolding occurrences every count
-  one-more i =
-      ap (λ (k : ℕ). sum (λ x. cond (eqb x a) 1 0) (map (λ j. getD cells (j * step) 0) (range 0 k))) (add-one i)
-      ∙ ap (sum (λ x. cond (eqb x a) 1 0)) (map-range-snoc (λ j. getD cells (j * step) 0) 0 i)
-      ∙ sum-append (λ x. cond (eqb x a) 1 0) (map (λ j. getD cells (j * step) 0) (range 0 i)) (getD cells ((0 + i) * step) 0 ∷ [])
-      ∙ ap (λ (r : ℕ). sum (λ x. cond (eqb x a) 1 0) (map (λ j. getD cells (j * step) 0) (range 0 i)) + r) (last ∙ ap (λ (j : ℕ). cond (eqb (getD cells (j * step) 0) a) 1 0) (let z : 0 + i ≡ i = omega arith in z))
-    where
-      last : sum (λ x. cond (eqb x a) 1 0) (getD cells ((0 + i) * step) 0 ∷ []) ≡ cond (eqb (getD cells ((0 + i) * step) 0) a) 1 0
-      last = unfold sum in let z : cond (eqb (getD cells ((0 + i) * step) 0) a) 1 0 + 0 ≡ cond (eqb (getD cells ((0 + i) * step) 0) a) 1 0 = omega arith in z
+  pub occurs : (i : ℕ) → getD cells (i * step) 0 ≡ a → occurrences a step (i + 1) cells ≡ occurrences a step i cells + 1
+  unfolding occurrences
+  occurs i e = count-hit (λ j. eqb (getD cells (j * step) 0) a) 0 i i (omega arith) (eq-eqb (getD cells (i * step) 0) a e)
 
-  pub count-hit : (i : ℕ) → getD cells (i * step) 0 ≡ a → occurrences a (every step (i + 1) cells) ≡ occurrences a (every step i cells) + 1
-  count-hit i e = one-more i ∙ ap (λ (b : Bool). occurrences a (every step i cells) + cond b 1 0) (eq-eqb (getD cells (i * step) 0) a e)
+  pub occurs-not : (i : ℕ) → (getD cells (i * step) 0 ≡ a → ⊥) → occurrences a step (i + 1) cells ≡ occurrences a step i cells
+  unfolding occurrences
+  occurs-not i ne = count-miss (λ j. eqb (getD cells (j * step) 0) a) 0 i i (omega arith) (ne-eqb (getD cells (i * step) 0) a ne)
 
-  pub count-miss : (i : ℕ) → (getD cells (i * step) 0 ≡ a → ⊥) → occurrences a (every step (i + 1) cells) ≡ occurrences a (every step i cells)
-  count-miss i ne =
-      one-more i ∙ ap (λ (b : Bool). occurrences a (every step i cells) + cond b 1 0) (ne-eqb (getD cells (i * step) 0) a ne)
-      ∙ (let z : occurrences a (every step i cells) + 0 ≡ occurrences a (every step i cells) = omega arith in z)
+  pub occurs-at-most : (k : ℕ) → occurrences a step k cells ≤ k
+  unfolding occurrences
+  occurs-at-most k = count-below (λ i. eqb (getD cells (i * step) 0) a) 0 k
 
-  pub count-below : (k : ℕ) → occurrences a (every step k cells) ≤ k
-  unfolding occurrences every
-  count-below k =
-      let e = count-at-most (λ x. eqb x a) (map (λ i. getD cells (i * step) 0) (range 0 k)) in
-      omega (arith, length-map (range 0 k) (λ i. getD cells (i * step) 0), length-range 0 k)
+-- Cells a step apart that are the values of w at the elements are counted as those.
+counted : (a step k : ℕ) (cells : List ℕ) (w : ℕ → ℕ) → ((i : ℕ) → i < k → getD cells (i * step) 0 ≡ w (suc i)) → occurrences a step k cells ≡ count (λ i. eqb (w i) a) (elements k)
+unfolding occurrences elements
+counted a step k cells w h =
+    count-shift (λ i. eqb (getD cells (i * step) 0) a) (λ i. eqb (w i) a) 0 k (λ j lo hi. ap (λ (x : ℕ). eqb x a) (h j (omega arith)))
 
 -- ---- the cells of a row, a column, the diagonal, the table
 
--- Cells a step apart that are the values of w at the elements are counted as those.
-counted : (a step k : ℕ) (cells : List ℕ) (w : ℕ → ℕ) → ((i : ℕ) → i < k → getD cells (i * step) 0 ≡ w (suc i)) → occurrences a (every step k cells) ≡ count (λ i. eqb (w i) a) (elements k)
-unfolding occurrences every elements
-counted a step k cells w h =
-    ap (count (λ x. eqb x a)) (map-shift (λ i. getD cells (i * step) 0) w 0 k (λ j lo hi. h j (omega arith))) ∙ count-map (λ x. eqb x a) w (range 1 k)
-
 module _ (n : ℕ) (cells : List ℕ) where
-  pub row-counted : (a : ℕ) → occurrences a (every 1 n (drop ((a - 1) * n) cells)) ≡ rowFrequency n (product n cells) a
+  pub row-counted : (a : ℕ) → occurrences a 1 n (drop ((a - 1) * n) cells) ≡ rowFrequency n (product n cells) a
   unfolding rowFrequency product
   row-counted a =
       counted a 1 n (drop ((a - 1) * n) cells) (product n cells a)
       (λ i h. getD-drop ((a - 1) * n) cells (i * 1) 0 ∙ ap (λ (k : ℕ). getD cells ((a - 1) * n + k) 0) (let z : i * 1 ≡ suc i - 1 = omega arith in z))
 
-  pub column-counted : (a : ℕ) → occurrences a (every n n (drop (a - 1) cells)) ≡ columnFrequency n (product n cells) a
+  pub column-counted : (a : ℕ) → occurrences a n n (drop (a - 1) cells) ≡ columnFrequency n (product n cells) a
   unfolding columnFrequency product
   column-counted a =
       counted a n n (drop (a - 1) cells) (λ i. product n cells i a)
       (λ i h. getD-drop (a - 1) cells (i * n) 0 ∙ ap (λ (k : ℕ). getD cells k 0) (let e = ap (λ (j : ℕ). j * n) (let z : suc i - 1 ≡ i = omega arith in z) in let z : a - 1 + i * n ≡ (suc i - 1) * n + (a - 1) = omega arith in z))
 
-  pub diagonal-counted : (a : ℕ) → occurrences a (every (n + 1) n cells) ≡ diagonalFrequency n (product n cells) a
+  pub diagonal-counted : (a : ℕ) → occurrences a (n + 1) n cells ≡ diagonalFrequency n (product n cells) a
   unfolding diagonalFrequency product
   diagonal-counted a =
       counted a (n + 1) n cells (λ i. product n cells i i)
       (λ i h. ap (λ (k : ℕ). getD cells k 0)
       (ap (λ (j : ℕ). i * j) (add-one n) ∙ mul-suc i n ∙ ap₂ (λ (x y : ℕ). x * n + y) (let z : i ≡ suc i - 1 = omega arith in z) (let z : i ≡ suc i - 1 = omega arith in z)))
 
-  pub table-counted : length cells ≡ n * n → (a : ℕ) → occurrences a (every 1 (length cells) cells) ≡ frequency n (product n cells) a
-  unfolding occurrences every
-  table-counted size a = ap (count (λ x. eqb x a)) (ext-getD 0 all cells long entry) ∙ sym (frequency-cells n cells size a)
-    where
-      all : List ℕ
-      all = map (λ i. getD cells (i * 1) 0) (range 0 (length cells))
+  pub table-counted : length cells ≡ n * n → (a : ℕ) → occurrences a 1 (length cells) cells ≡ frequency n (product n cells) a
+  unfolding occurrences
+  table-counted size a =
+      count-same (λ i. eqb (getD cells (i * 1) 0) a) (λ i. eqb (getD cells i 0) a) (range 0 (length cells)) (λ i m. ap (λ (k : ℕ). eqb (getD cells k 0) a) (let z : i * 1 ≡ i = omega arith in z))
+      ∙ count-places (λ x. eqb x a) cells ∙ sym (frequency-cells n cells size a)
 
-      long : length all ≡ length cells
-      long = length-map (range 0 (length cells)) (λ i. getD cells (i * 1) 0) ∙ length-range 0 (length cells)
+  -- A count over the elements is at most n.
+  most : (p : ℕ → Bool) → count p (elements n) ≤ n
+  unfolding elements
+  most p = count-below p 1 n
 
-      entry : (j : ℕ) → j < length all → getD all j 0 ≡ getD cells j 0
-      entry j h =
-          let below : j < length cells = omega (arith, long) in
-          getD-map (λ i. getD cells (i * 1) 0) (range 0 (length cells)) 0 j (omega (arith, length-range 0 (length cells)))
-          ∙ ap (λ (k : ℕ). getD cells (k * 1) 0) (getD-range 0 (length cells) j below) ∙ ap (λ (k : ℕ). getD cells k 0) (let z : (0 + j) * 1 ≡ j = omega arith in z)
+  pub diagonal-at-most : (a : ℕ) → diagonalFrequency n (product n cells) a ≤ n
+  unfolding diagonalFrequency
+  diagonal-at-most a = most (λ i. eqb (product n cells i i) a)
 
   pub row-at-most : (a : ℕ) → rowFrequency n (product n cells) a ≤ n
   unfolding rowFrequency
-  row-at-most a = let e = count-at-most (λ j. eqb (product n cells a j) a) (elements n) in omega (arith, length-elements n)
+  row-at-most a = most (λ j. eqb (product n cells a j) a)
 
   pub column-at-most : (a : ℕ) → columnFrequency n (product n cells) a ≤ n
   unfolding columnFrequency
-  column-at-most a = let e = count-at-most (λ i. eqb (product n cells i a) a) (elements n) in omega (arith, length-elements n)
+  column-at-most a = most (λ i. eqb (product n cells i a) a)
 
 -- ---- that these cells are there
 
 module _ (n : ℕ) (cells : List ℕ) (t : Filled n cells) where
   pub cells-at-most : length cells ≤ 14400
   cells-at-most = let e = t .size in omega (arith, square-small n (t .order .1))
+
+  pub frequency-at-most : (a : ℕ) → frequency n (product n cells) a ≤ 14400
+  frequency-at-most a = let c = count-at-most (λ x. eqb x a) cells in let e = frequency-cells n cells (t .size) a in omega (arith, cells-at-most)
 
   -- A row of n cells lies within the table.
   row-below : (i : ℕ) → i < n → i * n + n ≤ length cells

@@ -1,24 +1,18 @@
--- Values at numbers in a row: one number more, the same row from another start, equal values. Assumes nothing.
+-- Values at numbers in a row: one number more, equal values, zeros. Assumes nothing.
 use mathlib.Core.Path.{_≡_, refl, ap, ap₂, _∙_}
 use mathlib.Core.List.{List, [], _∷_, _++_, map, map-append, List·Memᴰ, List·Memᴰ·head, List·Memᴰ·tail}
-use Prim.Native.Nat.{ℕ, zero, suc, _+_, _≤_, _<_}
+use Prim.Native.Nat.{ℕ, zero, suc, _+_}
 use native.Mathlib.Omega.{arith}
 use lib.ListN.{length, getD, replicate}
 use Rattle.semigroups.specs.Lists.{range}
 
-range-snoc : (i k : ℕ) → range i (suc k) ≡ range i k ++ (i + k) ∷ []
+pub range-snoc : (i k : ℕ) → range i (suc k) ≡ range i k ++ (i + k) ∷ []
 unfolding range
 range-snoc i zero = ap {B = List ℕ} (λ (x : ℕ). x ∷ []) (let z : i ≡ i + 0 = omega arith in z)
 range-snoc i (suc k) = ap {B = List ℕ} (λ (l : List ℕ). i ∷ l) (range-snoc (suc i) k ∙ ap {B = List ℕ} (λ (x : ℕ). range (suc i) k ++ x ∷ []) (let z : suc i + k ≡ i + suc k = omega arith in z))
 
 pub map-range-snoc : (w : ℕ → ℕ) (i k : ℕ) → map w (range i (suc k)) ≡ map w (range i k) ++ w (i + k) ∷ []
 map-range-snoc w i k = ap (map w) (range-snoc i k) ∙ map-append w (range i k) ((i + k) ∷ [])
-
-pub map-shift : (v w : ℕ → ℕ) (i k : ℕ) → ((j : ℕ) → i ≤ j → j < i + k → v j ≡ w (suc j)) → map v (range i k) ≡ map w (range (suc i) k)
-unfolding range
-map-shift v w i zero h = refl
-map-shift v w i (suc k) h =
-    ap₂ {C = List ℕ} (λ (x : ℕ) (l : List ℕ). x ∷ l) (h i (omega arith) (omega arith)) (map-shift v w (suc i) k (λ j lo hi. h j (omega arith) (omega arith)))
 
 pub map-same : (v w : ℕ → ℕ) (l : List ℕ) → ((x : ℕ) → List·Memᴰ x l → v x ≡ w x) → map v l ≡ map w l
 map-same v w [] h = refl

@@ -4,7 +4,7 @@ use mathlib.Core.Logic.{⊎-elim}
 use mathlib.Core.List.{List, [], _∷_, _++_, map, append-assoc}
 use Prim.Native.Nat.{ℕ, suc, _+_, _-_, _≤_, _<_}
 use native.Mathlib.Omega.{arith}
-use lib.ListN.{length, getD, set, replicate, length-map, length-append, length-replicate, length-set, replicate-append-replicate, List·getD-append}
+use lib.ListN.{length, getD, set, replicate, length-map, length-set, replicate-append-replicate, List·getD-append}
 use lib.Seq.{ext-getD, set-at, set-append-left, getD-set-same, getD-set-other}
 use Rattle.semigroups.specs.Lists.{range, elements}
 use Rattle.semigroups.specs.Tables.{Element}
@@ -15,10 +15,6 @@ use Rattle.invariants.proofs.Lists.{map-range-snoc, map-same, map-zeros
 
 width : (n : ℕ) (w : ℕ → ℕ) → length (map w (elements n)) ≡ n
 width n w = length-map (elements n) w ∙ length-elements n
-
-pub length-per-element : (n : ℕ) (w : ℕ → ℕ) → n ≤ 120 → length (perElement n w) ≡ 120
-unfolding perElement
-length-per-element n w h = let e = length-append (map w (elements n)) (replicate (120 - n) 0) in omega (arith, width n w, length-replicate {A = ℕ} (120 - n) 0)
 
 value : (n : ℕ) (w : ℕ → ℕ) (a : ℕ) → Element n a → getD (map w (elements n)) (a - 1) 0 ≡ w a
 unfolding elements
@@ -33,55 +29,31 @@ pub per-element-same : (n : ℕ) (v w : ℕ → ℕ) → ((a : ℕ) → Element 
 unfolding perElement
 per-element-same n v w h = ap (λ (l : List ℕ). l ++ replicate (120 - n) 0) (map-same v w (elements n) (λ x m. h x (mem-elements n x m)))
 
--- ---- filled place by place
+-- ---- filled place by place: the array holds the values at the elements before a
 
-pub fill-start : (w : ℕ → ℕ) → replicate 120 0 ≡ perElement 0 w
-fill-start w = unfold perElement elements range in refl
+module _ (w : ℕ → ℕ) where
+  pub fill-start : replicate 120 0 ≡ perElement (1 - 1) w
+  fill-start = unfold perElement elements range in refl
 
-pub fill-step : (w : ℕ → ℕ) (a v : ℕ) → 1 ≤ a → a ≤ 120 → v ≡ w a → set (perElement (a - 1) w) (a - 1) v ≡ perElement (a + 1 - 1) w
-unfolding perElement elements
-fill-step w a v lo hi e =
-    ap (λ (k : ℕ). set (before ++ replicate k 0) (a - 1) v) (let z : 120 - (a - 1) ≡ suc (120 - a) = omega arith in z)
-    ∙ set-at before 0 (replicate (120 - a) 0) v (a - 1) (width (a - 1) w)
-    ∙ sym (append-assoc before (v ∷ []) (replicate (120 - a) 0))
-    ∙ ap₂ {C = List ℕ} (λ (l : List ℕ) (k : ℕ). l ++ replicate k 0) filled (let z : 120 - a ≡ 120 - (a + 1 - 1) = omega arith in z)
-  where
-    before : List ℕ
-    before = map w (elements (a - 1))
+  pub fill-step : (a v : ℕ) (array : List ℕ) → array ≡ perElement (a - 1) w → Element 120 a → v ≡ w a → set array (a - 1) v ≡ perElement (a + 1 - 1) w
+  unfolding perElement elements
+  fill-step a v array so-far h e =
+      ap (λ (l : List ℕ). set l (a - 1) v) so-far
+      ∙ ap (λ (k : ℕ). set (before ++ replicate k 0) (a - 1) v) (let z : 120 - (a - 1) ≡ suc (120 - a) = omega arith in z)
+      ∙ set-at before 0 (replicate (120 - a) 0) v (a - 1) (width (a - 1) w)
+      ∙ sym (append-assoc before (v ∷ []) (replicate (120 - a) 0))
+      ∙ ap₂ {C = List ℕ} (λ (l : List ℕ) (k : ℕ). l ++ replicate k 0) filled (let z : 120 - a ≡ 120 - (a + 1 - 1) = omega arith in z)
+    where
+      before : List ℕ
+      before = map w (elements (a - 1))
 
-    filled : before ++ v ∷ [] ≡ map w (elements (a + 1 - 1))
-    filled =
-        ap {B = List ℕ} (λ (x : ℕ). before ++ x ∷ []) (e ∙ ap w (let z : a ≡ 1 + (a - 1) = omega arith in z)) ∙ sym (map-range-snoc w 1 (a - 1))
-        ∙ ap (λ (k : ℕ). map w (elements k)) (let z : suc (a - 1) ≡ a + 1 - 1 = omega arith in z)
+      filled : before ++ v ∷ [] ≡ map w (elements (a + 1 - 1))
+      filled =
+          ap {B = List ℕ} (λ (x : ℕ). before ++ x ∷ []) (e ∙ ap w (let z : a ≡ 1 + (a - 1) = omega arith in z)) ∙ sym (map-range-snoc w 1 (a - 1))
+          ∙ ap (λ (k : ℕ). map w (elements k)) (let z : suc (a - 1) ≡ a + 1 - 1 = omega arith in z)
 
--- Two arrays that hold the values of v and of w at the elements before a.
-pub record Filling (n : ℕ) (v w : ℕ → ℕ) (a : ℕ) (f g : List ℕ) : Type 0 where
-  pub from-one : 1 ≤ a
-  pub to-end : a ≤ n + 1
-  pub first : f ≡ perElement (a - 1) v
-  pub second : g ≡ perElement (a - 1) w
-
-module _ (n : ℕ) (v w : ℕ → ℕ) where
-  pub filling-start : Filling n v w 1 (replicate 120 0) (replicate 120 0)
-  filling-start = record { from-one = omega arith; to-end = omega arith; first = fill-start v; second = fill-start w }
-
-  module _ (a : ℕ) (f g : List ℕ) (i : Filling n v w a f g) where
-    -- The values of element a.
-    pub filling-step : n ≤ 120 → a ≤ n → (x y : ℕ) → x ≡ v a → y ≡ w a → Filling n v w (a + 1) (set f (a - 1) x) (set g (a - 1) y)
-    filling-step limit h x y p q =
-        let lo = i .from-one in
-        record {
-          from-one = omega arith;
-          to-end = omega arith;
-          first = ap (λ (l : List ℕ). set l (a - 1) x) (i .first) ∙ fill-step v a x lo (omega arith) p;
-          second = ap (λ (l : List ℕ). set l (a - 1) y) (i .second) ∙ fill-step w a y lo (omega arith) q;
-        }
-
-    pub filling-end : n < a → (f ≡ perElement n v) × (g ≡ perElement n w)
-    filling-end h =
-        let up = i .to-end in
-        let last : a - 1 ≡ n = omega arith in
-        (i .first ∙ ap (λ (k : ℕ). perElement k v) last, i .second ∙ ap (λ (k : ℕ). perElement k w) last)
+  pub fill-end : (n a : ℕ) (array : List ℕ) → array ≡ perElement (a - 1) w → Element (n + 1) a → n < a → array ≡ perElement n w
+  fill-end n a array so-far h end = so-far ∙ ap (λ (k : ℕ). perElement k w) (let z : a - 1 ≡ n = omega arith in z)
 
 -- ---- raised by one
 

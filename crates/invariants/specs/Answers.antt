@@ -43,8 +43,7 @@ indexPeriodSays (index-period.Refused fault) = refused (elementFaultRefusal faul
 abbrev pub profileValue : ElementProfile → marks.Profile
 profileValue r =
     record {
-      index = r .index;
-      period = r .period;
+      powers = indexPeriodValue (r .powers);
       frequency = r .frequency;
       diagonal = r .diagonal;
       row = r .row;

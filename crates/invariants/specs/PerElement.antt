@@ -1,10 +1,33 @@
--- An array with a place for each element of a table of any order (01, "Tables and elements": the order is at most 120).
+-- Arrays with a place for each element of a table of any order (01, "Tables and elements": the order is at most 120), and which marks they hold.
 -- Assumes nothing.
+use mathlib.Core.Path.{_≡_}
 use mathlib.Core.List.{List, map, _++_}
 use Prim.Native.Nat.{ℕ, _-_}
 use lib.ListN.{replicate}
 use Rattle.semigroups.specs.Lists.{elements}
+use Rattle.semigroups.specs.Tables.{Product}
+use Rattle.semigroups.specs.Invariants as marks
+use Rattle.invariants.specs.declared.IndexPeriods.{IndexPeriods}
+use Rattle.invariants.specs.declared.LineFrequencies.{LineFrequencies}
+use Rattle.invariants.specs.declared.ElementCounts.{ElementCounts}
 
 -- The values of w at the elements 1 to n, element a's at place a - 1; then zeros: 120 entries in all.
 unfoldable pub perElement : ℕ → (ℕ → ℕ) → List ℕ
 perElement n w = map w (elements n) ++ replicate (120 - n) 0
+
+-- The index and the period of every element.
+pub record AllIndexPeriods (n : ℕ) (s : Product) (r : IndexPeriods) : Type 0 where
+  pub index : r .index ≡ perElement n (marks.index n s)
+  pub period : r .period ≡ perElement n (marks.period n s)
+
+-- Of every element, the counts that take one row or one column.
+pub record LineCounts (n : ℕ) (s : Product) (r : LineFrequencies) : Type 0 where
+  pub row : r .row ≡ perElement n (marks.rowFrequency n s)
+  pub column : r .column ≡ perElement n (marks.columnFrequency n s)
+
+-- The counts of every element's profile.
+pub record AllCounts (n : ℕ) (s : Product) (r : ElementCounts) : Type 0 where
+  pub frequency : r .frequency ≡ perElement n (marks.frequency n s)
+  pub diagonal : r .diagonal ≡ perElement n (marks.diagonalFrequency n s)
+  pub row : r .row ≡ perElement n (marks.rowFrequency n s)
+  pub column : r .column ≡ perElement n (marks.columnFrequency n s)

@@ -1,16 +1,16 @@
 // Invariants of the elements of a table (arXiv 1603.06204, sections 3 and 4), which 01 calls their marks: index and period, and the profile.
 // `index_period` and `profile` answer for one element of any cells, order and element, behind the questions about them.
-// `all_index_periods` and `all_profiles` answer for every element of cells that fill a table.
+// `all_index_periods` and `all_counts` answer for every element of cells that fill a table.
 ghost use mathlib.Core.Path.{_≡_};
 ghost use Prim.Native.Nat.{_≤_};
 ghost use Rattle.semigroups.specs.Tables.{product, Element, Filled};
 ghost use Rattle.semigroups.specs.Questions.{elementRefusal};
-ghost use Rattle.semigroups.specs.Invariants.{index, period, indexPeriod, frequency, diagonalFrequency, rowFrequency, columnFrequency, profile};
+ghost use Rattle.semigroups.specs.Invariants.{indexPeriod, rowFrequency, columnFrequency, profile};
 ghost use Rattle.semigroups.specs.Calls.{givenUnless};
 ghost use Rattle.tables.specs.Answers.{refusalNumbers};
 ghost use Rattle.invariants.specs.Answers.{elementFaultRefusal, elementVerdictRefusal, indexPeriodValue, indexPeriodSays, profileValue, profileSays};
-ghost use Rattle.invariants.specs.PerElement.{perElement};
-ghost use Rattle.invariants.specs.Counts.{every, occurrences, Reached};
+ghost use Rattle.invariants.specs.PerElement.{perElement, AllIndexPeriods, LineCounts, AllCounts};
+ghost use Rattle.invariants.specs.Counts.{occurrences, Reached};
 use tables::Fault;
 use tables::Refusal;
 use tables::Verdict;
@@ -98,23 +98,22 @@ pub fn index_period(cells: &[u8], n: usize, a: usize) -> IndexPeriodAnswer
 
 // Element a's index and period stand at place a - 1; places past the last element hold 0.
 pub struct IndexPeriods {
-    pub index: [u8; 120],
-    pub period: [u8; 120],
+    pub index: [u16; 120],
+    pub period: [u16; 120],
 }
 
 // The index and the period of every element.
 pub fn all_index_periods(cells: &[u8], n: usize) -> IndexPeriods
     requires { ⌜ Filled n (now cells) ⌝ }
-    ensures index { λ r. ⌜ r .index ≡ perElement n (index n (product n (now (cells .entry)))) ⌝ }
-    ensures period { λ r. ⌜ r .period ≡ perElement n (period n (product n (now (cells .entry)))) ⌝ }
+    ensures answer { λ r. ⌜ AllIndexPeriods n (product n (now (cells .entry))) r ⌝ }
 {
-    let mut index = [0u8; 120];
-    let mut period = [0u8; 120];
+    let mut index = [0u16; 120];
+    let mut period = [0u16; 120];
     let mut a: usize = 1;
     while a <= n {
         let powers = index_period_of(cells, n, a);
-        index[a - 1] = powers.index as u8;
-        period[a - 1] = powers.period as u8;
+        index[a - 1] = powers.index as u16;
+        period[a - 1] = powers.period as u16;
         a += 1;
     }
     IndexPeriods { index, period }
@@ -125,7 +124,7 @@ pub fn all_index_periods(cells: &[u8], n: usize) -> IndexPeriods
 // How often a stands among k cells, the first and then each that is `step` further on.
 fn count(cells: &[u8], k: usize, step: usize, a: usize) -> usize
     requires { ⌜ Reached k step (now cells) ⌝ }
-    ensures answer { λ r. ⌜ r ≡ occurrences a (every step k (now (cells .entry))) ⌝ }
+    ensures answer { λ r. ⌜ r ≡ occurrences a step k (now (cells .entry)) ⌝ }
 {
     let mut found: usize = 0;
     let mut i: usize = 0;
@@ -141,7 +140,7 @@ fn count(cells: &[u8], k: usize, step: usize, a: usize) -> usize
 // The same for every element in one pass.
 fn tally(cells: &[u8], n: usize, k: usize, step: usize) -> [u16; 120]
     requires { ⌜ Filled n (now cells) ⌝ ∗ ⌜ Reached k step (now cells) ⌝ ∗ ⌜ k ≤ 14400 ⌝ }
-    ensures answer { λ r. ⌜ r ≡ perElement n (λ a. occurrences a (every step k (now (cells .entry)))) ⌝ }
+    ensures answer { λ r. ⌜ r ≡ perElement n (λ a. occurrences a step k (now (cells .entry))) ⌝ }
 {
     let mut found = [0u16; 120];
     let mut i: usize = 0;
@@ -173,21 +172,21 @@ fn column_frequency(cells: &[u8], n: usize, a: usize) -> usize
 
 // Element a's row and column frequency stand at place a - 1; places past the last element hold 0.
 struct LineFrequencies {
-    row: [u8; 120],
-    column: [u8; 120],
+    row: [u16; 120],
+    column: [u16; 120],
 }
 
+// The counts that take one row and one column each.
 fn line_frequencies(cells: &[u8], n: usize) -> LineFrequencies
     requires { ⌜ Filled n (now cells) ⌝ }
-    ensures row { λ r. ⌜ r .row ≡ perElement n (rowFrequency n (product n (now (cells .entry)))) ⌝ }
-    ensures column { λ r. ⌜ r .column ≡ perElement n (columnFrequency n (product n (now (cells .entry)))) ⌝ }
+    ensures answer { λ r. ⌜ LineCounts n (product n (now (cells .entry))) r ⌝ }
 {
-    let mut row = [0u8; 120];
-    let mut column = [0u8; 120];
+    let mut row = [0u16; 120];
+    let mut column = [0u16; 120];
     let mut a: usize = 1;
     while a <= n {
-        row[a - 1] = row_frequency(cells, n, a) as u8;
-        column[a - 1] = column_frequency(cells, n, a) as u8;
+        row[a - 1] = row_frequency(cells, n, a) as u16;
+        column[a - 1] = column_frequency(cells, n, a) as u16;
         a += 1;
     }
     LineFrequencies { row, column }
@@ -195,10 +194,9 @@ fn line_frequencies(cells: &[u8], n: usize) -> LineFrequencies
 
 // ---- the profile
 
-// The six numbers of a profile (definition 4.1).
+// The index-period and the four counts of a profile (definition 4.1).
 pub struct ElementProfile {
-    pub index: usize,
-    pub period: usize,
+    pub powers: IndexPeriod,
     pub frequency: usize,
     pub diagonal: usize,
     pub row: usize,
@@ -214,10 +212,8 @@ fn profile_of(cells: &[u8], n: usize, a: usize) -> ElementProfile
     requires { ⌜ Filled n (now cells) ⌝ ∗ ⌜ Element n a ⌝ }
     ensures answer { λ r. ⌜ profileValue r ≡ profile n (product n (now (cells .entry))) a ⌝ }
 {
-    let powers = index_period_of(cells, n, a);
     ElementProfile {
-        index: powers.index,
-        period: powers.period,
+        powers: index_period_of(cells, n, a),
         frequency: count(cells, cells.len(), 1, a),
         diagonal: count(cells, n, n + 1, a),
         row: row_frequency(cells, n, a),
@@ -235,39 +231,25 @@ pub fn profile(cells: &[u8], n: usize, a: usize) -> ProfileAnswer
     }
 }
 
-// Each number of element a's profile stands at place a - 1; places past the last element hold 0.
-pub struct Profiles {
-    pub index: [u8; 120],
-    pub period: [u8; 120],
+// Each count of element a stands at place a - 1; places past the last element hold 0.
+pub struct ElementCounts {
     pub frequency: [u16; 120],
     pub diagonal: [u16; 120],
-    pub row: [u8; 120],
-    pub column: [u8; 120],
+    pub row: [u16; 120],
+    pub column: [u16; 120],
 }
 
-// The profile of every element.
-pub fn all_profiles(cells: &[u8], n: usize) -> Profiles
+// The counts of every element's profile.
+pub fn all_counts(cells: &[u8], n: usize) -> ElementCounts
     requires { ⌜ Filled n (now cells) ⌝ }
-    ensures index { λ r. ⌜ r .index ≡ perElement n (index n (product n (now (cells .entry)))) ⌝ }
-    ensures period { λ r. ⌜ r .period ≡ perElement n (period n (product n (now (cells .entry)))) ⌝ }
-    ensures frequency { λ r. ⌜ r .frequency ≡ perElement n (frequency n (product n (now (cells .entry)))) ⌝ }
-    ensures diagonal { λ r. ⌜ r .diagonal ≡ perElement n (diagonalFrequency n (product n (now (cells .entry)))) ⌝ }
-    ensures row { λ r. ⌜ r .row ≡ perElement n (rowFrequency n (product n (now (cells .entry)))) ⌝ }
-    ensures column { λ r. ⌜ r .column ≡ perElement n (columnFrequency n (product n (now (cells .entry)))) ⌝ }
+    ensures answer { λ r. ⌜ AllCounts n (product n (now (cells .entry))) r ⌝ }
 {
-    let powers = all_index_periods(cells, n);
-    let index = powers.index;
-    let period = powers.period;
-    let frequency = tally(cells, n, cells.len(), 1);
-    let diagonal = tally(cells, n, n, n + 1);
     let lines = line_frequencies(cells, n);
     let row = lines.row;
     let column = lines.column;
-    Profiles {
-        index,
-        period,
-        frequency,
-        diagonal,
+    ElementCounts {
+        frequency: tally(cells, n, cells.len(), 1),
+        diagonal: tally(cells, n, n, n + 1),
         row,
         column,
     }

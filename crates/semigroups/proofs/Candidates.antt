@@ -7,17 +7,15 @@ use Prim.Native.Nat.{ℕ, _+_, _-_, _*_, _≤_, _<_}
 use native.Mathlib.Omega.{arith}
 use lib.Dec.{eqb}
 use lib.ListN.{length, drop, length-append, length-drop, List·getD-append}
-use Rattle.semigroups.specs.Lists.{at}
 use Rattle.semigroups.specs.Tables.{Product, Element, Closed}
 use Rattle.semigroups.specs.Scratch.{scratchSize, marks, marked, scratchAfter}
-use Rattle.semigroups.specs.Invariants.{indexPeriod, profile}
 use Rattle.semigroups.specs.Maps.{embeddings, isomorphisms, maps, Ask, earliest}
 use Rattle.semigroups.specs.Candidates.{candidate}
 use Rattle.semigroups.specs.Search.{search}
 use Rattle.semigroups.proofs.Tables.{place-below, length-grid, grid-at}
 use Rattle.semigroups.proofs.Maps.{one-order}
-use Rattle.semigroups.proofs.IndexPeriod.{index-period-kept, index-period-same}
-use Rattle.semigroups.proofs.Frequencies.{profile-kept, profile-same}
+use Rattle.semigroups.proofs.IndexPeriod.{index-period-kept}
+use Rattle.semigroups.proofs.Frequencies.{profile-kept}
 use Rattle.semigroups.proofs.Search.{Sound, search-earliest}
 
 -- ---- no map is lost
@@ -25,7 +23,7 @@ use Rattle.semigroups.proofs.Search.{Sound, search-earliest}
 module _ (m : ℕ) (s : Product) (n : ℕ) (t : Product) (source : Closed m s) (target : Closed n t) where
   pub index-period-sound : Sound m s n t source (candidate embeddings m s n t)
   unfolding candidate
-  index-period-sound f F i h = index-period-same (indexPeriod m s i) (indexPeriod n t (at f i)) (sym (index-period-kept m s n t f F source i h target))
+  index-period-sound f F i h = index-period-kept m s n t f F source i h target
 
   pub search-embeddings : (ask : Ask) → search s t (candidate embeddings m s n t) ask n m [] ≡ earliest ask (maps embeddings m s n t)
   search-embeddings ask = search-earliest m s n t source (candidate embeddings m s n t) index-period-sound ask
@@ -33,7 +31,7 @@ module _ (m : ℕ) (s : Product) (n : ℕ) (t : Product) (source : Closed m s) (
 module _ (n : ℕ) (s t : Product) (source : Closed n s) (target : Closed n t) where
   pub profile-sound : Sound n s n t source (candidate isomorphisms n s n t)
   unfolding candidate
-  profile-sound f F i h = profile-same (profile n s i) (profile n t (at f i)) (sym (profile-kept n s t f F source i h target))
+  profile-sound f F i h = profile-kept n s t f F source i h target
 
   pub search-isomorphisms : (ask : Ask) → search s t (candidate isomorphisms n s n t) ask n n [] ≡ earliest ask (maps isomorphisms n s n t)
   search-isomorphisms ask = search-earliest n s n t source (candidate isomorphisms n s n t) profile-sound ask ∙ ap (earliest ask) (sym (one-order n s t))

@@ -1,25 +1,25 @@
 -- Frequencies of elements: what they sum to, what an isomorphism keeps, and how they are counted over the cells of a table. The idea: a sum over
 -- all elements is one over their images. Assumes nothing.
-use mathlib.Core.Path.{_≡_, refl, sym, ap, ap₂, _∙_, subst}
-use mathlib.Core.Bool.{true, cond, _&&_}
+use mathlib.Core.Path.{_≡_, sym, ap, ap₂, _∙_, subst}
+use mathlib.Core.Bool.{true, cond}
 use mathlib.Core.Logic.{_⊎_, inl, inr}
 use mathlib.Core.List.{List, _++_, map, flatMap, List·Memᴰ, Memᴰ·of-map, Memᴰ·cast, Memᴰ·map}
 use Prim.Native.Nat.{ℕ, zero, suc, _+_, _-_, _*_, _≤_, _<_}
 use native.Mathlib.Nat.{le-antisymm, suc-mul, mul-le-mul-right}
 use native.Mathlib.Omega.{arith}
-use borrow.Author.Tests.{eq-eqb, ne-eqb, eqb-true}
+use borrow.Author.Tests.{eq-eqb, ne-eqb}
 use lib.Dec.{eqb}
 use lib.ListN.{length, getD, take, drop, length-map, length-drop, take-append-drop, drop-of-length-le}
 use lib.Seq.{ext-getD, getD-take, getD-drop, length-take-le, drop-drop}
 use Rattle.semigroups.specs.Lists.{range, elements, at, sum, count, NoRepeats}
 use Rattle.semigroups.specs.Tables.{Product, product, grid, Element, Closed}
-use Rattle.semigroups.specs.Invariants.{index, period, frequency, diagonalFrequency, rowFrequency, columnFrequency, Profile, profile, sameProfile}
+use Rattle.semigroups.specs.Invariants.{frequency, diagonalFrequency, rowFrequency, columnFrequency, profile, sameProfile}
 use Rattle.semigroups.specs.Maps.{Embedding}
-use Rattle.semigroups.proofs.Booleans.{and-left, and-right, equal-or-not}
+use Rattle.semigroups.proofs.Booleans.{equal-or-not}
 use Rattle.semigroups.proofs.Lists.{length-elements, mem-elements, elements-mem, getD-map, at-elements, at-suc}
 use Rattle.semigroups.proofs.NoRepeats.{sum-inside, map-no-repeats, elements-no-repeats, onto}
 use Rattle.semigroups.proofs.Sums.{sum-same, count-same, sum-constant, sum-map, count-map, sum-flatMap, sum-swap, count-element}
-use Rattle.semigroups.proofs.IndexPeriod.{index-kept, period-kept}
+use Rattle.semigroups.proofs.IndexPeriod.{index-period-kept}
 
 -- ---- the sums over all elements
 
@@ -102,55 +102,13 @@ module _ (n : ℕ) (s t : Product) (f : List ℕ) (F : Embedding n s n t f) wher
         ∙ sum-same (λ i. count (λ j. eqb (t (at f i) j) (at f a)) (elements n)) (λ i. count (λ j. eqb (s i j) a) (elements n)) (elements n)
         (λ i m. count-kept (λ j. s i j) (λ j. t (at f i) j) (λ x k. c i x (mem-elements n i m) k) (λ x k. F .homomorphism .keeps-product i x (mem-elements n i m) k))
 
-    -- An isomorphism keeps the profile.
-    pub profile-kept : Closed n t → profile n t (at f a) ≡ profile n s a
-    unfolding profile
-    profile-kept d =
-        let e1 = index-kept n s n t f F c a h d in
-        let e2 = period-kept n s n t f F c a h d in
-        let e3 = frequency-kept in
-        let e4 = diagonal-frequency-kept in
-        let e5 = row-frequency-kept in
-        let e6 = column-frequency-kept in
-        cc
-
--- ---- the comparison
-
--- Profiles are equal by their numbers.
-pub profile-equal : (x y : Profile) → x .index ≡ y .index → x .period ≡ y .period → x .frequency ≡ y .frequency → x .diagonal ≡ y .diagonal → x .row ≡ y .row → x .column ≡ y .column → x ≡ y
-profile-equal x y e1 e2 e3 e4 e5 e6 =
-    let fields : _≡_ {A = Profile} (record { index = x .index; period = x .period; frequency = x .frequency; diagonal = x .diagonal; row = x .row; column = x .column })
-    (record { index = y .index; period = y .period; frequency = y .frequency; diagonal = y .diagonal; row = y .row; column = y .column }) = cc in
-    fields
-
-pub same-profile : (x y : Profile) → sameProfile x y ≡ true → x ≡ y
-unfolding sameProfile
-same-profile x y e =
-    let b1 = eqb (x .index) (y .index) in
-    let b2 = eqb (x .period) (y .period) in
-    let b3 = eqb (x .frequency) (y .frequency) in
-    let b4 = eqb (x .diagonal) (y .diagonal) in
-    let b5 = eqb (x .row) (y .row) in
-    let b6 = eqb (x .column) (y .column) in
-    let r1 = and-right b1 (b2 && (b3 && (b4 && (b5 && b6)))) e in
-    let r2 = and-right b2 (b3 && (b4 && (b5 && b6))) r1 in
-    let r3 = and-right b3 (b4 && (b5 && b6)) r2 in
-    let r4 = and-right b4 (b5 && b6) r3 in
-    let e1 : x .index ≡ y .index = eqb-true (x .index) (y .index) (and-left b1 (b2 && (b3 && (b4 && (b5 && b6)))) e) in
-    let e2 : x .period ≡ y .period = eqb-true (x .period) (y .period) (and-left b2 (b3 && (b4 && (b5 && b6))) r1) in
-    let e3 : x .frequency ≡ y .frequency = eqb-true (x .frequency) (y .frequency) (and-left b3 (b4 && (b5 && b6)) r2) in
-    let e4 : x .diagonal ≡ y .diagonal = eqb-true (x .diagonal) (y .diagonal) (and-left b4 (b5 && b6) r3) in
-    let e5 : x .row ≡ y .row = eqb-true (x .row) (y .row) (and-left b5 b6 r4) in
-    let e6 : x .column ≡ y .column = eqb-true (x .column) (y .column) (and-right b5 b6 r4) in
-    profile-equal x y e1 e2 e3 e4 e5 e6
-
-profile-itself : (x : Profile) → sameProfile x x ≡ true
-unfolding sameProfile
-profile-itself x =
-    rw (eq-eqb (x .index) (x .index) refl, eq-eqb (x .period) (x .period) refl, eq-eqb (x .frequency) (x .frequency) refl, eq-eqb (x .diagonal) (x .diagonal) refl, eq-eqb (x .row) (x .row) refl, eq-eqb (x .column) (x .column) refl)
-
-pub profile-same : (x y : Profile) → x ≡ y → sameProfile x y ≡ true
-profile-same x y e = subst (λ (z : Profile). sameProfile x z ≡ true) e (profile-itself x)
+    -- An isomorphism keeps what is compared of a profile.
+    pub profile-kept : Closed n t → sameProfile (profile n s a) (profile n t (at f a)) ≡ true
+    unfolding profile sameProfile
+    profile-kept d = rw (index-period-kept n s n t f F c a h d, same frequency-kept, same diagonal-frequency-kept, same row-frequency-kept, same column-frequency-kept)
+      where
+        same : {x y : ℕ} → y ≡ x → eqb x y ≡ true
+        same {x} {y} e = eq-eqb x y (sym e)
 
 -- ---- a table given by its cells
 
@@ -204,8 +162,3 @@ module _ (n : ℕ) (cells : List ℕ) (size : length cells ≡ n * n) where
       sum-same (λ i. count (λ j. eqb (product n cells i j) a) (elements n)) (λ i. count (λ x. eqb x a) (map (product n cells i) (elements n))) (elements n)
       (λ i m. sym (count-map (λ x. eqb x a) (product n cells i) (elements n)))
       ∙ sym (sum-flatMap (λ x. cond (eqb x a) 1 0) (λ i. map (product n cells i) (elements n)) (elements n)) ∙ ap (sum (λ x. cond (eqb x a) 1 0)) (sym cells-grid)
-
-  -- How often a stands in row a is how many cells of that row are a.
-  pub row-frequency-cells : (a : ℕ) → Element n a → rowFrequency n (product n cells) a ≡ count (λ x. eqb x a) (take n (drop ((a - 1) * n) cells))
-  unfolding rowFrequency
-  row-frequency-cells a h = sym (count-map (λ x. eqb x a) (product n cells a) (elements n)) ∙ ap (count (λ x. eqb x a)) (sym (row-cells a h))

@@ -1,6 +1,6 @@
 -- Powers of an element; its index and period: they exist, are the least and the only such pair, and add up to at most n + 1. An embedding keeps
 -- them. The idea: of n + 1 powers two are equal, and where powers repeat at all they repeat with a period of at most n. Assumes nothing.
-use mathlib.Core.Path.{_≡_, refl, sym, ap, ap₂, _∙_, subst}
+use mathlib.Core.Path.{_≡_, refl, sym, ap, _∙_, subst}
 use mathlib.Core.Bool.{true}
 use mathlib.Core.Logic.{⊎-elim}
 use mathlib.Core.List.{List}
@@ -11,9 +11,9 @@ use borrow.Author.Tests.{eq-eqb, eqb-true, leb-true, le-leb}
 use lib.Dec.{eqb, leb}
 use Rattle.semigroups.specs.Lists.{at}
 use Rattle.semigroups.specs.Tables.{Product, Element, Closed}
-use Rattle.semigroups.specs.Invariants.{power, periodFrom, index, period, IsIndexPeriod, IndexPeriod, indexPeriod, sameIndexPeriod}
+use Rattle.semigroups.specs.Invariants.{power, periodFrom, index, period, IsIndexPeriod, indexPeriod, sameIndexPeriod}
 use Rattle.semigroups.specs.Maps.{Embedding}
-use Rattle.semigroups.proofs.Booleans.{both, and-left, and-right, at-most-or-above}
+use Rattle.semigroups.proofs.Booleans.{both, at-most-or-above}
 use Rattle.semigroups.proofs.Lists.{least-first, least-passes}
 use Rattle.semigroups.proofs.NoRepeats.{collide}
 
@@ -195,20 +195,9 @@ module _ (m : ℕ) (s : Product) (n : ℕ) (t : Product) (f : List ℕ) (F : Emb
   pub period-kept : Closed n t → period n t (at f a) ≡ period m s a
   period-kept d = kept d .1
 
-  pub index-period-kept : Closed n t → indexPeriod n t (at f a) ≡ indexPeriod m s a
-  unfolding indexPeriod
-  index-period-kept d = let e = index-kept d in let g = period-kept d in cc
-
--- ---- the comparison
-
-pub same-index-period : (x y : IndexPeriod) → sameIndexPeriod x y ≡ true → x ≡ y
-unfolding sameIndexPeriod
-same-index-period x y e =
-    let i : x .index ≡ y .index = eqb-true (x .index) (y .index) (and-left (eqb (x .index) (y .index)) (eqb (x .period) (y .period)) e) in
-    let r : x .period ≡ y .period = eqb-true (x .period) (y .period) (and-right (eqb (x .index) (y .index)) (eqb (x .period) (y .period)) e) in
-    ap₂ {C = IndexPeriod} (λ (p q : ℕ). record { index = p; period = q }) i r
-
-pub index-period-same : (x y : IndexPeriod) → x ≡ y → sameIndexPeriod x y ≡ true
-unfolding sameIndexPeriod
-index-period-same x y e =
-    both (eqb (x .index) (y .index)) (eqb (x .period) (y .period)) (eq-eqb (x .index) (y .index) (ap (λ (z : IndexPeriod). z .index) e)) (eq-eqb (x .period) (y .period) (ap (λ (z : IndexPeriod). z .period) e))
+  -- So it keeps what is compared of them.
+  pub index-period-kept : Closed n t → sameIndexPeriod (indexPeriod m s a) (indexPeriod n t (at f a)) ≡ true
+  unfolding indexPeriod sameIndexPeriod
+  index-period-kept d =
+      both (eqb (index m s a) (index n t (at f a))) (eqb (period m s a) (period n t (at f a)))
+      (eq-eqb (index m s a) (index n t (at f a)) (sym (index-kept d))) (eq-eqb (period m s a) (period n t (at f a)) (sym (period-kept d)))

@@ -67,8 +67,7 @@ columnFrequency n s a = count (λ i. eqb (s i a) a) (elements n)
 -- ---- the profile
 
 pub record Profile : Type 0 where
-  pub index : ℕ
-  pub period : ℕ
+  pub powers : IndexPeriod
   pub frequency : ℕ
   pub diagonal : ℕ
   pub row : ℕ
@@ -77,8 +76,7 @@ pub record Profile : Type 0 where
 unfoldable pub profile : ℕ → Product → ℕ → Profile
 profile n s a =
     record {
-      index = index n s a;
-      period = period n s a;
+      powers = indexPeriod n s a;
       frequency = frequency n s a;
       diagonal = diagonalFrequency n s a;
       row = rowFrequency n s a;
@@ -88,9 +86,8 @@ profile n s a =
 -- Definition 4.1: two elements have the same element profile.
 unfoldable pub sameProfile : Profile → Profile → Bool
 sameProfile a b =
-    eqb (a .index) (b .index)
-    && (eqb (a .period) (b .period)
+    sameIndexPeriod (a .powers) (b .powers)
     && (eqb (a .frequency) (b .frequency)
     && (eqb (a .diagonal) (b .diagonal)
     && (eqb (a .row) (b .row)
-    && eqb (a .column) (b .column)))))
+    && eqb (a .column) (b .column))))

@@ -1,91 +1,55 @@
--- `index_period_keys` meets its contract: the array holds the keys of the first k elements, then zeros. The measure is how many elements are left.
--- Assumes nothing.
-use mathlib.Core.Path.{_≡_, ap, _∙_}
-use Prim.Native.Nat.{ℕ, _-_, _≤_, _<_}
+-- `index_period_keys` meets its contract: two parts, one behind the other. Assumes nothing.
+use Prim.Native.Nat.{ℕ, _+_, _*_}
 use native.Mathlib.Omega.{arith}
 use borrow.Author.Needs.{needs}
 use denote.Ref.{now}
-use Rattle.semigroups.specs.Tables.{Product, product}
-use Rattle.semigroups.specs.Invariants as marks
-use Rattle.invariants.specs.PerElement.{perElement}
-use Rattle.invariants.proofs.PerElement.{fill-start}
-use Rattle.candidates.specs.Keys.{indexPeriodKey}
-use Rattle.candidates.proofs.Keys.{index-period-at, value-next}
+use mathlib.Core.List.{List}
+use lib.ListN.{replicate}
+use Rattle.semigroups.specs.Tables.{product}
+use Rattle.semigroups.specs.Invariants.{index, period, indexPeriod}
+use Rattle.candidates.specs.Keys.{packed, indexPeriodKey}
+use Rattle.candidates.proofs.Keys.{AllKeys, Appends, no-keys, append-part, index-fits, period-fits}
 use Rattle.candidates.proofs.index_period_keys.Statement.{statement}
 use Rattle.candidates.proofs.index_period_keys.Tie as tie
 
-abbrev key : ℕ → Product → ℕ → ℕ
-key n s a = indexPeriodKey (marks.indexPeriod n s a)
+-- The index behind no part, and the period behind the index.
+module _ (c : tie.After-all-index-periods) where
+  abbrev start : tie.Start
+  start = c .before .before
 
-abbrev Inv-loop : tie.InvT-loop
-Inv-loop cells n powers keys₀ k₀ keys k = (k ≤ n) × (keys ≡ perElement k (key n (product n cells)))
+  abbrev n : ℕ
+  n = start .args .n
 
-abbrev μ-loop : tie.MeasureT-loop
-μ-loop cells n powers keys₀ k₀ keys k = n - k
+  abbrev cells : List ℕ
+  cells = now (start .args .cells)
 
-below : (t : tie.In-loop Inv-loop μ-loop) → t .before .loop .k < 120
-below t = let s = t .before .before .before .before in let b = t .loop-test .taken in let l = s .pre .order in omega arith
+  append-index : Appends n (λ a. 0 * 256 + index n (product n cells) a) 256 256 (replicate 120 0) (c .all-index-periods .result .index)
+  append-index =
+      append-part n (λ a. 0) 1 (replicate 120 0) (no-keys n (start .pre .order .1)) 256 (index n (product n cells)) _ (c .all-index-periods .ensures .index) (index-fits n cells (start .pre)) (omega arith)
 
-all-index-periods-requires : tie.Need-all-index-periods-requires Inv-loop μ-loop
+  append-period : (keys : List ℕ) → AllKeys n (λ a. 0 * 256 + index n (product n cells) a) 256 keys
+      → Appends n (λ a. (0 * 256 + index n (product n cells) a) * 256 + period n (product n cells) a) 65536 256 keys (c .all-index-periods .result .period)
+  append-period keys k = append-part n _ 256 keys k 256 (period n (product n cells)) _ (c .all-index-periods .ensures .period) (period-fits n cells (start .pre)) (omega arith)
+
+all-index-periods-requires : tie.Need-all-index-periods-requires
 all-index-periods-requires c κs = search needs
 
-loop-holds : tie.Need-loop-holds Inv-loop μ-loop
-loop-holds c = let a = c .before .before .args in (omega arith, fill-start (key (a .n) (product (a .n) (now (a .cells)))))
+append-requires : tie.Need-append-requires
+append-requires c κs = let p = c .before .before .before in (start p .pre .order .1, append-index p .0)
 
-element-copy-out-index-period-key : tie.Need-element-copy-out-index-period-key Inv-loop μ-loop
-element-copy-out-index-period-key c = below c
+append-requires-2 : tie.Need-append-requires-2
+append-requires-2 c κs =
+    let i = c .before .before .before in
+    let p = i .before .before .before .before in
+    (start p .pre .order .1, append-period p (i .append .result) (append-index p .1 (i .append .result) (i .append .ensures)) .0)
 
-element-copy-out-index-period-key-2 : tie.Need-element-copy-out-index-period-key-2 Inv-loop μ-loop
-element-copy-out-index-period-key-2 c = below (c .before)
-
-index-period-key-requires : tie.Need-index-period-key-requires Inv-loop μ-loop
-index-period-key-requires c κs = tt
-
-mul-keys : tie.Need-mul-keys Inv-loop μ-loop
-mul-keys c = let b = below (c .before .before .before) in omega arith
-
-array-write-keys : tie.Need-array-write-keys Inv-loop μ-loop
-array-write-keys c = below (c .before .before .before)
-
-add-k : tie.Need-add-k Inv-loop μ-loop
-add-k c = let b = below (c .before .before .before) in omega arith
-
-loop-less : tie.Need-loop-less Inv-loop μ-loop
-loop-less c = let b = c .before .before .before .loop-test .taken in omega arith
-
-loop-again : tie.Need-loop-again Inv-loop μ-loop
-loop-again c =
-    let t = c .before .before .before in
-    let s = t .before .before .before .before in
-    let table = product (s .args .n) (now (s .args .cells)) in
-    let powers = t .before .before .all-index-periods in
-    let k = t .before .loop .k in
-    let b = t .loop-test .taken in (
-      omega arith,
-      value-next (key (s .args .n) table) k (c .index-period-key .result) (t .before .loop .keys) (t .before .loop .inv .1) (below t)
-          (c .index-period-key .ensures ∙ ap indexPeriodKey (index-period-at (s .args .n) table k b (powers .result .index) (powers .result .period) (powers .ensures .0) (powers .ensures .1))),
-    )
-
-returns : tie.Need-returns Inv-loop μ-loop
+returns : tie.Need-returns
+unfolding indexPeriodKey packed indexPeriod
 returns c =
-    let a = c .before .before .before .before .args in
-    let last : c .before .loop .k ≡ a .n = omega arith in
-    c .before .loop .inv .1 ∙ ap (λ (k : ℕ). perElement k (key (a .n) (product (a .n) (now (a .cells))))) last
+    let i = c .before .before .before .before in
+    let p = i .before .before .before .before in
+    append-period p (i .append .result) (append-index p .1 (i .append .result) (i .append .ensures)) .1 (c .append2 .result) (c .append2 .ensures) .each
 
 pub index-period-keys-spec : {M : Type 1} → statement M
 index-period-keys-spec =
-    tie.close
-    (tie.spec
-    Inv-loop
-    μ-loop
-    all-index-periods-requires
-    loop-holds
-    element-copy-out-index-period-key
-    element-copy-out-index-period-key-2
-    index-period-key-requires
-    mul-keys
-    array-write-keys
-    add-k
-    loop-less
-    loop-again
-    returns)
+    tie.close (tie.spec all-index-periods-requires append-requires append-requires-2 returns)

@@ -1,123 +1,110 @@
--- `profile_keys` meets its contract: the array holds the keys of the first k elements, then zeros. The measure is how many elements are left.
--- Assumes nothing.
-use mathlib.Core.Path.{_≡_, ap, _∙_}
-use Prim.Native.Nat.{ℕ, _+_, _-_, _≤_, _<_}
-use native.Mathlib.Omega.{arith}
+-- `profile_keys` meets its contract: the counts behind the key of the index-period, one after the other. Assumes nothing.
+use Prim.Native.Nat.{ℕ}
 use borrow.Author.Needs.{needs}
 use denote.Ref.{now}
-use Rattle.semigroups.specs.Tables.{Product, product}
-use Rattle.semigroups.specs.Invariants as marks
-use Rattle.invariants.specs.PerElement.{perElement}
-use Rattle.invariants.proofs.PerElement.{fill-start}
-use Rattle.candidates.specs.Keys.{profileKey}
-use Rattle.candidates.proofs.Keys.{profile-at, diagonal-fits, value-at, value-next}
+use mathlib.Core.List.{List}
+use Rattle.semigroups.specs.Tables.{Filled, product}
+use Rattle.semigroups.specs.Invariants.{profile}
+use Rattle.invariants.specs.declared.ElementCounts.{ElementCounts}
+use Rattle.invariants.specs.PerElement.{AllCounts}
+use Rattle.candidates.specs.Keys.{packed, profileKey}
+use Rattle.candidates.proofs.Keys.{AllKeys, Appends, key, powers-keys, append-frequency, append-diagonal, append-row, append-column}
 use Rattle.candidates.proofs.profile_keys.Statement.{statement}
 use Rattle.candidates.proofs.profile_keys.Tie as tie
 
-abbrev key : ℕ → Product → ℕ → ℕ
-key n s a = profileKey (marks.profile n s a)
+-- What is known where the keys of the index-periods are there.
+module _ (c : tie.After-index-period-keys) where
+  abbrev start : tie.Start
+  start = c .before .before .before
 
-abbrev Inv-loop : tie.InvT-loop
-Inv-loop cells n profiles keys₀ k₀ keys k = (k ≤ n) × (keys ≡ perElement k (key n (product n cells)))
+  abbrev n : ℕ
+  n = start .args .n
 
-abbrev μ-loop : tie.MeasureT-loop
-μ-loop cells n profiles keys₀ k₀ keys k = n - k
+  abbrev cells : List ℕ
+  cells = now (start .args .cells)
 
-below : (t : tie.In-loop Inv-loop μ-loop) → t .before .loop .k < 120
-below t = let s = t .before .before .before .before in let b = t .loop-test .taken in let l = s .pre .order in omega arith
+  table : Filled n cells
+  table = start .pre
 
-all-profiles-requires : tie.Need-all-profiles-requires Inv-loop μ-loop
-all-profiles-requires c κs = search needs
+  abbrev counts : ElementCounts
+  counts = c .before .all-counts .result
 
-loop-holds : tie.Need-loop-holds Inv-loop μ-loop
-loop-holds c = let a = c .before .before .args in (omega arith, fill-start (key (a .n) (product (a .n) (now (a .cells)))))
+  counted : AllCounts n (product n cells) counts
+  counted = c .before .all-counts .ensures
 
-element-copy-out-profile-key : tie.Need-element-copy-out-profile-key Inv-loop μ-loop
-element-copy-out-profile-key c = below c
+  -- The keys with the first k counts, and with one more.
+  abbrev Keys : ℕ → ℕ → List ℕ → Type 0
+  Keys k bound keys = AllKeys n (key n cells table counts counted k) bound keys
 
-element-copy-out-profile-key-2 : tie.Need-element-copy-out-profile-key-2 Inv-loop μ-loop
-element-copy-out-profile-key-2 c = below (c .before)
+  frequencies : Appends n (key n cells table counts counted 1) 4294967296 65536 (c .index-period-keys .result) (counts .frequency)
+  frequencies = append-frequency n cells table counts counted _ (powers-keys n cells table counts counted _ (c .index-period-keys .ensures))
 
-mul-profile-key : tie.Need-mul-profile-key Inv-loop μ-loop
-mul-profile-key c = let b = below (c .before .before) in omega arith
+  diagonals : (keys : List ℕ) → Keys 1 4294967296 keys → Appends n (key n cells table counts counted 2) 1099511627776 256 keys (counts .diagonal)
+  diagonals = append-diagonal n cells table counts counted
 
-element-copy-out-profile-key-3 : tie.Need-element-copy-out-profile-key-3 Inv-loop μ-loop
-element-copy-out-profile-key-3 c = below (c .before .before)
+  rows : (keys : List ℕ) → Keys 2 1099511627776 keys → Appends n (key n cells table counts counted 3) 281474976710656 256 keys (counts .row)
+  rows = append-row n cells table counts counted
 
-mul-profile-key-2 : tie.Need-mul-profile-key-2 Inv-loop μ-loop
-mul-profile-key-2 c = let b = below (c .before .before .before) in omega arith
+  columns : (keys : List ℕ) → Keys 3 281474976710656 keys → Appends n (key n cells table counts counted 4) 72057594037927936 256 keys (counts .column)
+  columns = append-column n cells table counts counted
 
-element-copy-out-profile-key-4 : tie.Need-element-copy-out-profile-key-4 Inv-loop μ-loop
-element-copy-out-profile-key-4 c = below (c .before .before .before)
+with-frequency : (z : tie.After-append) → let c = z .before .before .before .before in Keys c 1 4294967296 (z .append .result)
+with-frequency z = let c = z .before .before .before .before in frequencies c .1 (z .append .result) (z .append .ensures)
 
-element-copy-out-profile-key-5 : tie.Need-element-copy-out-profile-key-5 Inv-loop μ-loop
-element-copy-out-profile-key-5 c = below (c .before .before .before .before)
+with-diagonal : (z : tie.After-append2) → let c = z .before .before .before .before .before .before .before .before in Keys c 2 1099511627776 (z .append2 .result)
+with-diagonal z =
+    let y = z .before .before .before .before in
+    let c = y .before .before .before .before in
+    diagonals c (y .append .result) (with-frequency y) .1 (z .append2 .result) (z .append2 .ensures)
 
-element-copy-out-profile-key-6 : tie.Need-element-copy-out-profile-key-6 Inv-loop μ-loop
-element-copy-out-profile-key-6 c = below (c .before .before .before .before .before)
+with-row : (z : tie.After-append3) → let c = z .before .before .before .before .before .before .before .before .before .before .before .before in Keys c 3 281474976710656 (z .append3 .result)
+with-row z =
+    let y = z .before .before .before .before in
+    let c = y .before .before .before .before .before .before .before .before in
+    rows c (y .append2 .result) (with-diagonal y) .1 (z .append3 .result) (z .append3 .ensures)
 
-profile-key-requires : tie.Need-profile-key-requires Inv-loop μ-loop
-profile-key-requires c κs =
-    let t = c .before .before .before .before .before .before in
-    let s = t .before .before .before .before in
-    let table = product (s .args .n) (now (s .args .cells)) in
-    let k = t .before .loop .k in
-    let b = t .loop-test .taken in
-    omega (arith, value-at (marks.diagonalFrequency (s .args .n) table) (s .args .n) k (t .before .before .all-profiles .result .diagonal) (t .before .before .all-profiles .ensures .1 .1 .1 .0) b, diagonal-fits (s .args .n) (now (s .args .cells)) (s .pre) (k + 1) (omega arith))
+all-counts-requires : tie.Need-all-counts-requires
+all-counts-requires c κs = search needs
 
-mul-keys : tie.Need-mul-keys Inv-loop μ-loop
-mul-keys c = let b = below (c .before .before .before .before .before .before .before) in omega arith
+index-period-keys-requires : tie.Need-index-period-keys-requires
+index-period-keys-requires c κs = search needs
 
-array-write-keys : tie.Need-array-write-keys Inv-loop μ-loop
-array-write-keys c = below (c .before .before .before .before .before .before .before)
+append-requires : tie.Need-append-requires
+append-requires z κs = let c = z .before .before .before in (table c .order .1, frequencies c .0)
 
-add-k : tie.Need-add-k Inv-loop μ-loop
-add-k c = let b = below (c .before .before .before .before .before .before .before) in omega arith
+append-requires-2 : tie.Need-append-requires-2
+append-requires-2 z κs =
+    let y = z .before .before .before in
+    let c = y .before .before .before .before in
+    (table c .order .1, diagonals c (y .append .result) (with-frequency y) .0)
 
-loop-less : tie.Need-loop-less Inv-loop μ-loop
-loop-less c = let b = c .before .before .before .before .before .before .before .loop-test .taken in omega arith
+append-requires-3 : tie.Need-append-requires-3
+append-requires-3 z κs =
+    let y = z .before .before .before in
+    let c = y .before .before .before .before .before .before .before .before in
+    (table c .order .1, rows c (y .append2 .result) (with-diagonal y) .0)
 
-loop-again : tie.Need-loop-again Inv-loop μ-loop
-loop-again c =
-    let t = c .before .before .before .before .before .before .before in
-    let s = t .before .before .before .before in
-    let table = product (s .args .n) (now (s .args .cells)) in
-    let p = t .before .before .all-profiles .result in
-    let e = t .before .before .all-profiles .ensures in
-    let k = t .before .loop .k in
-    let b = t .loop-test .taken in (
-      omega arith,
-      value-next (key (s .args .n) table) k (c .profile-key .result) (t .before .loop .keys) (t .before .loop .inv .1) (below t)
-          (c .profile-key .ensures
-          ∙ ap profileKey (profile-at (s .args .n) table k b (p .index) (p .period) (p .frequency) (p .diagonal) (p .row) (p .column) (e .0) (e .1 .0) (e .1 .1 .0) (e .1 .1 .1 .0) (e .1 .1 .1 .1 .0) (e .1 .1 .1 .1 .1))),
-    )
+append-requires-4 : tie.Need-append-requires-4
+append-requires-4 z κs =
+    let y = z .before .before .before in
+    let c = y .before .before .before .before .before .before .before .before .before .before .before .before in
+    (table c .order .1, columns c (y .append3 .result) (with-row y) .0)
 
-returns : tie.Need-returns Inv-loop μ-loop
-returns c =
-    let a = c .before .before .before .before .args in
-    let last : c .before .loop .k ≡ a .n = omega arith in
-    c .before .loop .inv .1 ∙ ap (λ (k : ℕ). perElement k (key (a .n) (product (a .n) (now (a .cells))))) last
+returns : tie.Need-returns
+unfolding packed profileKey profile
+returns z =
+    let y = z .before .before .before .before in
+    let c = y .before .before .before .before .before .before .before .before .before .before .before .before in
+    columns c (y .append3 .result) (with-row y) .1 (z .append4 .result) (z .append4 .ensures) .each
 
 pub profile-keys-spec : {M : Type 1} → statement M
 profile-keys-spec =
     tie.close
     (tie.spec
-    Inv-loop
-    μ-loop
-    all-profiles-requires
-    loop-holds
-    element-copy-out-profile-key
-    element-copy-out-profile-key-2
-    mul-profile-key
-    element-copy-out-profile-key-3
-    mul-profile-key-2
-    element-copy-out-profile-key-4
-    element-copy-out-profile-key-5
-    element-copy-out-profile-key-6
-    profile-key-requires
-    mul-keys
-    array-write-keys
-    add-k
-    loop-less
-    loop-again
+    all-counts-requires
+    index-period-keys-requires
+    append-requires
+    append-requires-2
+    append-requires-3
+    append-requires-4
     returns)

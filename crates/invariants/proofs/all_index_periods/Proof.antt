@@ -8,12 +8,14 @@ use Rattle.semigroups.specs.Tables.{Product, product, Element, Closed}
 use Rattle.semigroups.specs.Invariants as marks
 use Rattle.semigroups.proofs.Tables.{product-element}
 use Rattle.invariants.proofs.Powers.{index-at-most, period-at-most}
-use Rattle.invariants.proofs.PerElement.{Filling, filling-start, filling-step, filling-end}
+use Rattle.invariants.specs.PerElement.{perElement}
+use Rattle.invariants.proofs.PerElement.{fill-start, fill-step, fill-end}
 use Rattle.invariants.proofs.all_index_periods.Statement.{statement}
 use Rattle.invariants.proofs.all_index_periods.Tie as tie
 
 abbrev Inv-loop : tie.InvT-loop
-Inv-loop cells n index₀ period₀ a₀ index period a = Filling n (marks.index n (product n cells)) (marks.period n (product n cells)) a index period
+Inv-loop cells n index₀ period₀ a₀ index period a =
+    Element (n + 1) a × (index ≡ perElement (a - 1) (marks.index n (product n cells))) × (period ≡ perElement (a - 1) (marks.period n (product n cells)))
 
 abbrev μ-loop : tie.MeasureT-loop
 μ-loop cells n index₀ period₀ a₀ index period a = n + 1 - a
@@ -33,7 +35,7 @@ module _ (c : tie.After-index-period-of Inv-loop μ-loop) where
   limit = start .pre .order .1
 
   element : Element (start .args .n) (head .loop .a)
-  element = (head .loop .inv .from-one, c .before .loop-test .taken)
+  element = (head .loop .inv .0 .0, c .before .loop-test .taken)
 
   closed : Closed (start .args .n) table
   closed = product-element (start .args .n) (now (start .args .cells)) (start .pre .size) (start .pre .in-range)
@@ -50,10 +52,10 @@ loop-holds : tie.Need-loop-holds Inv-loop μ-loop
 loop-holds c =
     let a = c .before .args in
     let table = product (a .n) (now (a .cells)) in
-    filling-start (a .n) (marks.index (a .n) table) (marks.period (a .n) table)
+    (omega arith, fill-start (marks.index (a .n) table), fill-start (marks.period (a .n) table))
 
 index-period-of-requires : tie.Need-index-period-of-requires Inv-loop μ-loop
-index-period-of-requires c κs = (c .before .before .before .pre, (c .before .loop .inv .from-one, c .loop-test .taken))
+index-period-of-requires c κs = (c .before .before .before .pre, (c .before .loop .inv .0 .0, c .loop-test .taken))
 
 cast-index : tie.Need-cast-index Inv-loop μ-loop
 cast-index c =
@@ -62,6 +64,9 @@ cast-index c =
 
 sub-index : tie.Need-sub-index Inv-loop μ-loop
 sub-index c = element (c .before) .0
+
+mul-index : tie.Need-mul-index Inv-loop μ-loop
+mul-index c = let e = element (c .before) in omega (arith, limit (c .before))
 
 array-write-index : tie.Need-array-write-index Inv-loop μ-loop
 array-write-index c = let e = element (c .before) in omega (arith, limit (c .before))
@@ -73,6 +78,9 @@ cast-period c =
 
 sub-period : tie.Need-sub-period Inv-loop μ-loop
 sub-period c = element (c .before .before) .0
+
+mul-period : tie.Need-mul-period Inv-loop μ-loop
+mul-period c = let e = element (c .before .before) in omega (arith, limit (c .before .before))
 
 array-write-period : tie.Need-array-write-period Inv-loop μ-loop
 array-write-period c = let e = element (c .before .before) in omega (arith, limit (c .before .before))
@@ -88,15 +96,23 @@ loop-again c =
     let b = c .before .before in
     let n = start b .args .n in
     let l = head b .loop in
-    let r = b .index-period-of .result in
-    filling-step n (marks.index n (table b)) (marks.period n (table b)) (l .a) (l .index) (l .period) (l .inv) (limit b) (element b .1) (r .index) (r .period) (index-is b) (period-is b)
+    let e = element b in
+    let most = limit b in (
+      omega arith,
+      fill-step (marks.index n (table b)) (l .a) _ (l .index) (l .inv .1) (omega arith) (index-is b),
+      fill-step (marks.period n (table b)) (l .a) _ (l .period) (l .inv .2) (omega arith) (period-is b),
+    )
 
 returns : tie.Need-returns Inv-loop μ-loop
 returns c =
     let l = c .before .loop in
     let a = c .before .before .before .args in
     let table = product (a .n) (now (a .cells)) in
-    filling-end (a .n) (marks.index (a .n) table) (marks.period (a .n) table) (l .a) (l .index) (l .period) (l .inv) (c .loop-test .left)
+    let end = c .loop-test .left in
+    record {
+      index = fill-end (marks.index (a .n) table) (a .n) (l .a) (l .index) (l .inv .1) (l .inv .0) end;
+      period = fill-end (marks.period (a .n) table) (a .n) (l .a) (l .period) (l .inv .2) (l .inv .0) end;
+    }
 
 pub all-index-periods-spec : {M : Type 1} → statement M
 all-index-periods-spec =
@@ -108,9 +124,11 @@ all-index-periods-spec =
     index-period-of-requires
     cast-index
     sub-index
+    mul-index
     array-write-index
     cast-period
     sub-period
+    mul-period
     array-write-period
     add-a
     loop-less

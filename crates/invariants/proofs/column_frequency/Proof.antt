@@ -4,7 +4,7 @@ use denote.Ref.{now}
 use Prim.Native.Nat.{ℕ, _-_}
 use mathlib.Core.Path.{sym, ap, _∙_, subst}
 use mathlib.Core.List.{List}
-use Rattle.invariants.specs.Counts.{every, occurrences, Reached}
+use Rattle.invariants.specs.Counts.{occurrences, Reached}
 use Rattle.invariants.proofs.Counts.{column-within, column-reached, column-counted, part-to-end}
 use borrow.Author.Needs.{needs}
 use Rattle.invariants.proofs.column_frequency.Statement.{statement}
@@ -31,7 +31,7 @@ count-requires c κs =
 returns : tie.Need-returns
 returns c =
     let s = c .before .before .before in
-    c .count .ensures ∙ ap (λ (l : List ℕ). occurrences (s .args .a) (every (s .args .n) (s .args .n) l)) (part-to-end (now (s .args .cells)) (s .args .a - 1))
+    c .count .ensures ∙ ap (λ (l : List ℕ). occurrences (s .args .a) (s .args .n) (s .args .n) l) (part-to-end (now (s .args .cells)) (s .args .a - 1))
     ∙ column-counted (s .args .n) (now (s .args .cells)) (s .args .a)
 
 pub column-frequency-spec : {M : Type 1} → statement M

@@ -4,19 +4,19 @@ use denote.Ref.{now}
 use Prim.Native.Nat.{ℕ, _-_, _*_, _≤_}
 use mathlib.Core.Path.{_≡_, sym, ap, _∙_}
 use mathlib.Core.Logic.{⊎-elim}
-use Rattle.invariants.specs.Counts.{every, occurrences}
-use Rattle.invariants.proofs.Counts.{none-yet, count-hit, count-miss}
+use Rattle.invariants.specs.Counts.{occurrences}
+use Rattle.invariants.proofs.Counts.{occurs-none, occurs, occurs-not}
 use Rattle.invariants.proofs.count.Statement.{statement}
 use Rattle.invariants.proofs.count.Tie as tie
 
 abbrev Inv-loop : tie.InvT-loop
-Inv-loop cells k step a found₀ i₀ found i = (i ≤ k) × (found ≤ i) × (found ≡ occurrences a (every step i cells))
+Inv-loop cells k step a found₀ i₀ found i = (i ≤ k) × (found ≤ i) × (found ≡ occurrences a step i cells)
 
 abbrev μ-loop : tie.MeasureT-loop
 μ-loop cells k step a found₀ i₀ found i = k - i
 
 loop-holds : tie.Need-loop-holds Inv-loop μ-loop
-loop-holds c = let a = c .args in (omega arith, omega arith, sym (none-yet (a .a) (a .step) (now (a .cells))))
+loop-holds c = let a = c .args in (omega arith, omega arith, sym (occurs-none (a .a) (a .step) (now (a .cells))))
 
 mul-if1 : tie.Need-mul-if1 Inv-loop μ-loop
 mul-if1 c = omega (arith, c .before .before .pre (c .before .loop .i) (c .loop-test .taken))
@@ -41,14 +41,14 @@ loop-again c =
     let t = c .before .before in
     let l = t .before .loop in
     let a = t .before .before .args in
-    ⊎-elim (λ w. omega (arith, count-hit (a .a) (a .step) (now (a .cells)) (l .i) (w .0 .taken)))
-    (λ w. omega (arith, count-miss (a .a) (a .step) (now (a .cells)) (l .i) (w .0 .left))) (c .if1 .came)
+    ⊎-elim (λ w. omega (arith, occurs (a .a) (a .step) (now (a .cells)) (l .i) (w .0 .taken)))
+    (λ w. omega (arith, occurs-not (a .a) (a .step) (now (a .cells)) (l .i) (w .0 .left))) (c .if1 .came)
 
 returns : tie.Need-returns Inv-loop μ-loop
 returns c =
     let l = c .before .loop in
     let a = c .before .before .args in
-    l .inv .2 ∙ ap (λ (j : ℕ). occurrences (a .a) (every (a .step) j (now (a .cells)))) (let z : l .i ≡ a .k = omega arith in z)
+    l .inv .2 ∙ ap (λ (j : ℕ). occurrences (a .a) (a .step) j (now (a .cells))) (let z : l .i ≡ a .k = omega arith in z)
 
 pub count-spec : {M : Type 1} → statement M
 count-spec =

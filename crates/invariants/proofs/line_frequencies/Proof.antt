@@ -3,15 +3,18 @@
 use native.Mathlib.Omega.{arith}
 use denote.Ref.{now}
 use Prim.Native.Nat.{_+_, _-_, _≤_}
+use mathlib.Core.Path.{_≡_}
 use Rattle.semigroups.specs.Tables.{product, Element}
 use Rattle.semigroups.specs.Invariants.{rowFrequency, columnFrequency}
 use Rattle.invariants.proofs.Counts.{row-at-most, column-at-most}
-use Rattle.invariants.proofs.PerElement.{Filling, filling-start, filling-step, filling-end}
+use Rattle.invariants.specs.PerElement.{perElement}
+use Rattle.invariants.proofs.PerElement.{fill-start, fill-step, fill-end}
 use Rattle.invariants.proofs.line_frequencies.Statement.{statement}
 use Rattle.invariants.proofs.line_frequencies.Tie as tie
 
 abbrev Inv-loop : tie.InvT-loop
-Inv-loop cells n row₀ column₀ a₀ row column a = Filling n (rowFrequency n (product n cells)) (columnFrequency n (product n cells)) a row column
+Inv-loop cells n row₀ column₀ a₀ row column a =
+    Element (n + 1) a × (row ≡ perElement (a - 1) (rowFrequency n (product n cells))) × (column ≡ perElement (a - 1) (columnFrequency n (product n cells)))
 
 abbrev μ-loop : tie.MeasureT-loop
 μ-loop cells n row₀ column₀ a₀ row column a = n + 1 - a
@@ -25,13 +28,13 @@ module _ (t : tie.In-loop Inv-loop μ-loop) where
   limit = start .pre .order .1
 
   element : Element (start .args .n) (t .before .loop .a)
-  element = (t .before .loop .inv .from-one, t .loop-test .taken)
+  element = (t .before .loop .inv .0 .0, t .loop-test .taken)
 
 loop-holds : tie.Need-loop-holds Inv-loop μ-loop
 loop-holds c =
     let a = c .before .args in
     let table = product (a .n) (now (a .cells)) in
-    filling-start (a .n) (rowFrequency (a .n) table) (columnFrequency (a .n) table)
+    (omega arith, fill-start (rowFrequency (a .n) table), fill-start (columnFrequency (a .n) table))
 
 row-frequency-requires : tie.Need-row-frequency-requires Inv-loop μ-loop
 row-frequency-requires c κs = (start c .pre, element c)
@@ -44,6 +47,9 @@ cast-row c =
 
 sub-row : tie.Need-sub-row Inv-loop μ-loop
 sub-row c = element (c .before) .0
+
+mul-row : tie.Need-mul-row Inv-loop μ-loop
+mul-row c = let e = element (c .before) in omega (arith, limit (c .before))
 
 array-write-row : tie.Need-array-write-row Inv-loop μ-loop
 array-write-row c = let e = element (c .before) in omega (arith, limit (c .before))
@@ -60,6 +66,9 @@ cast-column c =
 sub-column : tie.Need-sub-column Inv-loop μ-loop
 sub-column c = element (c .before .before) .0
 
+mul-column : tie.Need-mul-column Inv-loop μ-loop
+mul-column c = let e = element (c .before .before) in omega (arith, limit (c .before .before))
+
 array-write-column : tie.Need-array-write-column Inv-loop μ-loop
 array-write-column c = let e = element (c .before .before) in omega (arith, limit (c .before .before))
 
@@ -75,16 +84,23 @@ loop-again c =
     let n = start t .args .n in
     let table = product n (now (start t .args .cells)) in
     let l = t .before .loop in
-    let row = c .before .row-frequency in
-    let column = c .column-frequency in
-    filling-step n (rowFrequency n table) (columnFrequency n table) (l .a) (l .row) (l .column) (l .inv) (limit t) (element t .1) (row .result) (column .result) (row .ensures) (column .ensures)
+    let e = element t in
+    let most = limit t in (
+      omega arith,
+      fill-step (rowFrequency n table) (l .a) _ (l .row) (l .inv .1) (omega arith) (c .before .row-frequency .ensures),
+      fill-step (columnFrequency n table) (l .a) _ (l .column) (l .inv .2) (omega arith) (c .column-frequency .ensures),
+    )
 
 returns : tie.Need-returns Inv-loop μ-loop
 returns c =
     let l = c .before .loop in
     let a = c .before .before .before .args in
     let table = product (a .n) (now (a .cells)) in
-    filling-end (a .n) (rowFrequency (a .n) table) (columnFrequency (a .n) table) (l .a) (l .row) (l .column) (l .inv) (c .loop-test .left)
+    let end = c .loop-test .left in
+    record {
+      row = fill-end (rowFrequency (a .n) table) (a .n) (l .a) (l .row) (l .inv .1) (l .inv .0) end;
+      column = fill-end (columnFrequency (a .n) table) (a .n) (l .a) (l .column) (l .inv .2) (l .inv .0) end;
+    }
 
 pub line-frequencies-spec : {M : Type 1} → statement M
 line-frequencies-spec =
@@ -96,10 +112,12 @@ line-frequencies-spec =
     row-frequency-requires
     cast-row
     sub-row
+    mul-row
     array-write-row
     column-frequency-requires
     cast-column
     sub-column
+    mul-column
     array-write-column
     add-a
     loop-less

@@ -4,7 +4,7 @@ use denote.Ref.{now}
 use Prim.Native.Nat.{ℕ, _-_, _*_}
 use mathlib.Core.Path.{sym, ap, _∙_, subst}
 use mathlib.Core.List.{List}
-use Rattle.invariants.specs.Counts.{every, occurrences, Reached}
+use Rattle.invariants.specs.Counts.{occurrences, Reached}
 use Rattle.invariants.proofs.Counts.{cells-at-most, row-within, row-reached, row-counted, part-to-end}
 use borrow.Author.Needs.{needs}
 use Rattle.invariants.proofs.row_frequency.Statement.{statement}
@@ -35,7 +35,7 @@ returns : tie.Need-returns
 returns c =
     let s = c .before .before .before in
     let at = (s .args .a - 1) * s .args .n in
-    c .count .ensures ∙ ap (λ (l : List ℕ). occurrences (s .args .a) (every 1 (s .args .n) l)) (part-to-end (now (s .args .cells)) at)
+    c .count .ensures ∙ ap (λ (l : List ℕ). occurrences (s .args .a) 1 (s .args .n) l) (part-to-end (now (s .args .cells)) at)
     ∙ row-counted (s .args .n) (now (s .args .cells)) (s .args .a)
 
 pub row-frequency-spec : {M : Type 1} → statement M

@@ -7,15 +7,15 @@ use Prim.Native.Nat.{ℕ, _+_, _-_, _*_, _≤_, _<_}
 use mathlib.Core.Path.{_≡_, refl, ap, _∙_}
 use lib.ListN.{length, getD, set}
 use Rattle.semigroups.specs.Tables.{Element}
-use Rattle.invariants.specs.Counts.{every, occurrences}
+use Rattle.invariants.specs.Counts.{occurrences}
 use Rattle.invariants.specs.PerElement.{perElement}
-use Rattle.invariants.proofs.Counts.{none-yet, count-hit, count-miss, count-below}
+use Rattle.invariants.proofs.Counts.{occurs-none, occurs, occurs-not, occurs-at-most}
 use Rattle.invariants.proofs.PerElement.{per-element-at, zero-start, raise}
 use Rattle.invariants.proofs.tally.Statement.{statement}
 use Rattle.invariants.proofs.tally.Tie as tie
 
 abbrev Inv-loop : tie.InvT-loop
-Inv-loop cells n k step found₀ i₀ found i = (i ≤ k) × (found ≡ perElement n (λ a. occurrences a (every step i cells)))
+Inv-loop cells n k step found₀ i₀ found i = (i ≤ k) × (found ≡ perElement n (λ a. occurrences a step i cells))
 
 abbrev μ-loop : tie.MeasureT-loop
 μ-loop cells n k step found₀ i₀ found i = k - i
@@ -32,7 +32,7 @@ module _ (t : tie.In-loop Inv-loop μ-loop) where
   cell = getD (now (start .args .cells)) place 0
 
   abbrev counts : ℕ → ℕ → ℕ
-  counts i a = occurrences a (every (start .args .step) i (now (start .args .cells)))
+  counts i a = occurrences a (start .args .step) i (now (start .args .cells))
 
   within : place < length (now (start .args .cells))
   within = start .pre .1 .0 (t .before .loop .i) (t .loop-test .taken)
@@ -50,7 +50,7 @@ loop-holds : tie.Need-loop-holds Inv-loop μ-loop
 loop-holds c =
     let a = c .args in
     let l = c .pre .0 .order .1 in
-    (omega arith, zero-start (a .n) (λ x. occurrences x (every (a .step) 0 (now (a .cells)))) l (λ x. none-yet x (a .step) (now (a .cells))))
+    (omega arith, zero-start (a .n) (λ x. occurrences x (a .step) 0 (now (a .cells))) l (λ x. occurs-none x (a .step) (now (a .cells))))
 
 mul-x : tie.Need-mul-x Inv-loop μ-loop
 mul-x c = omega (arith, within c)
@@ -75,7 +75,7 @@ add-found c =
     let t = c .before in
     let s = start t in
     let few = s .pre .1 .1 in
-    omega (arith, held t, count-below (cell t) (s .args .step) (now (s .args .cells)) (t .before .loop .i))
+    omega (arith, held t, occurs-at-most (cell t) (s .args .step) (now (s .args .cells)) (t .before .loop .i))
 
 array-write-found : tie.Need-array-write-found Inv-loop μ-loop
 array-write-found c = below (c .before)
@@ -94,15 +94,15 @@ loop-again c =
     let v = getD (t .before .loop .found) (cell t - 1) 0 + 1 in (
       omega arith,
       ap (λ (f : List ℕ). set f (cell t - 1) v) (t .before .loop .inv .1)
-          ∙ raise (s .args .n) (counts t i) (counts t (i + 1)) (cell t) v (element t) (ap (λ (x : ℕ). x + 1) (held t)) (count-hit (cell t) (s .args .step) (now (s .args .cells)) i refl)
-          (λ a ne. count-miss a (s .args .step) (now (s .args .cells)) i ne),
+          ∙ raise (s .args .n) (counts t i) (counts t (i + 1)) (cell t) v (element t) (ap (λ (x : ℕ). x + 1) (held t)) (occurs (cell t) (s .args .step) (now (s .args .cells)) i refl)
+          (λ a ne. occurs-not a (s .args .step) (now (s .args .cells)) i ne),
     )
 
 returns : tie.Need-returns Inv-loop μ-loop
 returns c =
     let l = c .before .loop in
     let a = c .before .before .args in
-    l .inv .1 ∙ ap (λ (j : ℕ). perElement (a .n) (λ x. occurrences x (every (a .step) j (now (a .cells))))) (let z : l .i ≡ a .k = omega arith in z)
+    l .inv .1 ∙ ap (λ (j : ℕ). perElement (a .n) (λ x. occurrences x (a .step) j (now (a .cells)))) (let z : l .i ≡ a .k = omega arith in z)
 
 pub tally-spec : {M : Type 1} → statement M
 tally-spec =
