@@ -73,6 +73,15 @@ earlier-total (x ∷ a) (y ∷ b) e = go (trichotomy x y) (earlier-total a b (om
     go (inr (inl h)) d = inr (inl (earlier-head x a y b h))
     go (inr (inr h)) d = inr (inr (earlier-head y b x a h))
 
+-- At most one list is the earliest with a property.
+pub earliest-unique : {P : List ℕ → Type 0} {a b : List ℕ} → Earliest P a → Earliest P b → a ≡ b
+earliest-unique {P} {a} {b} u v = go (u .before-others b (v .has)) (v .before-others a (u .has))
+  where
+    go : (b ≡ a) ⊎ (earlier a b ≡ true) → (a ≡ b) ⊎ (earlier b a ≡ true) → a ≡ b
+    go (inl e) q = sym e
+    go (inr h) (inl e) = e
+    go (inr h) (inr k) = absurd (clash {b = earlier b a} k (earlier-asymmetric a b h))
+
 -- Equal beginnings do not count.
 pub earlier-skip : (p a b : List ℕ) → earlier (p ++ a) (p ++ b) ≡ earlier a b
 earlier-skip [] a b = refl
