@@ -135,9 +135,11 @@ quotient n own g l a b p q =
     let undo = inverse n a in
     let A = l a p in
     let la = A .size in
-    let lu = l undo (g .has-inverses a p) .size in
-    (after b undo, g .has-composites b undo q (g .has-inverses a p),
-    ext-at n (after (after b undo) a) b (length-after (after b undo) a ∙ la) (l b q .size)
-    (λ i h.
-    let w = list-at n n a A i h in
-    at-after (after b undo) a i (omega arith) ∙ at-after b undo (at a i) (omega arith) ∙ ap (at b) (g .inverse-at a p i h)))
+    let lu = l undo (g .has-inverses a p) .size in (
+      after b undo,
+      g .has-composites b undo q (g .has-inverses a p),
+      ext-at n (after (after b undo) a) b (length-after (after b undo) a ∙ la) (l b q .size)
+          (λ i h.
+          let w = list-at n n a A i h in
+          at-after (after b undo) a i (omega arith) ∙ at-after b undo (at a i) (omega arith) ∙ ap (at b) (g .inverse-at a p i h)),
+    )

@@ -3,7 +3,7 @@
 use mathlib.Core.Path.{_≡_, refl, sym, ap, ap₂, _∙_, subst}
 use mathlib.Core.Bool.{Bool, true, false, not}
 use mathlib.Core.Logic.{_⊎_, inl, inr, ⊎-elim}
-use mathlib.Core.Option.{Option, none, some, Option·map, orElse}
+use mathlib.Core.Option.{Option, none, some, Option·map, orElse, Option·none-ne-some, Option·some-ne-none}
 use mathlib.Core.List.{List, [], _∷_, map, List·Memᴰ·not-nil, List·Memᴰ·cases-cons}
 use Prim.Native.Nat.{ℕ, suc, _+_, _-_, _*_, _≤_, _<_}
 use native.Mathlib.Nat.{mul-le-mul-right, suc-mul}
@@ -61,7 +61,7 @@ accepted-closed n cells a = product-element n cells (a .size) (a .in-range)
 pub orElse-none : {A : Type 0} (p q : Option A) → orElse p q ≡ none → (p ≡ none) × (q ≡ none)
 unfolding orElse
 orElse-none none q e = (refl, e)
-orElse-none (some x) q e = absurd (let z : _≡_ {A = ℕ} 0 1 = cc in let y : ⊥ = omega arith in y)
+orElse-none (some x) q e = absurd (Option·some-ne-none x e)
 
 -- The answer of two askings is the first's, or the first has none and it is the second's.
 pub orElse-some : {A : Type 0} (p q : Option A) (r : A) → orElse p q ≡ some r → (p ≡ some r) ⊎ ((p ≡ none) × (q ≡ some r))
@@ -71,18 +71,18 @@ orElse-some (some x) q r e = inl e
 
 pub ask-passed : (b : Bool) (r : Refusal) → ask b r ≡ none → b ≡ true
 ask-passed true r e = refl
-ask-passed false r e = absurd (let z : _≡_ {A = ℕ} 0 1 = cc in let y : ⊥ = omega arith in y)
+ask-passed false r e = absurd (Option·some-ne-none r e)
 
 pub ask-failed : (b : Bool) (r q : Refusal) → ask b r ≡ some q → (b ≡ false) × (r ≡ q)
-ask-failed true r q e = absurd (let z : _≡_ {A = ℕ} 0 1 = cc in let y : ⊥ = omega arith in y)
+ask-failed true r q e = absurd (Option·none-ne-some q e)
 ask-failed false r q e = (refl, cc)
 
 pub map-none : {A B : Type 0} (f : A → B) (o : Option A) → Option·map f o ≡ none → o ≡ none
 map-none f none e = refl
-map-none f (some x) e = absurd (let z : _≡_ {A = ℕ} 0 1 = cc in let y : ⊥ = omega arith in y)
+map-none f (some x) e = absurd (Option·some-ne-none (f x) e)
 
 pub map-some : {A B : Type 0} (f : A → B) (o : Option A) (b : B) → Option·map f o ≡ some b → (x : A) × (o ≡ some x) × (f x ≡ b)
-map-some f none b e = absurd (let z : _≡_ {A = ℕ} 0 1 = cc in let y : ⊥ = omega arith in y)
+map-some f none b e = absurd (Option·none-ne-some b e)
 map-some f (some x) b e = (x, refl, cc)
 
 -- ---- question 3
@@ -220,7 +220,7 @@ module _ (n : ℕ) (cells : List ℕ) where
           let w = map-some (λ k. no 3 (k ∷ [])) (badCell n cells) r q in
           let b = bad-cell-first n cells (w .0) (w .1) in
           subst (Refused n cells) (w .2) (wrong-cell (w .0) o z (b .0) (b .1) (b .2))
-      by-cell o z (inr q) = absurd (let q1 = q .1 in let y : _≡_ {A = ℕ} 0 1 = cc in let x : ⊥ = omega arith in x)
+      by-cell o z (inr q) = absurd (Option·none-ne-some r (q .1))
 
       by-size : Element 120 n → (size ≡ some r) ⊎ ((size ≡ none) × (orElse cell none ≡ some r)) → Refused n cells r
       by-size o (inl q) =
@@ -244,7 +244,7 @@ module _ (n : ℕ) (cells : List ℕ) where
       by-triple f (inl q) =
           let w = map-some (λ l. no 4 l) (badTriple n (product n cells)) r q in
           subst (Refused n cells) (w .2) (wrong-triple (w .0) (f .order) (f .size) (f .in-range) (bad-triple-first n (product n cells) (w .0) (w .1)))
-      by-triple f (inr q) = absurd (let q1 = q .1 in let y : _≡_ {A = ℕ} 0 1 = cc in let x : ⊥ = omega arith in x)
+      by-triple f (inr q) = absurd (Option·none-ne-some r (q .1))
 
       go : (cellsRefusal n cells ≡ some r) ⊎ ((cellsRefusal n cells ≡ none) × (orElse triple none ≡ some r)) → Refused n cells r
       go (inl q) = cells-refused r q
