@@ -2,7 +2,7 @@
 -- and complete, and what is found in it is the earliest that passes. Assumes nothing.
 use mathlib.Core.Path.{_≡_, refl, sym, ap, ap₂, _∙_, subst}
 use mathlib.Core.Bool.{Bool, true, false, cond}
-use mathlib.Core.Logic.{_⊎_, inl, inr, ⊎-elim}
+use mathlib.Core.Logic.{_⊎_, inl, inr, ⊎-elim, _↔_}
 use mathlib.Core.Option.{none, some}
 use mathlib.Core.List.{List, [], _∷_, _++_, map, List·Memᴰ, List·Memᴰ·head, List·Memᴰ·tail, List·Memᴰ·not-nil, List·Memᴰ·cases-cons, List·Memᴰ·eq-of-singleton, Memᴰ·of-map, Memᴰ·map}
 use Prim.Native.Nat.{ℕ, zero, suc, _*_, _^_, _<_}
@@ -81,6 +81,13 @@ earliest-unique {P} {a} {b} u v = go (u .before-others b (v .has)) (v .before-ot
     go (inl e) q = sym e
     go (inr h) (inl e) = e
     go (inr h) (inr k) = absurd (clash {b = earlier b a} k (earlier-asymmetric a b h))
+
+-- The earliest with one of two properties that mean the same.
+pub earliest-same : {P Q : List ℕ → Type 0} {a : List ℕ} → ((g : List ℕ) → P g ↔ Q g) → Earliest P a ↔ Earliest Q a
+earliest-same {a = a} w = (
+  (λ e. record { has = w a .0 (e .has); before-others = λ g h. e .before-others g (w g .1 h) }),
+  λ e. record { has = w a .1 (e .has); before-others = λ g h. e .before-others g (w g .0 h) },
+)
 
 -- Equal beginnings do not count.
 pub earlier-skip : (p a b : List ℕ) → earlier (p ++ a) (p ++ b) ≡ earlier a b
