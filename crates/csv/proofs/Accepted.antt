@@ -13,20 +13,20 @@ use lib.Seq.{take-all}
 use borrow.Author.Tests.{eq-eqb, eqb-true}
 use Rattle.semigroups.specs.Lists.{sum, all}
 use Rattle.semigroups.specs.Tables.{Element, Filled}
-use Rattle.semigroups.specs.Questions.{firstNo}
 use Rattle.semigroups.proofs.Booleans.{both, and-left, and-right}
 use Rattle.csv.specs.Decimals.{numeral, value}
 use Rattle.csv.specs.Records.{rows, rowsText}
 use Rattle.csv.specs.Tables.{fieldsOf, orderOf, cellsOf, tableText}
-use Rattle.csv.specs.Questions.{fieldRefusal, fieldsRefusal, isSquare, squareRefusal, gridRefusal, loadRefusal}
+use Rattle.csv.specs.Questions.{fieldRefusal, fieldsRefusal, isSquare, gridRefusal, loadRefusal}
 use Rattle.csv.proofs.Every.{Every, every-append}
 use Rattle.csv.proofs.Bytes.{clean, clean-other, other-clean, no-other, closed, closed-some, ends-passes}
 use Rattle.csv.proofs.Scan.{none-refused}
 use Rattle.csv.proofs.Rows.{Digits, Row, Rows, rows-rowsText, rowsText-rows, clean-rows, rowsText-clean, rowsText-ends}
 use Rattle.csv.proofs.Decimals.{numeral-one, numeral-digits, numeral-long, numeral-leading, digits-few, value-numeral, numeral-value}
-use Rattle.csv.proofs.Fields.{Number, field-passes, field-passed, fields-passed}
+use Rattle.csv.proofs.Fields.{Number, field-passes, field-passed, no-fields, fields-first, fields-passed}
 use Rattle.csv.proofs.Records.{ends}
 use Rattle.csv.proofs.Tables.{split, Even, length-split, split-even, flatten-split, split-flatten, table-rows, flatten-map, text-length}
+use Rattle.csv.proofs.Judging.{says-passed}
 use Rattle.csv.proofs.Loading.{Loadable, cells-length, loads}
 
 -- ---- the length of a table's text
@@ -61,9 +61,9 @@ numeral-passes x e =
     sym (field-passes (numeral x) (numeral-long x s) (digits-few x) (numeral-leading x (e .0) s) (rw (value-numeral x s) (e .1)))
 
 numerals-pass : (l : List ℕ) → Every (Element 120) l → fieldsRefusal (map numeral l) ≡ none
-unfolding fieldsRefusal firstNo orElse
-numerals-pass [] h = refl
-numerals-pass (x ∷ l) h = rw (numeral-passes x (h .0)) (numerals-pass l (h .1))
+unfolding orElse
+numerals-pass [] h = no-fields
+numerals-pass (x ∷ l) h = fields-first (numeral x) (map numeral l) ∙ rw (numeral-passes x (h .0)) (numerals-pass l (h .1))
 
 values-back : (l : List ℕ) → Every (Element 120) l → map value (map numeral l) ≡ l
 values-back [] h = refl
@@ -130,11 +130,11 @@ module _ (n : ℕ) (cells : List ℕ) (f : Filled n cells) where
       ∙ first-even n (split n n cells) (rw (length-split n n cells) one) (split-even n n cells size-of)
 
   passes-grid : gridRefusal n (tableText n cells) ≡ none
-  unfolding gridRefusal squareRefusal isSquare firstNo orElse row-list
+  unfolding isSquare row-list
   passes-grid =
       let fields : fieldsRefusal (fieldsOf (tableText n cells)) ≡ none = ap fieldsRefusal text-fields ∙ numerals-pass cells small in
       let many : eqb (length (map (map numeral) (split n n cells))) n ≡ true = eq-eqb _ n (length-map (split n n cells) (map numeral) ∙ length-split n n cells) in
-      rw (fields, text-rows) (simp (many, even-all n (split n n cells) (split-even n n cells size-of)))
+      sym (says-passed n (tableText n cells) fields (rw text-rows (simp (many, even-all n (split n n cells) (split-even n n cells size-of)))))
 
   pub table-loads : (room : ℕ) → n * n ≤ room → loadRefusal (tableText n cells) room ≡ none
   table-loads room h =

@@ -3,20 +3,19 @@
 use mathlib.Core.Path.{_≡_, refl, sym, _∙_}
 use mathlib.Core.Bool.{Bool, true, false, _&&_, _||_, not, cond, and-false, or-true, or-false}
 use mathlib.Core.List.{List, [], _∷_}
-use mathlib.Core.Option.{none}
+use mathlib.Core.Option.{none, orElse, map-eq-none-iff}
 use Prim.Native.Nat.{ℕ, zero, suc, _-_, _≤_, _<_}
 use native.Mathlib.Omega.{arith}
 use lib.Dec.{eqb}
 use lib.ListN.{length, getD}
 use borrow.Author.Tests.{not-false}
-use Rattle.semigroups.specs.Lists.{range}
-use Rattle.semigroups.specs.Questions.{no}
+use Rattle.semigroups.specs.Lists.{range, firstOf}
 use Rattle.semigroups.proofs.Booleans.{both, and-left, and-right, not-of-true}
 use Rattle.semigroups.proofs.Lists.{mem-range, range-mem, find-none, none-find}
-use Rattle.semigroups.proofs.Tables.{ask-passed, map-none}
+use Rattle.semigroups.proofs.Questions.{ask-passed, all-passed}
 use Rattle.csv.specs.Decimals.{isDigit}
 use Rattle.csv.specs.Records.{isBreak}
-use Rattle.csv.specs.Questions.{breakAt, inBreak, isAllowed, firstOther, bytesRefusal, endRefusal}
+use Rattle.csv.specs.Questions.{breakAt, inBreak, isAllowed, firstOther, bytesQuestion, bytesRefusal, endQuestion, endRefusal}
 use Rattle.csv.proofs.Records.{ends, break-bytes}
 
 -- ---- the last line break
@@ -128,20 +127,20 @@ clean-other t h =
 
 pub no-other : (t : List ℕ) → bytesRefusal t ≡ none → firstOther t ≡ none
 unfolding bytesRefusal
-no-other t h = map-none _ (firstOther t) h
+no-other t h = map-eq-none-iff (λ p. p ∷ []) (firstOther t) .0 (all-passed (bytesQuestion t ∷ []) .0 h .0)
 
 -- Question 22 passes: the text ends in a line break.
 pub closed : (t : List ℕ) → endRefusal t ≡ none → ends t ≡ true
 unfolding endRefusal ends
 closed [] h = refl
-closed (b ∷ t) h = ends-break b t ∙ ask-passed (breakAt (b ∷ t) (length (b ∷ t) - 2)) (no 22 []) h
+closed (b ∷ t) h = ends-break b t ∙ ask-passed 22 (breakAt (b ∷ t) (length (b ∷ t) - 2)) (all-passed (endQuestion (b ∷ t) ∷ []) .0 h .0)
 
 pub closed-some : (t : List ℕ) → endRefusal t ≡ none → 0 < length t
-unfolding endRefusal breakAt isBreak
+unfolding endRefusal firstOf orElse breakAt isBreak
 closed-some [] h = let z : _≡_ {A = ℕ} 0 1 = cc in omega arith
 closed-some (b ∷ t) h = omega arith
 
 pub ends-passes : (t : List ℕ) → 1 ≤ length t → ends t ≡ true → endRefusal t ≡ none
-unfolding endRefusal
+unfolding endRefusal firstOf orElse
 ends-passes [] l h = let w : ⊥ = omega arith in absurd w
 ends-passes (b ∷ t) l h = rw (sym (ends-break b t) ∙ h)

@@ -4,13 +4,13 @@ use mathlib.Core.Path.{_≡_, refl}
 use mathlib.Core.List.{List, [], _∷_, map, flatMap, flatten}
 use mathlib.Core.Option.{Option, none, some, orElse}
 use Prim.Native.Nat.{ℕ}
-use Rattle.semigroups.specs.Lists.{range, elements, all, find}
+use Rattle.semigroups.specs.Lists.{range, elements, all, find, firstOf}
 use Rattle.semigroups.specs.Tables.{product, isElement}
-use Rattle.semigroups.specs.Questions.{Refusal, no, firstNo}
+use Rattle.semigroups.specs.Questions.{Refusal, no}
 use Rattle.csv.specs.Decimals.{isDigit, value, valueFrom, numeral, numeralWithin}
 use Rattle.csv.specs.Records.{isBreak, onto, records, fields, rows, recordText, lineText, rowsText}
 use Rattle.csv.specs.Tables.{fieldsOf, orderOf, cellsOf, rowFields, tableText}
-use Rattle.csv.specs.Questions.{breakAt, inBreak, isAllowed, firstOther, bytesRefusal, endRefusal, fieldRefusal, fieldsRefusal, isSquare, squareRefusal, loadRefusal}
+use Rattle.csv.specs.Questions.{breakAt, inBreak, isAllowed, firstOther, fieldsQuestions, isSquare, loadRefusal}
 
 -- A text, the length of the cell buffer, and the refusal.
 pub record Example : Type 0 where
@@ -52,7 +52,7 @@ examples =
 
 -- Each says what stands beside it.
 pub said : map (λ e. loadRefusal (e .text) (e .room)) examples ≡ map (λ e. e .says) examples
-unfolding examples loadRefusal firstNo orElse isElement bytesRefusal firstOther find range isAllowed inBreak breakAt isBreak isDigit endRefusal fieldsRefusal fieldRefusal fieldsOf flatten rows records fields onto value valueFrom squareRefusal isSquare all orderOf
+unfolding examples loadRefusal firstOf orElse isElement firstOther find range isAllowed inBreak breakAt isBreak isDigit fieldsQuestions flatMap fieldsOf flatten rows records fields onto value valueFrom isSquare all orderOf
 said = refl
 
 unfoldable pub swap-text : List ℕ

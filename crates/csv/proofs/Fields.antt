@@ -2,7 +2,7 @@
 -- Assumes nothing.
 use mathlib.Core.Path.{_≡_, refl, ap}
 use mathlib.Core.Bool.{Bool, true, false, _&&_, not, and-false}
-use mathlib.Core.List.{List, [], _∷_}
+use mathlib.Core.List.{List, [], _∷_, flatMap}
 use mathlib.Core.Option.{none, some, orElse}
 use Prim.Native.Nat.{ℕ, suc, _+_, _-_, _*_, _^_, _≤_, _<_}
 use native.Mathlib.Nat.{pow-suc, pow-le-pow-right}
@@ -13,12 +13,14 @@ use lib.ListN.{length, getD, drop, drop-of-length-le, List·getD-eq-default}
 use lib.Seq.{drop-cons}
 use borrow.Author.Tests.{leb-true, leb-false, le-leb, lt-leb, eqb-false, ne-eqb, not-true}
 use Rattle.semigroups.specs.Tables.{isElement}
-use Rattle.semigroups.specs.Questions.{no, ask, firstNo}
+use Rattle.semigroups.specs.Lists.{firstOf}
+use Rattle.semigroups.specs.Questions.{no}
 use Rattle.semigroups.proofs.Booleans.{and-left, and-right}
-use Rattle.semigroups.proofs.Tables.{orElse-none, ask-passed}
+use Rattle.semigroups.proofs.Lists.{is-element}
+use Rattle.semigroups.proofs.Questions.{ask-passed, all-passed, first-append, both-passed}
 use Rattle.csv.specs.Decimals.{isDigit, digits, value}
 use Rattle.csv.specs.Records.{isBreak}
-use Rattle.csv.specs.Questions.{breakAt, endRefusal, fieldRefusal, fieldsRefusal}
+use Rattle.csv.specs.Questions.{breakAt, endRefusal, fieldQuestions, fieldRefusal, fieldsQuestions, fieldsRefusal}
 
 -- ---- the digits at a place
 
@@ -77,48 +79,48 @@ bound-two k h = pow-le-pow-right {n = 10} (omega arith) h
 -- ---- question 22
 
 pub end-short : (t : List ℕ) → length t < 2 → some (no 22 []) ≡ endRefusal t
-unfolding endRefusal breakAt isBreak
+unfolding endRefusal firstOf orElse breakAt isBreak
 end-short t h =
     let e : length t - 2 ≡ 0 = omega arith in
     simp (e, List·getD-eq-default t 0 {n = 1} (omega arith), and-false)
 
 pub end-no-cr : (t : List ℕ) → (getD t (length t - 2) 0 ≡ 13 → ⊥) → some (no 22 []) ≡ endRefusal t
-unfolding endRefusal breakAt isBreak
+unfolding endRefusal firstOf orElse breakAt isBreak
 end-no-cr t h = simp (ne-eqb _ _ h)
 
 last-place : (t : List ℕ) → 2 ≤ length t → suc (length t - 2) ≡ length t - 1
 last-place t h = omega arith
 
 pub end-no-lf : (t : List ℕ) → 2 ≤ length t → (getD t (length t - 1) 0 ≡ 10 → ⊥) → some (no 22 []) ≡ endRefusal t
-unfolding endRefusal breakAt isBreak
+unfolding endRefusal firstOf orElse breakAt isBreak
 end-no-lf t l h = simp (last-place t l, ne-eqb _ _ h, and-false)
 
 pub end-passes : (t : List ℕ) → 2 ≤ length t → getD t (length t - 2) 0 ≡ 13 → getD t (length t - 1) 0 ≡ 10 → none ≡ endRefusal t
-unfolding endRefusal breakAt isBreak
+unfolding endRefusal firstOf orElse breakAt isBreak
 end-passes t l h g = simp (last-place t l, h, g)
 
 -- ---- questions 23 to 25
 
 module _ (f : List ℕ) where
   pub field-empty : length f < 1 → some (no 23 []) ≡ fieldRefusal f
-  unfolding fieldRefusal firstNo isElement orElse
+  unfolding fieldRefusal firstOf orElse isElement
   field-empty h = simp (lt-leb _ _ h)
 
   pub field-long : 3 < length f → some (no 23 []) ≡ fieldRefusal f
-  unfolding fieldRefusal firstNo isElement orElse
+  unfolding fieldRefusal firstOf orElse isElement
   field-long h = simp (lt-leb _ _ h, and-false)
 
   module _ (one : 1 ≤ length f) (three : length f ≤ 3) where
     pub field-zero : getD f 0 0 ≡ 48 → some (no 24 []) ≡ fieldRefusal f
-    unfolding fieldRefusal firstNo isElement orElse
+    unfolding fieldRefusal firstOf orElse isElement
     field-zero h = simp (le-leb _ _ one, le-leb _ _ three, h)
 
     pub field-large : (getD f 0 0 ≡ 48 → ⊥) → 120 < value f → some (no 25 []) ≡ fieldRefusal f
-    unfolding fieldRefusal firstNo isElement orElse
+    unfolding fieldRefusal firstOf orElse isElement
     field-large h g = simp (le-leb _ _ one, le-leb _ _ three, ne-eqb _ _ h, lt-leb _ _ g)
 
     pub field-passes : (getD f 0 0 ≡ 48 → ⊥) → value f ≤ 120 → none ≡ fieldRefusal f
-    unfolding fieldRefusal firstNo isElement orElse
+    unfolding fieldRefusal firstOf orElse isElement
     field-passes h g = simp (le-leb _ _ one, le-leb _ _ three, ne-eqb _ _ h, le-leb _ _ g)
 
 -- ---- a field that passes
@@ -131,22 +133,27 @@ pub record Number (f : List ℕ) : Type 0 where
   pub small : value f ≤ 120
 
 pub field-passed : (f : List ℕ) → fieldRefusal f ≡ none → Number f
-unfolding fieldRefusal firstNo isElement
+unfolding fieldRefusal
 field-passed f h =
-    let size = ask (leb 1 (length f) && leb (length f) 3) (no 23 []) in
-    let zero-first = ask (not (eqb (getD f 0 0) 48)) (no 24 []) in
-    let large = ask (leb (value f) 120) (no 25 []) in
-    let a = orElse-none size (orElse zero-first (orElse large none)) h in
-    let b = orElse-none zero-first (orElse large none) (a .1) in
-    let c = orElse-none large none (b .1) in
-    let s = ask-passed (leb 1 (length f) && leb (length f) 3) (no 23 []) (a .0) in
+    let p = all-passed (fieldQuestions f) .0 h in
+    let size = is-element 3 (length f) (ask-passed 23 (isElement 3 (length f)) (p .0)) in
     record {
-      some-byte = leb-true 1 (length f) (and-left (leb 1 (length f)) (leb (length f) 3) s);
-      short = leb-true (length f) 3 (and-right (leb 1 (length f)) (leb (length f) 3) s);
-      leading = eqb-false (getD f 0 0) 48 (not-true (eqb (getD f 0 0) 48) (ask-passed (not (eqb (getD f 0 0) 48)) (no 24 []) (b .0)));
-      small = leb-true (value f) 120 (ask-passed (leb (value f) 120) (no 25 []) (c .0));
+      some-byte = size .0;
+      short = size .1;
+      leading = eqb-false (getD f 0 0) 48 (not-true (eqb (getD f 0 0) 48) (ask-passed 24 (not (eqb (getD f 0 0) 48)) (p .1 .0)));
+      small = leb-true (value f) 120 (ask-passed 25 (leb (value f) 120) (p .1 .1 .0));
     }
 
+-- ---- field after field
+
+pub no-fields : fieldsRefusal [] ≡ none
+unfolding fieldsRefusal fieldsQuestions flatMap firstOf
+no-fields = refl
+
+pub fields-first : (f : List ℕ) (fs : List (List ℕ)) → fieldsRefusal (f ∷ fs) ≡ orElse (fieldRefusal f) (fieldsRefusal fs)
+unfolding fieldsRefusal fieldsQuestions fieldRefusal flatMap
+fields-first f fs = first-append (fieldQuestions f) (fieldsQuestions fs)
+
 pub fields-passed : (f : List ℕ) (fs : List (List ℕ)) → fieldsRefusal (f ∷ fs) ≡ none → (fieldRefusal f ≡ none) × (fieldsRefusal fs ≡ none)
-unfolding fieldsRefusal firstNo
-fields-passed f fs h = orElse-none (fieldRefusal f) (fieldsRefusal fs) h
+unfolding fieldsRefusal fieldsQuestions fieldRefusal flatMap
+fields-passed f fs h = both-passed (fieldQuestions f) (fieldsQuestions fs) h

@@ -9,13 +9,15 @@ use native.Mathlib.Omega.{arith}
 use lib.Dec.{eqb}
 use lib.ListN.{length, getD, drop}
 use borrow.Author.Tests.{eq-eqb, ne-eqb, not-true, not-false}
-use Rattle.semigroups.specs.Lists.{all}
+use Rattle.semigroups.specs.Lists.{all, firstOf}
 use Rattle.semigroups.specs.Questions.{Refusal, no, firstNo}
+use Rattle.semigroups.proofs.Questions.{failed-before, passed-before}
 use Rattle.csv.specs.Decimals.{digits}
 use Rattle.csv.specs.Records.{rows}
 use Rattle.csv.specs.Tables.{fieldsOf, orderOf}
-use Rattle.csv.specs.Questions.{bytesRefusal, endRefusal, fieldRefusal, fieldsRefusal, isSquare, squareRefusal, gridRefusal}
+use Rattle.csv.specs.Questions.{bytesRefusal, endRefusal, fieldRefusal, fieldsQuestions, fieldsRefusal, isSquare, squareQuestion, gridRefusal}
 use Rattle.csv.proofs.Bytes.{closed-some}
+use Rattle.csv.proofs.Fields.{no-fields, fields-first}
 use Rattle.csv.proofs.Reading.{Left, Turn, comma, line-break, turn, left-none, left-some, all-left}
 
 -- ---- the order
@@ -91,26 +93,30 @@ judge-first {t} {n} b e =
 
 module _ (n : ℕ) (t : List ℕ) where
   pub says-field : {r : Refusal} → fieldsRefusal (fieldsOf t) ≡ some r → some r ≡ gridRefusal n t
-  unfolding gridRefusal firstNo orElse
-  says-field h = simp h
+  unfolding gridRefusal fieldsRefusal
+  says-field h = sym (failed-before (fieldsQuestions (fieldsOf t)) (squareQuestion n t ∷ []) h)
+
+  square-left : fieldsRefusal (fieldsOf t) ≡ none → gridRefusal n t ≡ firstNo (squareQuestion n t ∷ [])
+  unfolding gridRefusal fieldsRefusal
+  square-left h = passed-before (fieldsQuestions (fieldsOf t)) (squareQuestion n t ∷ []) h
 
   says-uneven : fieldsRefusal (fieldsOf t) ≡ none → isSquare n (rows t) ≡ false → some (no 26 []) ≡ gridRefusal n t
-  unfolding gridRefusal squareRefusal firstNo orElse
-  says-uneven h e = simp (h, e)
+  unfolding firstOf orElse
+  says-uneven h e = sym (square-left h ∙ rw e)
 
-  says-passed : fieldsRefusal (fieldsOf t) ≡ none → isSquare n (rows t) ≡ true → none ≡ gridRefusal n t
-  unfolding gridRefusal squareRefusal firstNo orElse
-  says-passed h e = simp (h, e)
+  pub says-passed : fieldsRefusal (fieldsOf t) ≡ none → isSquare n (rows t) ≡ true → none ≡ gridRefusal n t
+  unfolding firstOf orElse
+  says-passed h e = sym (square-left h ∙ rw e)
 
 -- ---- a turn, and the end
 
 module _ {t : List ℕ} {n at row column : ℕ} {square : Bool} (k : Judging t n at row column square) where
   judge-done : length t ≤ at → (fieldsRefusal (fieldsOf t) ≡ none) × (isSquare n (rows t) ≡ (square && eqb row n))
-  unfolding flatten fieldsRefusal firstNo
+  unfolding flatten
   judge-done h =
       let e = left-none t at (k .rest) h (k .left) in
       let z : row + 0 ≡ row = omega arith in (
-        k .fields ∙ ap (λ (rs : List (List (List ℕ))). fieldsRefusal (flatten rs)) e,
+        k .fields ∙ ap (λ (rs : List (List (List ℕ))). fieldsRefusal (flatten rs)) e ∙ no-fields,
         k .shape ∙ ap (λ (rs : List (List (List ℕ))). square && squareLeft n row column rs) e ∙ simp (z, and-true),
       )
 
@@ -129,16 +135,16 @@ module _ {t : List ℕ} {n at row column : ℕ} {square : Bool} (k : Judging t n
     here = turn t at inside end (k .rest) d (k .left)
 
     pub judge-refused : {r : Refusal} → fieldRefusal (digits (drop at t)) ≡ some r → fieldsRefusal (fieldsOf t) ≡ some r
-    unfolding flatten fieldsRefusal firstNo orElse
+    unfolding flatten orElse
     judge-refused {r} h = go (k .fields) here
       where
         go : {rs : List (List (List ℕ))} → fieldsRefusal (fieldsOf t) ≡ fieldsRefusal (flatten rs) → Turn t at end rs → fieldsRefusal (fieldsOf t) ≡ some r
-        go q (comma e i b l) = q ∙ rw (sym e) (simp h)
-        go q (line-break e i b l) = q ∙ rw (sym e) (simp h)
+        go q (comma e i b l) = q ∙ rw (sym e) (simp (fields-first, h))
+        go q (line-break e i b l) = q ∙ rw (sym e) (simp (fields-first, h))
 
     module _ (passes : fieldRefusal (digits (drop at t)) ≡ none) where
       pub judge-comma : getD t end 0 ≡ 44 → Judging t n (end + 1) row (column + 1) square
-      unfolding flatten fieldsRefusal firstNo orElse
+      unfolding flatten orElse
       judge-comma c = go (k .fields) (k .shape) here
         where
           go : {rs : List (List (List ℕ))} → fieldsRefusal (fieldsOf t) ≡ fieldsRefusal (flatten rs) → isSquare n (rows t) ≡ (square && squareLeft n row column rs)
@@ -147,13 +153,13 @@ module _ {t : List ℕ} {n at row column : ℕ} {square : Bool} (k : Judging t n
               let m : column + suc (suc (length gs)) ≡ column + 1 + suc (length gs) = omega arith in
               let w = k .few-rows in
               let v = k .few-columns in
-              record { rest = (g ∷ gs) ∷ rs; left = l; fields = q ∙ rw (sym e) (simp passes); shape = s ∙ rw m; few-rows = omega arith; few-columns = omega arith }
+              record { rest = (g ∷ gs) ∷ rs; left = l; fields = q ∙ rw (sym e) (simp (fields-first, passes)); shape = s ∙ rw m; few-rows = omega arith; few-columns = omega arith }
           go q s (line-break e i b l) = let w : ⊥ = omega arith in absurd w
 
       module _ (c : getD t end 0 ≡ 44 → ⊥) where
         at-break : (later : Bool) → ((m : ℕ) (x : Bool) → (square && (eqb m n && (eqb (column + 1) n && x))) ≡ (later && (eqb m n && x)))
             → Judging t n (end + 2) (row + 1) 0 later
-        unfolding flatten fieldsRefusal firstNo orElse
+        unfolding flatten orElse
         at-break later same = go (k .fields) (k .shape) here
           where
             go : {rs : List (List (List ℕ))} → fieldsRefusal (fieldsOf t) ≡ fieldsRefusal (flatten rs) → isSquare n (rows t) ≡ (square && squareLeft n row column rs)
@@ -165,7 +171,7 @@ module _ {t : List ℕ} {n at row column : ℕ} {square : Bool} (k : Judging t n
                 record {
                   rest = rs;
                   left = l;
-                  fields = q ∙ rw (sym e) (simp passes);
+                  fields = q ∙ rw (sym e) (simp (fields-first, passes));
                   shape = s ∙ same (row + suc (length rs)) (all (λ r. eqb (length r) n) rs) ∙ rw (m, even-zero);
                   few-rows = omega arith;
                   few-columns = omega arith;

@@ -2,22 +2,22 @@
 -- Assumes nothing.
 use mathlib.Core.Path.{_≡_, refl, ap, sym, _∙_}
 use mathlib.Core.Bool.{true, and-false}
-use mathlib.Core.List.{List, [], _∷_, flatten}
-use mathlib.Core.Option.{Option, none, some, orElse}
+use mathlib.Core.List.{List, [], _∷_, _++_, flatMap, flatten}
+use mathlib.Core.Option.{none, some, orElse}
 use Prim.Native.Nat.{ℕ, _*_, _≤_, _<_}
 use native.Mathlib.Nat.{suc-mul}
 use native.Mathlib.Omega.{arith}
 use lib.Dec.{eqb, leb}
 use lib.ListN.{length, length-append, length-map}
 use borrow.Author.Tests.{eqb-true, leb-true, le-leb, lt-leb}
-use Rattle.semigroups.specs.Lists.{all}
+use Rattle.semigroups.specs.Lists.{all, firstOf, member}
 use Rattle.semigroups.specs.Tables.{isElement}
-use Rattle.semigroups.specs.Questions.{Refusal, no, ask, firstNo}
+use Rattle.semigroups.specs.Questions.{Question, ask, Refusal, no, firstNo}
 use Rattle.semigroups.proofs.Booleans.{and-left, and-right}
-use Rattle.semigroups.proofs.Tables.{orElse-none, ask-passed}
+use Rattle.semigroups.proofs.Questions.{ask-passed, all-passed, failed-before, passed-before, both-passed, Listed, listed, listed-append}
 use Rattle.csv.specs.Records.{rows}
 use Rattle.csv.specs.Tables.{fieldsOf, orderOf, cellsOf}
-use Rattle.csv.specs.Questions.{longest, bytesRefusal, endRefusal, fieldsRefusal, isSquare, squareRefusal, gridRefusal, loadRefusal}
+use Rattle.csv.specs.Questions.{longest, bytesQuestion, bytesRefusal, endQuestion, endRefusal, fieldQuestions, fieldsQuestions, fieldsRefusal, isSquare, squareQuestion, gridQuestions, gridRefusal, loadQuestions, loadRefusal}
 use Rattle.semigroups.specs.Calls.{refused, gives, overwritten}
 use Rattle.csv.specs.Calls.{loadAnswer, cellsAfter}
 
@@ -44,11 +44,10 @@ pub record Square (n : ℕ) (t : List ℕ) : Type 0 where
   pub square : isSquare n (rows t) ≡ true
 
 pub grid-passed : (n : ℕ) (t : List ℕ) → gridRefusal n t ≡ none → Square n t
-unfolding gridRefusal squareRefusal firstNo
+unfolding gridRefusal fieldsRefusal
 grid-passed n t h =
-    let fields = orElse-none (fieldsRefusal (fieldsOf t)) (orElse (ask (isSquare n (rows t)) (no 26 [])) none) h in
-    let shape = orElse-none (ask (isSquare n (rows t)) (no 26 [])) none (fields .1) in
-    record { numbers = fields .0; square = ask-passed (isSquare n (rows t)) (no 26 []) (shape .0) }
+    let p = both-passed (fieldsQuestions (fieldsOf t)) (squareQuestion n t ∷ []) h in
+    record { numbers = p .0; square = ask-passed 26 (isSquare n (rows t)) (all-passed (squareQuestion n t ∷ []) .0 (p .1) .0) }
 
 pub cells-length : (n : ℕ) (t : List ℕ) → Square n t → length (cellsOf t) ≡ n * n
 unfolding cellsOf fieldsOf
@@ -57,61 +56,63 @@ cells-length n t s = simp length-map (square-length n (rows t) (s .square))
 -- ---- the earliest failed question
 
 module _ (t : List ℕ) (room : ℕ) where
+  -- The questions behind 26; from 23 on.
+  abbrev pub last : List Question
+  last = ask 1 (leb (orderOf t) 120) ∷ ask 27 (leb (orderOf t * orderOf t) room) ∷ []
+
+  abbrev from-fields : List Question
+  from-fields = gridQuestions (orderOf t) t ++ last
+
   pub too-short : length t < 1 → loadRefusal t room ≡ some (no 20 [])
-  unfolding loadRefusal firstNo orElse isElement
+  unfolding loadRefusal firstOf orElse isElement
   too-short h = simp (lt-leb _ _ h)
 
   pub too-long : 57720 < length t → loadRefusal t room ≡ some (no 20 [])
-  unfolding loadRefusal firstNo orElse isElement
+  unfolding loadRefusal firstOf orElse isElement
   too-long h = simp (lt-leb _ _ h, and-false)
 
   module _ (one : 1 ≤ length t) (most : length t ≤ 57720) where
+    bytes-left : loadRefusal t room ≡ firstNo (bytesQuestion t ∷ endQuestion t ∷ from-fields)
+    unfolding loadRefusal firstOf orElse isElement
+    bytes-left = rw (le-leb 1 (length t) one, le-leb (length t) longest most)
+
     pub bad-byte : {r : Refusal} → bytesRefusal t ≡ some r → loadRefusal t room ≡ some r
-    unfolding loadRefusal firstNo orElse isElement
-    bad-byte h = simp (le-leb _ _ one, le-leb _ _ most, h)
+    unfolding bytesRefusal
+    bad-byte h = bytes-left ∙ failed-before (bytesQuestion t ∷ []) (endQuestion t ∷ from-fields) h
 
     module _ (bytes : bytesRefusal t ≡ none) where
+      end-left : loadRefusal t room ≡ firstNo (endQuestion t ∷ from-fields)
+      unfolding bytesRefusal
+      end-left = bytes-left ∙ passed-before (bytesQuestion t ∷ []) (endQuestion t ∷ from-fields) bytes
+
       pub bad-end : {r : Refusal} → endRefusal t ≡ some r → loadRefusal t room ≡ some r
-      unfolding loadRefusal firstNo orElse isElement
-      bad-end h = simp (le-leb _ _ one, le-leb _ _ most, bytes, h)
+      unfolding endRefusal
+      bad-end h = end-left ∙ failed-before (endQuestion t ∷ []) from-fields h
 
       module _ (end : endRefusal t ≡ none) where
-        -- Where 20 to 22 pass, 23 to 26 and what follows them are left.
-        grid-left : (x : Option Refusal) → orElse (gridRefusal (orderOf t) t) x ≡ orElse (fieldsRefusal (fieldsOf t)) (orElse (squareRefusal (orderOf t) t) x)
-        unfolding gridRefusal firstNo orElse
-        grid-left x = go (fieldsRefusal (fieldsOf t)) (squareRefusal (orderOf t) t)
-          where
-            go : (a b : Option Refusal) → orElse (orElse a (orElse b none)) x ≡ orElse a (orElse b x)
-            go none none = refl
-            go none (some r) = refl
-            go (some r) b = refl
-
-        rest : Option Refusal
-        rest = orElse (ask (leb (orderOf t) 120) (no 1 [])) (orElse (ask (leb (orderOf t * orderOf t) room) (no 27 [])) none)
-
-        past : loadRefusal t room ≡ orElse (gridRefusal (orderOf t) t) rest
-        unfolding loadRefusal firstNo orElse isElement rest
-        past = simp (le-leb _ _ one, le-leb _ _ most, bytes, end) (sym (grid-left rest))
+        fields-left : loadRefusal t room ≡ firstNo from-fields
+        unfolding endRefusal
+        fields-left = end-left ∙ passed-before (endQuestion t ∷ []) from-fields end
 
         pub bad-grid : {n : ℕ} {r : Refusal} → n ≡ orderOf t → gridRefusal n t ≡ some r → loadRefusal t room ≡ some r
-        unfolding orElse
-        bad-grid e h = past ∙ rw (rw e at h)
+        unfolding gridRefusal
+        bad-grid e h = fields-left ∙ failed-before (gridQuestions (orderOf t) t) last (rw e at h)
 
         module _ {n : ℕ} (e : n ≡ orderOf t) (grid : gridRefusal n t ≡ none) where
-          left : loadRefusal t room ≡ orElse (ask (leb n 120) (no 1 [])) (orElse (ask (leb (n * n) room) (no 27 [])) none)
-          unfolding orElse rest
-          left = past ∙ rw (rw e at grid) (rw e refl)
+          left : loadRefusal t room ≡ firstNo (ask 1 (leb n 120) ∷ ask 27 (leb (n * n) room) ∷ [])
+          unfolding gridRefusal
+          left = fields-left ∙ passed-before (gridQuestions (orderOf t) t) last (rw e at grid) ∙ rw e
 
           pub bad-order : 120 < n → loadRefusal t room ≡ some (no 1 [])
-          unfolding orElse
+          unfolding firstOf orElse
           bad-order h = left ∙ simp (lt-leb _ _ h)
 
           pub bad-room : n ≤ 120 → room < n * n → loadRefusal t room ≡ some (no 27 [])
-          unfolding orElse
+          unfolding firstOf orElse
           bad-room h g = left ∙ simp (le-leb _ _ h, lt-leb _ _ g)
 
           pub loads : n ≤ 120 → n * n ≤ room → loadRefusal t room ≡ none
-          unfolding orElse
+          unfolding firstOf orElse
           loads h g = left ∙ simp (le-leb _ _ h, le-leb _ _ g)
 
 -- ---- the call
@@ -135,23 +136,32 @@ pub record Loadable (t : List ℕ) (size : ℕ) : Type 0 where
   pub room : orderOf t * orderOf t ≤ size
 
 pub load-passed : (t : List ℕ) (room : ℕ) → loadRefusal t room ≡ none → Loadable t room
-unfolding loadRefusal firstNo squareRefusal
+unfolding loadRefusal bytesRefusal endRefusal gridRefusal
 load-passed t room h =
-    let shape = ask (isSquare (orderOf t) (rows t)) (no 26 []) in
-    let order = ask (leb (orderOf t) 120) (no 1 []) in
-    let cells = ask (leb (orderOf t * orderOf t) room) (no 27 []) in
-    let after-end = orElse (fieldsRefusal (fieldsOf t)) (orElse shape (orElse order (orElse cells none))) in
-    let a = orElse-none (ask (isElement longest (length t)) (no 20 [])) (orElse (bytesRefusal t) (orElse (endRefusal t) after-end)) h in
-    let b = orElse-none (bytesRefusal t) (orElse (endRefusal t) after-end) (a .1) in
-    let c = orElse-none (endRefusal t) after-end (b .1) in
-    let d = orElse-none (fieldsRefusal (fieldsOf t)) (orElse shape (orElse order (orElse cells none))) (c .1) in
-    let e = orElse-none shape (orElse order (orElse cells none)) (d .1) in
-    let f = orElse-none order (orElse cells none) (e .1) in
-    let g = orElse-none cells none (f .1) in
+    let p = both-passed (ask 20 (isElement longest (length t)) ∷ bytesQuestion t ∷ endQuestion t ∷ []) (from-fields t room) h in
+    let q = both-passed (gridQuestions (orderOf t) t) (last t room) (p .1) in
+    let begin = all-passed (ask 20 (isElement longest (length t)) ∷ bytesQuestion t ∷ endQuestion t ∷ []) .0 (p .0) in
+    let end = all-passed (last t room) .0 (q .1) in
     record {
-      bytes = b .0;
-      end = c .0;
-      grid = record { numbers = d .0; square = ask-passed (isSquare (orderOf t) (rows t)) (no 26 []) (e .0) };
-      order = leb-true (orderOf t) 120 (ask-passed (leb (orderOf t) 120) (no 1 []) (f .0));
-      room = leb-true (orderOf t * orderOf t) room (ask-passed (leb (orderOf t * orderOf t) room) (no 27 []) (g .0));
+      bytes = all-passed (bytesQuestion t ∷ []) .1 (begin .1 .0, tt);
+      end = all-passed (endQuestion t ∷ []) .1 (begin .1 .1);
+      grid = grid-passed (orderOf t) t (q .0);
+      order = leb-true (orderOf t) 120 (ask-passed 1 (leb (orderOf t) 120) (end .0));
+      room = leb-true (orderOf t * orderOf t) room (ask-passed 27 (leb (orderOf t * orderOf t) room) (end .1 .0));
     }
+
+-- ---- which numbers can come
+
+fields-listed : (ns : List ℕ) → all (λ k. member k ns) (23 ∷ 24 ∷ 25 ∷ []) ≡ true → (fs : List (List ℕ)) → Listed ns (fieldsQuestions fs)
+unfolding fieldsQuestions flatMap
+fields-listed ns h [] = listed ns [] (unfold all in refl)
+fields-listed ns h (f ∷ fs) = listed-append ns (fieldQuestions f) (fieldsQuestions fs) (listed ns (fieldQuestions f) h) (fields-listed ns h fs)
+
+-- 20 to 26, and those of the two questions behind them.
+pub load-listed : (ns : List ℕ) → all (λ k. member k ns) (20 ∷ 21 ∷ 22 ∷ []) ≡ true → all (λ k. member k ns) (23 ∷ 24 ∷ 25 ∷ []) ≡ true → all (λ k. member k ns) (26 ∷ []) ≡ true
+    → (t : List ℕ) (room : ℕ) → Listed ns (last t room) → Listed ns (loadQuestions t room)
+load-listed ns a b c t room h =
+    let begin = ask 20 (isElement longest (length t)) ∷ bytesQuestion t ∷ endQuestion t ∷ [] in
+    listed-append ns begin (from-fields t room) (listed ns begin a)
+    (listed-append ns (gridQuestions (orderOf t) t) (last t room)
+    (listed-append ns (fieldsQuestions (fieldsOf t)) (squareQuestion (orderOf t) t ∷ []) (fields-listed ns b (fieldsOf t)) (listed ns (squareQuestion (orderOf t) t ∷ []) c)) h)

@@ -2,7 +2,7 @@
 -- its order saves to the same bytes; so loading and saving again, however often, changes no byte.
 -- Assumes nothing.
 use mathlib.Core.Path.{_≡_, refl, ap, sym, _∙_, subst₂}
-use mathlib.Core.List.{List, []}
+use mathlib.Core.List.{List, [], _∷_}
 use mathlib.Core.Option.{Option, none, some, orElse}
 use Prim.Native.Nat.{ℕ, zero, suc, _*_, _≤_, _<_}
 use native.Mathlib.Omega.{arith}
@@ -11,8 +11,9 @@ use lib.ListN.{length, getD, take, drop, List·getD-append}
 use lib.Seq.{take-at}
 use borrow.Author.Tests.{leb-true}
 use Rattle.semigroups.specs.Tables.{Filled}
-use Rattle.semigroups.specs.Questions.{Refusal, no, ask, firstNo, cellsRefusal}
-use Rattle.semigroups.proofs.Tables.{orElse-none, ask-passed, filled, no-cells-refusal}
+use Rattle.semigroups.specs.Questions.{Refusal, cellsQuestions, cellsRefusal}
+use Rattle.semigroups.proofs.Tables.{filled, no-cells-refusal}
+use Rattle.semigroups.proofs.Questions.{ask-passed, all-passed, both-passed}
 use Rattle.csv.specs.Tables.{orderOf, cellsOf, tableText}
 use Rattle.csv.specs.Questions.{loadRefusal, saveRefusal}
 use Rattle.semigroups.specs.Calls.{gives, givenUnless, overwritten}
@@ -20,7 +21,7 @@ use Rattle.csv.specs.Calls.{loadAnswer, cellsAfter, saveAnswer, textAfte
 use Rattle.csv.specs.Rounds.{Buffers, given, held, saved, loadedOrder, loadedCells, round, rounds}
 use Rattle.csv.proofs.Writing.{overwritten-length, overwritten-twice}
 use Rattle.csv.proofs.Loading.{Loadable, load-passed, load-given, cells-length}
-use Rattle.csv.proofs.Saving.{save-given}
+use Rattle.csv.proofs.Saving.{room, save-given}
 use Rattle.csv.proofs.Accepted.{table-cells, table-order, table-loads, text-back, text-filled}
 
 -- ---- what an answer other than a refusal shows
@@ -36,15 +37,13 @@ pub record Saves (n : ℕ) (cells text : List ℕ) (k : ℕ) : Type 0 where
   pub whole : length (tableText n cells) ≡ k
 
 pub saves-given : (n : ℕ) (cells text : List ℕ) (k : ℕ) → saveAnswer n cells text ≡ gives k → Saves n cells text k
-unfolding saveAnswer saveRefusal firstNo
+unfolding saveAnswer saveRefusal cellsRefusal
 saves-given n cells text k h =
-    let size = ask (leb (length (tableText n cells)) (length text)) (no 28 []) in
-    let p = not-refused (orElse (cellsRefusal n cells) (orElse size none)) (length (tableText n cells)) k h in
-    let a = orElse-none (cellsRefusal n cells) (orElse size none) (p .0) in
-    let b = orElse-none size none (a .1) in
+    let p = not-refused (saveRefusal n cells (length text)) (length (tableText n cells)) k h in
+    let q = both-passed (cellsQuestions n cells) (room n cells text ∷ []) (p .0) in
     record {
-      table = filled n cells (a .0);
-      room = leb-true _ _ (ask-passed (leb (length (tableText n cells)) (length text)) (no 28 []) (b .0));
+      table = filled n cells (q .0);
+      room = leb-true _ _ (ask-passed 28 (leb (length (tableText n cells)) (length text)) (all-passed (room n cells text ∷ []) .0 (q .1) .0));
       whole = p .1;
     }
 

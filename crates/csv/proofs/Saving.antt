@@ -6,12 +6,14 @@ use mathlib.Core.Option.{none, some, orElse}
 use Prim.Native.Nat.{ℕ, suc, _+_, _-_, _≤_, _<_}
 use native.Mathlib.Numerals.{add-one}
 use native.Mathlib.Omega.{arith}
+use lib.Dec.{leb}
 use lib.ListN.{length, set, length-append}
 use lib.Seq.{sets}
 use borrow.Author.Tests.{le-leb, lt-leb}
-use Rattle.semigroups.specs.Lists.{range, elements}
+use Rattle.semigroups.specs.Lists.{range, elements, firstOf}
 use Rattle.semigroups.specs.Tables.{product}
-use Rattle.semigroups.specs.Questions.{Refusal, no, firstNo, cellsRefusal}
+use Rattle.semigroups.specs.Questions.{Question, ask, Refusal, no, firstNo, cellsQuestions, cellsRefusal}
+use Rattle.semigroups.proofs.Questions.{failed-before, passed-before}
 use Rattle.csv.specs.Decimals.{numeral}
 use Rattle.csv.specs.Records.{recordText, lineText, rowsText}
 use Rattle.csv.specs.Tables.{rowFields, tableText}
@@ -151,18 +153,25 @@ module _ (n : ℕ) (cells text : List ℕ) where
   save-refused h = (rw h, rw h)
 
   -- 1, 2 or 3 refuses; 28 refuses; or the text is written.
+  abbrev pub room : Question
+  room = ask 28 (leb (length (tableText n cells)) (length text))
+
   pub bad-table : {r : Refusal} → cellsRefusal n cells ≡ some r → (refused r ≡ saveAnswer n cells text) × (text ≡ textAfter n cells text)
-  unfolding saveRefusal firstNo orElse
-  bad-table h = save-refused (simp h)
+  unfolding saveRefusal cellsRefusal
+  bad-table h = save-refused (failed-before (cellsQuestions n cells) (room ∷ []) h)
 
   module _ (table : cellsRefusal n cells ≡ none) where
+    room-left : saveRefusal n cells (length text) ≡ firstNo (room ∷ [])
+    unfolding saveRefusal cellsRefusal
+    room-left = passed-before (cellsQuestions n cells) (room ∷ []) table
+
     pub bad-room : length text < length (tableText n cells) → (refused (no 28 []) ≡ saveAnswer n cells text) × (text ≡ textAfter n cells text)
-    unfolding saveRefusal firstNo orElse
-    bad-room h = save-refused (simp (table, lt-leb _ _ h))
+    unfolding firstOf orElse
+    bad-room h = save-refused (room-left ∙ simp (lt-leb _ _ h))
 
     pub saves : length (tableText n cells) ≤ length text → saveRefusal n cells (length text) ≡ none
-    unfolding saveRefusal firstNo orElse
-    saves h = simp (table, le-leb _ _ h)
+    unfolding firstOf orElse
+    saves h = room-left ∙ simp (le-leb _ _ h)
 
     pub save-given : length (tableText n cells) ≤ length text
         → (gives (length (tableText n cells)) ≡ saveAnswer n cells text) × (overwritten (tableText n cells) text ≡ textAfter n cells text)

@@ -3,13 +3,13 @@
 use mathlib.Core.Path.{_≡_, refl, ap, _∙_}
 use mathlib.Core.Bool.{Bool, true, false, _||_, not, cond, and-false, or-true}
 use mathlib.Core.List.{List, [], _∷_}
-use mathlib.Core.Option.{Option, none, some}
+use mathlib.Core.Option.{Option, none, some, orElse}
 use Prim.Native.Nat.{ℕ, zero, suc, _+_, _-_, _≤_, _<_}
 use native.Mathlib.Numerals.{add-one}
 use native.Mathlib.Omega.{arith}
 use lib.ListN.{length, getD, List·getD-eq-default}
 use borrow.Author.Tests.{le-leb, lt-leb, ne-eqb}
-use Rattle.semigroups.specs.Lists.{range, find}
+use Rattle.semigroups.specs.Lists.{range, find, firstOf}
 use Rattle.semigroups.specs.Questions.{no}
 use Rattle.csv.specs.Decimals.{isDigit}
 use Rattle.csv.specs.Records.{isBreak}
@@ -121,9 +121,9 @@ module _ (t : List ℕ) where
 -- ---- what question 21 says
 
 pub other-refused : (t : List ℕ) (i : ℕ) → firstOther t ≡ some i → some (no 21 (i ∷ [])) ≡ bytesRefusal t
-unfolding bytesRefusal
+unfolding bytesRefusal firstOf orElse
 other-refused t i h = simp h
 
 pub none-refused : (t : List ℕ) → firstOther t ≡ none → none ≡ bytesRefusal t
-unfolding bytesRefusal
+unfolding bytesRefusal firstOf orElse
 none-refused t h = simp h

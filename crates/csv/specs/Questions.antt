@@ -4,14 +4,14 @@
 -- most (1).
 -- Assumes nothing.
 use mathlib.Core.Bool.{Bool, _&&_, _||_, not}
-use mathlib.Core.List.{List, [], _∷_, map}
+use mathlib.Core.List.{List, [], _∷_, _++_, flatMap}
 use mathlib.Core.Option.{Option, Option·map}
 use Prim.Native.Nat.{ℕ, zero, suc, _-_, _*_}
 use lib.Dec.{eqb, leb}
 use lib.ListN.{length, getD}
 use Rattle.semigroups.specs.Lists.{range, all, find}
 use Rattle.semigroups.specs.Tables.{isElement}
-use Rattle.semigroups.specs.Questions.{Refusal, no, ask, firstNo, cellsRefusal}
+use Rattle.semigroups.specs.Questions.{Question, ask, seek, Refusal, firstNo, cellsQuestions}
 use Rattle.csv.specs.Decimals.{isDigit, value}
 use Rattle.csv.specs.Records.{isBreak, rows}
 use Rattle.csv.specs.Tables.{fieldsOf, orderOf, tableText}
@@ -39,61 +39,66 @@ isAllowed t p = isDigit (getD t p 0) || (eqb (getD t p 0) 44 || inBreak t p)
 unfoldable pub firstOther : List ℕ → Option ℕ
 firstOther t = find (λ p. not (isAllowed t p)) (range 0 (length t))
 
--- 21, is every byte a digit, a comma, or part of a CR LF pair?
+-- 21, is every byte a digit, a comma, or part of a CR LF pair? It carries the place of the first other byte.
+abbrev pub bytesQuestion : List ℕ → Question
+bytesQuestion t = seek 21 (Option·map (λ p. p ∷ []) (firstOther t))
+
 unfoldable pub bytesRefusal : List ℕ → Option Refusal
-bytesRefusal t = Option·map (λ p. no 21 (p ∷ [])) (firstOther t)
+bytesRefusal t = firstNo (bytesQuestion t ∷ [])
 
 -- 22, does it end in CR LF?
+abbrev pub endQuestion : List ℕ → Question
+endQuestion t = ask 22 (breakAt t (length t - 2))
+
 unfoldable pub endRefusal : List ℕ → Option Refusal
-endRefusal t = ask (breakAt t (length t - 2)) (no 22 [])
+endRefusal t = firstNo (endQuestion t ∷ [])
 
 -- ---- the fields of a text
 
 -- About a field: 23, is it 1 to 3 bytes? 24, is its first byte other than 0? 25, is it at most 120?
+abbrev pub fieldQuestions : List ℕ → List Question
+fieldQuestions f = ask 23 (isElement 3 (length f)) ∷ ask 24 (not (eqb (getD f 0 0) 48)) ∷ ask 25 (leb (value f) 120) ∷ []
+
 unfoldable pub fieldRefusal : List ℕ → Option Refusal
-fieldRefusal f =
-    let size = ask (isElement 3 (length f)) (no 23 []) in
-    let leading = ask (not (eqb (getD f 0 0) 48)) (no 24 []) in
-    let limit = ask (leb (value f) 120) (no 25 []) in
-    firstNo (size ∷ leading ∷ limit ∷ [])
+fieldRefusal f = firstNo (fieldQuestions f)
 
 -- Each field in reading order, its three questions before the next field's.
+unfoldable pub fieldsQuestions : List (List ℕ) → List Question
+fieldsQuestions fs = flatMap fieldQuestions fs
+
 unfoldable pub fieldsRefusal : List (List ℕ) → Option Refusal
-fieldsRefusal fs = firstNo (map fieldRefusal fs)
+fieldsRefusal fs = firstNo (fieldsQuestions fs)
 
 -- Whether there are n records, each with n fields.
 unfoldable pub isSquare : ℕ → List (List (List ℕ)) → Bool
 isSquare n rs = eqb (length rs) n && all (λ r. eqb (length r) n) rs
 
 -- 26 for an order n that is given: are there n records, each with n fields?
-unfoldable pub squareRefusal : ℕ → List ℕ → Option Refusal
-squareRefusal n t = ask (isSquare n (rows t)) (no 26 [])
+abbrev pub squareQuestion : ℕ → List ℕ → Question
+squareQuestion n t = ask 26 (isSquare n (rows t))
 
 -- 23 to 25 of each field; then 26 for an order n that is given.
+abbrev pub gridQuestions : ℕ → List ℕ → List Question
+gridQuestions n t = fieldsQuestions (fieldsOf t) ++ squareQuestion n t ∷ []
+
 unfoldable pub gridRefusal : ℕ → List ℕ → Option Refusal
-gridRefusal n t =
-    let each-field = fieldsRefusal (fieldsOf t) in
-    let shape = squareRefusal n t in
-    firstNo (each-field ∷ shape ∷ [])
+gridRefusal n t = firstNo (gridQuestions n t)
 
 -- ---- the calls
 
 -- About loading a text into a buffer of so many cells: 20, is it 1 to 57,720 bytes long? Then 21 to 25; 26, are there as many records as the
 -- first has fields, each with that many? 1, is the order at most 120? 27, has the buffer at least n × n bytes? Neither 3 nor 4 is asked.
+abbrev pub loadQuestions : List ℕ → ℕ → List Question
+loadQuestions t room =
+    ask 20 (isElement longest (length t)) ∷ bytesQuestion t ∷ endQuestion t
+    ∷ (gridQuestions (orderOf t) t ++ ask 1 (leb (orderOf t) 120) ∷ ask 27 (leb (orderOf t * orderOf t) room) ∷ [])
+
 unfoldable pub loadRefusal : List ℕ → ℕ → Option Refusal
-loadRefusal t room =
-    let size = ask (isElement longest (length t)) (no 20 []) in
-    let bytes = bytesRefusal t in
-    let end = endRefusal t in
-    let each-field = fieldsRefusal (fieldsOf t) in
-    let shape = squareRefusal (orderOf t) t in
-    let order = ask (leb (orderOf t) 120) (no 1 []) in
-    let cells = ask (leb (orderOf t * orderOf t) room) (no 27 []) in
-    firstNo (size ∷ bytes ∷ end ∷ each-field ∷ shape ∷ order ∷ cells ∷ [])
+loadRefusal t room = firstNo (loadQuestions t room)
 
 -- About saving a table into a buffer of so many bytes: 1, 2 and 3; then 28, has the buffer the whole length?
+abbrev pub saveQuestions : ℕ → List ℕ → ℕ → List Question
+saveQuestions n cells room = cellsQuestions n cells ++ ask 28 (leb (length (tableText n cells)) room) ∷ []
+
 unfoldable pub saveRefusal : ℕ → List ℕ → ℕ → Option Refusal
-saveRefusal n cells room =
-    let table = cellsRefusal n cells in
-    let text = ask (leb (length (tableText n cells)) room) (no 28 []) in
-    firstNo (table ∷ text ∷ [])
+saveRefusal n cells room = firstNo (saveQuestions n cells room)

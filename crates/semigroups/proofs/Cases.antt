@@ -3,9 +3,9 @@
 use mathlib.Core.Path.{_≡_, refl, sym, ap, _∙_}
 use mathlib.Core.List.{List, [], _∷_, map, flatMap, List·Memᴰ, List·Memᴰ·head, List·Memᴰ·tail, head-eq-of-cons-eq, tail-eq-of-cons-eq}
 use mathlib.Core.Option.{Option, none, orElse}
-use Rattle.semigroups.specs.Lists.{range, elements, at, all, find, keep, sum, count, least, member, distinct, earlier, lists}
+use Rattle.semigroups.specs.Lists.{range, elements, at, all, find, keep, firstOf, sum, count, least, member, distinct, earlier, lists}
 use Rattle.semigroups.specs.Tables.{product, grid, isElement, associates, badCell, badTriple}
-use Rattle.semigroups.specs.Questions.{firstNo, cellsRefusal, tableRefusal}
+use Rattle.semigroups.specs.Questions.{tableRefusal}
 use Rattle.semigroups.specs.Invariants.{power, periodFrom, index, period, indexPeriod, frequency, diagonalFrequency, rowFrequency, columnFrequency, profile}
 use Rattle.semigroups.specs.Maps.{isHomomorphism, isEmbedding, isIsomorphism, maps, earliest, after}
 use Rattle.semigroups.specs.Transformations.{transformations, transformationOrder, transformation, numberOf, transformationProduct, transformationCells}
@@ -18,12 +18,12 @@ each f g (x ∷ xs) e c (List·Memᴰ·head q) = ap f q ∙ head-eq-of-cons-eq e
 each f g (x ∷ xs) e c (List·Memᴰ·tail m) = each f g xs (tail-eq-of-cons-eq e) c m
 
 computed : map (λ (c : Case). answer (c .asks)) cases ≡ map (λ (c : Case). c .says) cases
-unfolding answer cases two range elements at all find keep sum count least member distinct earlier lists product grid isElement associates badCell badTriple firstNo cellsRefusal tableRefusal power periodFrom index period indexPeriod frequency diagonalFrequency rowFrequency columnFrequency profile isHomomorphism isEmbedding isIsomorphism maps earliest after transformations transformationOrder transformation numberOf transformationProduct transformationCells orElse flatMap
+unfolding answer cases two range elements at all find keep sum count least member distinct earlier lists product grid isElement associates badCell badTriple firstOf tableRefusal power periodFrom index period indexPeriod frequency diagonalFrequency rowFrequency columnFrequency profile isHomomorphism isEmbedding isIsomorphism maps earliest after transformations transformationOrder transformation numberOf transformationProduct transformationCells orElse flatMap
 computed = refl
 
 -- Whether each table has no failed question.
 passed : map (λ (t : Table). tableRefusal (t .order) (t .cells)) tables ≡ map (λ (t : Table). none) tables
-unfolding two range elements at sum count earlier find lists product grid isElement associates badCell badTriple firstNo cellsRefusal tableRefusal after transformations transformationOrder transformation numberOf transformationProduct transformationCells orElse flatMap
+unfolding two range elements at sum count earlier find lists product grid isElement associates badCell badTriple firstOf tableRefusal after transformations transformationOrder transformation numberOf transformationProduct transformationCells orElse flatMap
 passed = refl
 
 pub worked : Worked

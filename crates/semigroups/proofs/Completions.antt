@@ -63,6 +63,24 @@ unfolding find firstOf orElse
 find-firstOf p [] = refl
 find-firstOf {A} p (x ∷ l) = elim (p x) as (λ b. cond b (some x) (find p l) ≡ orElse (cond b (some x) none) (firstOf (λ y. cond (p y) (some y) none) l)) [ true ↦ refl | false ↦ find-firstOf p l ]
 
+-- ---- the first answer of two askings
+
+module _ {A : Type 0} where
+  pub orElse-assoc : (a b c : Option A) → orElse (orElse a b) c ≡ orElse a (orElse b c)
+  unfolding orElse
+  orElse-assoc none b c = refl
+  orElse-assoc (some x) b c = refl
+
+  pub orElse-nothing : (a : Option A) → orElse a none ≡ a
+  unfolding orElse
+  orElse-nothing none = refl
+  orElse-nothing (some x) = refl
+
+pub firstOf-append : {A B : Type 0} (g : A → Option B) (l k : List A) → firstOf g (l ++ k) ≡ orElse (firstOf g l) (firstOf g k)
+unfolding firstOf
+firstOf-append g [] k = unfold orElse in refl
+firstOf-append g (x ∷ l) k = ap (orElse (g x)) (firstOf-append g l k) ∙ sym (orElse-assoc (g x) (firstOf g l) (firstOf g k))
+
 -- ---- trying the values from x upward
 
 module _ {B : Type 0} where

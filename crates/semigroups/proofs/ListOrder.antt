@@ -73,15 +73,6 @@ earlier-total (x ∷ a) (y ∷ b) e = go (trichotomy x y) (earlier-total a b (om
     go (inr (inl h)) d = inr (inl (earlier-head x a y b h))
     go (inr (inr h)) d = inr (inr (earlier-head y b x a h))
 
--- At most one list is the earliest with a property.
-pub earliest-unique : {P : List ℕ → Type 0} {a b : List ℕ} → Earliest P a → Earliest P b → a ≡ b
-earliest-unique {P} {a} {b} u v = go (u .before-others b (v .has)) (v .before-others a (u .has))
-  where
-    go : (b ≡ a) ⊎ (earlier a b ≡ true) → (a ≡ b) ⊎ (earlier b a ≡ true) → a ≡ b
-    go (inl e) q = sym e
-    go (inr h) (inl e) = e
-    go (inr h) (inr k) = absurd (clash {b = earlier b a} k (earlier-asymmetric a b h))
-
 -- The earliest with one of two properties that mean the same.
 pub earliest-same : {P Q : List ℕ → Type 0} {a : List ℕ} → ((g : List ℕ) → P g ↔ Q g) → Earliest P a ↔ Earliest Q a
 earliest-same {a = a} w = (
@@ -167,6 +158,13 @@ find-earliest p m n e q =
       has = (mem-lists m n e (r .0), r .1);
       before-others = λ g h. find-first (λ (a b : List ℕ). earlier a b ≡ true) p (lists m n) (lists-increasing m n) e q g (lists-mem m n g (h .0)) (h .1);
     }
+
+-- There is only one earliest list.
+pub earliest-unique : {P : List ℕ → Type 0} {a b : List ℕ} → Earliest P a → Earliest P b → a ≡ b
+earliest-unique {P} {a} {b} h k =
+    ⊎-elim (λ (e : b ≡ a). sym e)
+    (λ (p : earlier a b ≡ true). ⊎-elim (λ (e : a ≡ b). e) (λ (q : earlier b a ≡ true). absurd (clash {b = earlier b a} q (earlier-asymmetric a b p))) (k .before-others a (h .has)))
+    (h .before-others b (k .has))
 
 pub find-nowhere : (p : List ℕ → Bool) (m n : ℕ) → find p (lists m n) ≡ none → (f : List ℕ) → IsList m n f → p f ≡ false
 find-nowhere p m n q f h = find-none p (lists m n) q f (lists-mem m n f h)

@@ -2,23 +2,24 @@
 -- the earliest, with the earliest cell or triple. Assumes nothing.
 use mathlib.Core.Path.{_≡_, refl, sym, ap, ap₂, _∙_, subst}
 use mathlib.Core.Bool.{Bool, true, false, not}
-use mathlib.Core.Logic.{_⊎_, inl, inr, ⊎-elim}
-use mathlib.Core.Option.{Option, none, some, Option·map, orElse, Option·none-ne-some, Option·some-ne-none}
+use mathlib.Core.Logic.{_⊎_, inl, inr, ⊎-elim, _↔_}
+use mathlib.Core.Option.{Option, none, some, orElse, map-eq-none-iff}
 use mathlib.Core.List.{List, [], _∷_, map, List·Memᴰ·not-nil, List·Memᴰ·cases-cons}
 use Prim.Native.Nat.{ℕ, suc, _+_, _-_, _*_, _≤_, _<_}
 use native.Mathlib.Nat.{mul-le-mul-right, suc-mul}
 use native.Mathlib.Omega.{arith}
-use borrow.Author.Tests.{eqb-true, eqb-false, eq-eqb, not-true, not-false}
+use borrow.Author.Tests.{eqb-true, eqb-false, eq-eqb, ne-eqb, not-true, not-false}
 use lib.Dec.{eqb}
 use lib.ListN.{length, getD, length-map}
-use Rattle.semigroups.specs.Lists.{range, elements, at, lists, Earliest}
+use Rattle.semigroups.specs.Lists.{range, elements, at, firstOf, lists, Earliest}
 use Rattle.semigroups.specs.Tables.{Product, product, grid, Element, IsList, Closed, Associative, FailingTriple, Filled, Accepted, isElement, associates, badCell, badTriple}
-use Rattle.semigroups.specs.Questions.{Refusal, no, ask, firstNo, cellsRefusal, tableRefusal, Refused, wrong-order, wrong-size, wrong-cell, wrong-triple}
-use Rattle.semigroups.proofs.Booleans.{clash, untrue, not-of-true, not-of-false}
+use Rattle.semigroups.specs.Questions.{Refusal, no, cellsQuestions, tripleQuestion, cellsRefusal, tableRefusal, Refused, wrong-order, wrong-size, wrong-cell, wrong-triple}
+use Rattle.semigroups.proofs.Booleans.{either, clash, untrue, not-of-true, not-of-false, equal-or-not, trichotomy}
 use Rattle.semigroups.proofs.Lists.{length-elements, getD-map, mem-range, range-mem, sorted-range, at-suc, at-elements, is-element, element-is, find-some, find-none, none-find, find-first}
 use Rattle.semigroups.proofs.FlatMap.{length-flatMap, getD-flatMap}
 use Rattle.semigroups.proofs.NoRepeats.{place-mem}
-use Rattle.semigroups.proofs.ListOrder.{mem-lists, find-earliest, find-nowhere}
+use Rattle.semigroups.proofs.ListOrder.{mem-lists, find-earliest, find-nowhere, earliest-unique}
+use Rattle.semigroups.proofs.Questions.{ask-passed, all-passed, both-passed}
 
 -- ---- cells row after row
 
@@ -56,35 +57,6 @@ product-element n cells e h i j hi hj = h ((i - 1) * n + (j - 1)) (let b = place
 pub accepted-closed : (n : ℕ) (cells : List ℕ) → Accepted n cells → Closed n (product n cells)
 accepted-closed n cells a = product-element n cells (a .size) (a .in-range)
 
--- ---- the first "no"
-
-pub orElse-none : {A : Type 0} (p q : Option A) → orElse p q ≡ none → (p ≡ none) × (q ≡ none)
-unfolding orElse
-orElse-none none q e = (refl, e)
-orElse-none (some x) q e = absurd (Option·some-ne-none x e)
-
--- The answer of two askings is the first's, or the first has none and it is the second's.
-pub orElse-some : {A : Type 0} (p q : Option A) (r : A) → orElse p q ≡ some r → (p ≡ some r) ⊎ ((p ≡ none) × (q ≡ some r))
-unfolding orElse
-orElse-some none q r e = inr (refl, e)
-orElse-some (some x) q r e = inl e
-
-pub ask-passed : (b : Bool) (r : Refusal) → ask b r ≡ none → b ≡ true
-ask-passed true r e = refl
-ask-passed false r e = absurd (Option·some-ne-none r e)
-
-pub ask-failed : (b : Bool) (r q : Refusal) → ask b r ≡ some q → (b ≡ false) × (r ≡ q)
-ask-failed true r q e = absurd (Option·none-ne-some q e)
-ask-failed false r q e = (refl, cc)
-
-pub map-none : {A B : Type 0} (f : A → B) (o : Option A) → Option·map f o ≡ none → o ≡ none
-map-none f none e = refl
-map-none f (some x) e = absurd (Option·some-ne-none (f x) e)
-
-pub map-some : {A B : Type 0} (f : A → B) (o : Option A) (b : B) → Option·map f o ≡ some b → (x : A) × (o ≡ some x) × (f x ≡ b)
-map-some f none b e = absurd (Option·none-ne-some b e)
-map-some f (some x) b e = (x, refl, cc)
-
 -- ---- question 3
 
 module _ (n : ℕ) (cells : List ℕ) where
@@ -113,6 +85,17 @@ module _ (n : ℕ) (cells : List ℕ) where
             is-element n (at cells j) (not-false (isElement n (at cells j)) (untrue (p j) (λ t.
             let z : ⊥ = ⊎-elim (λ (q : j ≡ k). let y : ⊥ = omega arith in y) (λ (q : k < j). let y : ⊥ = omega arith in y) (find-first _<_ p (range 1 (length cells)) (sorted-range 1 (length cells)) k e j (range-mem 1 (length cells) j lo (omega arith)) t) in z))),
       )
+
+  -- And a first wrong cell is the bad cell.
+  first-bad-cell : (k : ℕ) → Element (length cells) k → (Element n (at cells k) → ⊥) → ((j : ℕ) → 1 ≤ j → j < k → Element n (at cells j)) → badCell n cells ≡ some k
+  first-bad-cell k h wrong before = go (badCell n cells) refl
+    where
+      go : (o : Option ℕ) → badCell n cells ≡ o → badCell n cells ≡ some k
+      go none e = absurd (wrong (unfold at in cells-in-range e (k - 1) (omega arith)))
+      go (some j) e =
+          let b = bad-cell-first j e in
+          ⊎-elim (λ (q : k ≡ j). e ∙ ap {B = Option ℕ} some (sym q))
+          (⊎-elim (λ (q : k < j). absurd (wrong (b .2 k (h .0) q))) (λ (q : j < k). absurd (b .1 (before j (b .0 .0) q)))) (trichotomy k j)
 
 -- ---- pairs and triples as lists
 
@@ -156,96 +139,87 @@ module _ (n : ℕ) (s : Product) where
         before-others = λ g h. r .before-others g (h .triple, not-of-false (associates s (at g 1) (at g 2) (at g 3)) (untrue (associates s (at g 1) (at g 2) (at g 3)) (λ t. h .fails (eqb-true (s (s (at g 1) (at g 2)) (at g 3)) (s (at g 1) (s (at g 2) (at g 3))) t))));
       }
 
+  first-bad-triple : (l : List ℕ) → Earliest (FailingTriple n s) l → badTriple n s ≡ some l
+  first-bad-triple l h = go (badTriple n s) refl
+    where
+      go : (o : Option (List ℕ)) → badTriple n s ≡ o → badTriple n s ≡ some l
+      go none e =
+          let w = list-at 3 n l (h .has .triple) in
+          absurd (h .has .fails (associative-of e (at l 1) (at l 2) (at l 3) (w 1 (omega arith)) (w 2 (omega arith)) (w 3 (omega arith))))
+      go (some g) e = e ∙ ap {B = Option (List ℕ)} some (earliest-unique (bad-triple-first g e) h)
+
 -- ---- the four questions
 
 module _ (n : ℕ) (cells : List ℕ) where
   -- The three questions before associativity pass exactly where the cells fill a table.
   pub filled : cellsRefusal n cells ≡ none → Filled n cells
-  unfolding cellsRefusal firstNo
+  unfolding cellsRefusal
   filled e =
-      let order = ask (isElement 120 n) (no 1 []) in
-      let size = ask (eqb (length cells) (n * n)) (no 2 []) in
-      let cell = Option·map (λ k. no 3 (k ∷ [])) (badCell n cells) in
-      let p1 = orElse-none order (orElse size (orElse cell none)) e in
-      let p2 = orElse-none size (orElse cell none) (p1 .1) in
-      let p3 = orElse-none cell none (p2 .1) in
+      let p = all-passed (cellsQuestions n cells) .0 e in
       record {
-        order = is-element 120 n (ask-passed (isElement 120 n) (no 1 []) (p1 .0));
-        size = eqb-true (length cells) (n * n) (ask-passed (eqb (length cells) (n * n)) (no 2 []) (p2 .0));
-        in-range = cells-in-range n cells (map-none (λ k. no 3 (k ∷ [])) (badCell n cells) (p3 .0));
+        order = is-element 120 n (ask-passed 1 (isElement 120 n) (p .0));
+        size = eqb-true (length cells) (n * n) (ask-passed 2 (eqb (length cells) (n * n)) (p .1 .0));
+        in-range = cells-in-range n cells (map-eq-none-iff (λ k. k ∷ []) (badCell n cells) .0 (p .1 .1 .0));
       }
 
   pub no-cells-refusal : Filled n cells → cellsRefusal n cells ≡ none
-  unfolding cellsRefusal firstNo orElse
+  unfolding cellsRefusal firstOf orElse
   no-cells-refusal f = rw (element-is 120 n (f .order), eq-eqb (length cells) (n * n) (f .size), no-bad-cell n cells (f .in-range))
 
   pub accepted : tableRefusal n cells ≡ none → Accepted n cells
-  unfolding tableRefusal firstNo
+  unfolding tableRefusal
   accepted e =
-      let triple = Option·map (λ l. no 4 l) (badTriple n (product n cells)) in
-      let p1 = orElse-none (cellsRefusal n cells) (orElse triple none) e in
-      let p2 = orElse-none triple none (p1 .1) in
-      let f = filled (p1 .0) in
+      let p = both-passed (cellsQuestions n cells) (tripleQuestion n cells ∷ []) e in
+      let f = filled (unfold cellsRefusal in p .0) in
       record {
         from-one = f .order .0;
         to-limit = f .order .1;
         size = f .size;
         in-range = f .in-range;
-        associative = associative-of n (product n cells) (map-none (λ l. no 4 l) (badTriple n (product n cells)) (p2 .0));
+        associative = associative-of n (product n cells) (all-passed (tripleQuestion n cells ∷ []) .0 (p .1) .0);
       }
 
   pub no-refusal : Accepted n cells → tableRefusal n cells ≡ none
-  unfolding tableRefusal firstNo orElse
+  unfolding tableRefusal firstOf orElse
   no-refusal a =
-      rw (no-cells-refusal (record { order = (a .from-one, a .to-limit); size = a .size; in-range = a .in-range }), no-bad-triple n (product n cells) (a .associative))
+      rw (element-is 120 n (a .from-one, a .to-limit), eq-eqb (length cells) (n * n) (a .size), no-bad-cell n cells (a .in-range), no-bad-triple n (product n cells) (a .associative))
 
-  not-order : isElement 120 n ≡ false → Element 120 n → ⊥
-  not-order q h = clash {b = isElement 120 n} (element-is 120 n h) q
+  -- What is said of a table that is refused.
+  refusal-said : (r : Refusal) → Refused n cells r → tableRefusal n cells ≡ some r
+  unfolding tableRefusal firstOf orElse
+  refusal-said r (wrong-order h) = rw (untrue (isElement 120 n) (λ e. h (is-element 120 n e)))
+  refusal-said r (wrong-size o h) = rw (element-is 120 n o, ne-eqb (length cells) (n * n) h)
+  refusal-said r (wrong-cell k o z i h b) = rw (element-is 120 n o, eq-eqb (length cells) (n * n) z, first-bad-cell n cells k i h b)
+  refusal-said r (wrong-triple l o z i h) = rw (element-is 120 n o, eq-eqb (length cells) (n * n) z, no-bad-cell n cells i, first-bad-triple n (product n cells) l h)
 
-  cells-refused : (r : Refusal) → cellsRefusal n cells ≡ some r → Refused n cells r
-  unfolding cellsRefusal firstNo
-  cells-refused r e = by-order (orElse-some order (orElse size (orElse cell none)) r e)
+  -- One of the four is said, or the table is accepted.
+  data Judged : Type 0 where
+    passes : Accepted n cells → Judged
+    fails : (r : Refusal) → Refused n cells r → Judged
+
+  judged : Judged
+  judged = by-order (either (isElement 120 n))
     where
-      order : Option Refusal
-      order = ask (isElement 120 n) (no 1 [])
+      by-triple : Element 120 n → length cells ≡ n * n → ((k : ℕ) → k < length cells → Element n (getD cells k 0)) → (o : Option (List ℕ)) → badTriple n (product n cells) ≡ o → Judged
+      by-triple o z i none e = passes (record { from-one = o .0; to-limit = o .1; size = z; in-range = i; associative = associative-of n (product n cells) e })
+      by-triple o z i (some l) e = fails (no 4 l) (wrong-triple l o z i (bad-triple-first n (product n cells) l e))
 
-      size : Option Refusal
-      size = ask (eqb (length cells) (n * n)) (no 2 [])
+      by-cell : Element 120 n → length cells ≡ n * n → (o : Option ℕ) → badCell n cells ≡ o → Judged
+      by-cell o z none e = by-triple o z (cells-in-range n cells e) (badTriple n (product n cells)) refl
+      by-cell o z (some k) e = let b = bad-cell-first n cells k e in fails (no 3 (k ∷ [])) (wrong-cell k o z (b .0) (b .1) (b .2))
 
-      cell : Option Refusal
-      cell = Option·map (λ k. no 3 (k ∷ [])) (badCell n cells)
+      by-size : Element 120 n → (length cells ≡ n * n) ⊎ (length cells ≡ n * n → ⊥) → Judged
+      by-size o (inl z) = by-cell o z (badCell n cells) refl
+      by-size o (inr z) = fails (no 2 []) (wrong-size o z)
 
-      by-cell : Element 120 n → length cells ≡ n * n → (cell ≡ some r) ⊎ ((cell ≡ none) × (none ≡ some r)) → Refused n cells r
-      by-cell o z (inl q) =
-          let w = map-some (λ k. no 3 (k ∷ [])) (badCell n cells) r q in
-          let b = bad-cell-first n cells (w .0) (w .1) in
-          subst (Refused n cells) (w .2) (wrong-cell (w .0) o z (b .0) (b .1) (b .2))
-      by-cell o z (inr q) = absurd (Option·none-ne-some r (q .1))
+      by-order : (isElement 120 n ≡ true) ⊎ (isElement 120 n ≡ false) → Judged
+      by-order (inl e) = by-size (is-element 120 n e) (equal-or-not (length cells) (n * n))
+      by-order (inr e) = fails (no 1 []) (wrong-order (λ o. clash {b = isElement 120 n} (element-is 120 n o) e))
 
-      by-size : Element 120 n → (size ≡ some r) ⊎ ((size ≡ none) × (orElse cell none ≡ some r)) → Refused n cells r
-      by-size o (inl q) =
-          let w = ask-failed (eqb (length cells) (n * n)) (no 2 []) r q in
-          subst (Refused n cells) (w .1) (wrong-size o (eqb-false (length cells) (n * n) (w .0)))
-      by-size o (inr q) = by-cell o (eqb-true (length cells) (n * n) (ask-passed (eqb (length cells) (n * n)) (no 2 []) (q .0))) (orElse-some cell none r (q .1))
-
-      by-order : (order ≡ some r) ⊎ ((order ≡ none) × (orElse size (orElse cell none) ≡ some r)) → Refused n cells r
-      by-order (inl q) = let w = ask-failed (isElement 120 n) (no 1 []) r q in subst (Refused n cells) (w .1) (wrong-order (not-order (w .0)))
-      by-order (inr q) = by-size (is-element 120 n (ask-passed (isElement 120 n) (no 1 []) (q .0))) (orElse-some size (orElse cell none) r (q .1))
-
-  -- A failed question is the earliest, with the earliest cell or triple.
-  pub refused : (r : Refusal) → tableRefusal n cells ≡ some r → Refused n cells r
-  unfolding tableRefusal firstNo
-  refused r e = go (orElse-some (cellsRefusal n cells) (orElse triple none) r e)
+  -- A refusal is that of the earliest failed question, with the earliest cell or triple; and where a question fails so, it is the refusal.
+  pub refused : (r : Refusal) → (tableRefusal n cells ≡ some r) ↔ Refused n cells r
+  refused r = (go judged, refusal-said r)
     where
-      triple : Option Refusal
-      triple = Option·map (λ l. no 4 l) (badTriple n (product n cells))
-
-      by-triple : Filled n cells → (triple ≡ some r) ⊎ ((triple ≡ none) × (none ≡ some r)) → Refused n cells r
-      by-triple f (inl q) =
-          let w = map-some (λ l. no 4 l) (badTriple n (product n cells)) r q in
-          subst (Refused n cells) (w .2) (wrong-triple (w .0) (f .order) (f .size) (f .in-range) (bad-triple-first n (product n cells) (w .0) (w .1)))
-      by-triple f (inr q) = absurd (Option·none-ne-some r (q .1))
-
-      go : (cellsRefusal n cells ≡ some r) ⊎ ((cellsRefusal n cells ≡ none) × (orElse triple none ≡ some r)) → Refused n cells r
-      go (inl q) = cells-refused r q
-      go (inr q) = by-triple (filled (q .0)) (orElse-some triple none r (q .1))
+      go : Judged → tableRefusal n cells ≡ some r → Refused n cells r
+      go (passes a) e = let q = no-refusal a in absurd (let y : _≡_ {A = ℕ} 0 1 = cc in let x : ⊥ = omega arith in x)
+      go (fails q h) e = let w = refusal-said q h in subst (Refused n cells) (let s : q ≡ r = cc in s) h

@@ -1,18 +1,40 @@
 -- The questions that a call asks in order (01, "The questions"): the first "no" gives its number, the side that it names, and what is said with it.
--- Questions 8 and 9 stand with the tables of transformations (Transformations), and those about a text with the text.
+-- Each call has a list of questions. Questions 8 and 9 stand with the tables of transformations (Transformations), and those about a text with the text.
 -- Assumes nothing.
 use mathlib.Core.Bool.{Bool, cond}
-use mathlib.Core.List.{List, [], _∷_}
-use mathlib.Core.Option.{Option, none, some, Option·map, orElse}
+use mathlib.Core.List.{List, [], _∷_, _++_, map}
+use mathlib.Core.Option.{Option, none, some, Option·map}
 use mathlib.Core.Path.{_≡_}
 use Prim.Native.Nat.{ℕ, _*_, _≤_, _<_}
 use lib.Dec.{eqb, leb}
 use lib.ListN.{length, getD}
-use Rattle.semigroups.specs.Lists.{at, Earliest}
+use Rattle.semigroups.specs.Lists.{at, firstOf, Earliest}
 use Rattle.semigroups.specs.Tables.{product, Element, FailingTriple, isElement, badCell, badTriple}
 use Rattle.semigroups.specs.Scratch.{scratchSize}
 
--- A refusal: the number of the question, the side that it names (1 for source, 2 for target) if it names one, and the values said with it.
+-- ---- a question
+
+-- A question: its number, the side that it names (1 for source, 2 for target) if it names one, and what is said where it fails: none where the
+-- answer is "yes", else the values said with the "no".
+pub record Question : Type 0 where
+  pub number : ℕ
+  pub side : Option ℕ
+  pub fails : Option (List ℕ)
+
+-- A question that carries nothing; one that carries the values found.
+abbrev pub ask : ℕ → Bool → Question
+ask number passes = record { number = number; side = none; fails = cond passes none (some []) }
+
+abbrev pub seek : ℕ → Option (List ℕ) → Question
+seek number found = record { number = number; side = none; fails = found }
+
+-- A question about one of two tables names its side.
+abbrev pub onSide : ℕ → Question → Question
+onSide side q = record { number = q .number; side = some side; fails = q .fails }
+
+-- ---- a refusal
+
+-- A refusal: the number of the question that fails, the side that it names if it names one, and the values said with it.
 pub record Refusal : Type 0 where
   pub number : ℕ
   pub side : Option ℕ
@@ -22,36 +44,61 @@ pub record Refusal : Type 0 where
 abbrev pub no : ℕ → List ℕ → Refusal
 no number values = record { number = number; side = none; values = values }
 
--- A question that is answered by yes or no.
-abbrev pub ask : Bool → Refusal → Option Refusal
-ask passed r = cond passed none (some r)
-
--- The first "no" of a list of questions.
-unfoldable pub firstNo : List (Option Refusal) → Option Refusal
-firstNo [] = none
-firstNo (q ∷ qs) = let r = firstNo qs in orElse q r
-
 -- The refusal of one of two tables names its side.
 abbrev pub naming : ℕ → Refusal → Refusal
 naming side r = record { number = r .number; side = some side; values = r .values }
 
-abbrev pub onSide : ℕ → Option Refusal → Option Refusal
-onSide side q = Option·map (naming side) q
+-- What a question says where it fails.
+abbrev pub refusalBy : Question → Option Refusal
+refusalBy q = Option·map (λ values. record { number = q .number; side = q .side; values = values }) (q .fails)
 
--- About cells and an order: 1, is the order 1 to 120? 2, are there n × n cells? 3, is every cell 1 to n? Saving a text asks these alone.
+-- The first "no" of a list of questions.
+abbrev pub firstNo : List Question → Option Refusal
+firstNo qs = firstOf refusalBy qs
+
+-- Every question of a list passes.
+abbrev pub Passed : List Question → Type 0
+Passed [] = Unit {0}
+Passed (q ∷ qs) = (q .fails ≡ none) × Passed qs
+
+-- In plain words: r is what the earliest question that fails says. It has a place in the list, and every question before it passes.
+pub record EarliestNo (qs : List Question) (r : Refusal) : Type 0 where
+  pub before : List Question
+  pub question : Question
+  pub behind : List Question
+  pub place : qs ≡ before ++ question ∷ behind
+  pub passed : Passed before
+  pub fails : question .fails ≡ some (r .values)
+  pub number : question .number ≡ r .number
+  pub side : question .side ≡ r .side
+
+-- The numbers of a list of questions.
+abbrev pub numbers : List Question → List ℕ
+numbers qs = map (λ q. q .number) qs
+
+-- ---- about a table
+
+-- 3, is every cell 1 to n? It carries the first cell that is not.
+abbrev pub cellQuestion : ℕ → List ℕ → Question
+cellQuestion n cells = seek 3 (Option·map (λ k. k ∷ []) (badCell n cells))
+
+-- 4, is the table associative? It carries the first failing triple.
+abbrev pub tripleQuestion : ℕ → List ℕ → Question
+tripleQuestion n cells = seek 4 (badTriple n (product n cells))
+
+-- About cells and an order: 1, is the order 1 to 120? 2, are there n × n cells? Then 3. Saving a text asks these alone.
+abbrev pub cellsQuestions : ℕ → List ℕ → List Question
+cellsQuestions n cells = ask 1 (isElement 120 n) ∷ ask 2 (eqb (length cells) (n * n)) ∷ cellQuestion n cells ∷ []
+
 unfoldable pub cellsRefusal : ℕ → List ℕ → Option Refusal
-cellsRefusal n cells =
-    let order = ask (isElement 120 n) (no 1 []) in
-    let size = ask (eqb (length cells) (n * n)) (no 2 []) in
-    let cell = Option·map (λ k. no 3 (k ∷ [])) (badCell n cells) in
-    firstNo (order ∷ size ∷ cell ∷ [])
+cellsRefusal n cells = firstNo (cellsQuestions n cells)
 
--- About a table: these three; then 4, is the table associative?
+-- About a table: these three; then 4.
+abbrev pub tableQuestions : ℕ → List ℕ → List Question
+tableQuestions n cells = cellsQuestions n cells ++ tripleQuestion n cells ∷ []
+
 unfoldable pub tableRefusal : ℕ → List ℕ → Option Refusal
-tableRefusal n cells =
-    let cell = cellsRefusal n cells in
-    let triple = Option·map (λ l. no 4 l) (badTriple n (product n cells)) in
-    firstNo (cell ∷ triple ∷ [])
+tableRefusal n cells = firstNo (tableQuestions n cells)
 
 -- What the refusal of a table says: the earliest question whose answer is "no", with the earliest cell or triple.
 pub data Refused (n : ℕ) (cells : List ℕ) : Refusal → Type 0 where
@@ -62,30 +109,32 @@ pub data Refused (n : ℕ) (cells : List ℕ) : Refusal → Type 0 where
   wrong-triple : (l : List ℕ) → Element 120 n → length cells ≡ n * n → ((k : ℕ) → k < length cells → Element n (getD cells k 0)) → Earliest (FailingTriple n (product n cells)) l
       → Refused n cells (no 4 l)
 
+-- ---- about an element, a map check, a search
+
 -- About an element: the table's four; then 7, is it 1 to n?
+abbrev pub elementQuestions : ℕ → List ℕ → ℕ → List Question
+elementQuestions n cells a = tableQuestions n cells ++ ask 7 (isElement n a) ∷ []
+
 unfoldable pub elementRefusal : ℕ → List ℕ → ℕ → Option Refusal
-elementRefusal n cells a =
-    let table = tableRefusal n cells in
-    let element = ask (isElement n a) (no 7 []) in
-    firstNo (table ∷ element ∷ [])
+elementRefusal n cells a = firstNo (elementQuestions n cells a)
 
 -- About two tables: the source's four, then the target's four.
+abbrev pub tablesQuestions : ℕ → List ℕ → ℕ → List ℕ → List Question
+tablesQuestions m source n target = map (onSide 1) (tableQuestions m source) ++ map (onSide 2) (tableQuestions n target)
+
 unfoldable pub tablesRefusal : ℕ → List ℕ → ℕ → List ℕ → Option Refusal
-tablesRefusal m source n target =
-    let first = onSide 1 (tableRefusal m source) in
-    let second = onSide 2 (tableRefusal n target) in
-    firstNo (first ∷ second ∷ [])
+tablesRefusal m source n target = firstNo (tablesQuestions m source n target)
 
 -- About a map check: the two tables'; then 5, has the map buffer exactly m bytes?
+abbrev pub checkQuestions : ℕ → List ℕ → ℕ → List ℕ → ℕ → List Question
+checkQuestions m source n target mapLength = tablesQuestions m source n target ++ ask 5 (eqb mapLength m) ∷ []
+
 unfoldable pub checkRefusal : ℕ → List ℕ → ℕ → List ℕ → ℕ → Option Refusal
-checkRefusal m source n target mapLength =
-    let tables = tablesRefusal m source n target in
-    let map = ask (eqb mapLength m) (no 5 []) in
-    firstNo (tables ∷ map ∷ [])
+checkRefusal m source n target mapLength = firstNo (checkQuestions m source n target mapLength)
 
 -- About a search: those of a map check; then 6, has the scratch buffer at least the bytes that its marks take?
+abbrev pub searchQuestions : ℕ → List ℕ → ℕ → List ℕ → ℕ → ℕ → List Question
+searchQuestions m source n target mapLength scratchLength = checkQuestions m source n target mapLength ++ ask 6 (leb (scratchSize m n) scratchLength) ∷ []
+
 unfoldable pub searchRefusal : ℕ → List ℕ → ℕ → List ℕ → ℕ → ℕ → Option Refusal
-searchRefusal m source n target mapLength scratchLength =
-    let check = checkRefusal m source n target mapLength in
-    let scratch = ask (leb (scratchSize m n) scratchLength) (no 6 []) in
-    firstNo (check ∷ scratch ∷ [])
+searchRefusal m source n target mapLength scratchLength = firstNo (searchQuestions m source n target mapLength scratchLength)

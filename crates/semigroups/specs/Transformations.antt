@@ -8,7 +8,7 @@ use lib.Dec.{leb}
 use lib.ListN.{getD}
 use Rattle.semigroups.specs.Lists.{count, earlier, lists}
 use Rattle.semigroups.specs.Tables.{Product, grid, isElement}
-use Rattle.semigroups.specs.Questions.{Refusal, no, ask, firstNo}
+use Rattle.semigroups.specs.Questions.{Question, ask, Refusal, firstNo}
 use Rattle.semigroups.specs.Maps.{after}
 
 -- All transformations of d points: all image lists, in list order.
@@ -36,8 +36,8 @@ unfoldable pub transformationCells : ℕ → List ℕ
 transformationCells d = grid (transformationOrder d) (transformationOrder d) (transformationProduct d)
 
 -- Questions about such a table: 8, is the degree 1 to 3? 9, has the buffer at least its cells?
+abbrev pub transformationQuestions : ℕ → ℕ → List Question
+transformationQuestions d size = ask 8 (isElement 3 d) ∷ ask 9 (leb (transformationOrder d * transformationOrder d) size) ∷ []
+
 unfoldable pub transformationRefusal : ℕ → ℕ → Option Refusal
-transformationRefusal d size =
-    let degree = ask (isElement 3 d) (no 8 []) in
-    let cells = ask (leb (transformationOrder d * transformationOrder d) size) (no 9 []) in
-    firstNo (degree ∷ cells ∷ [])
+transformationRefusal d size = firstNo (transformationQuestions d size)
