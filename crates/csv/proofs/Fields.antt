@@ -21,6 +21,7 @@ use Rattle.semigroups.proofs.Questions.{ask-passed, all-passed, first-append, b
 use Rattle.csv.specs.Decimals.{isDigit, digits, value}
 use Rattle.csv.specs.Records.{isBreak}
 use Rattle.csv.specs.Questions.{breakAt, endRefusal, fieldQuestions, fieldRefusal, fieldsQuestions, fieldsRefusal}
+use Rattle.csv.specs.Passing.{Number}
 
 -- ---- the digits at a place
 
@@ -124,13 +125,6 @@ module _ (f : List ℕ) where
     field-passes h g = simp (le-leb _ _ one, le-leb _ _ three, ne-eqb _ _ h, le-leb _ _ g)
 
 -- ---- a field that passes
-
--- What 23, 24 and 25 show of a field.
-pub record Number (f : List ℕ) : Type 0 where
-  pub some-byte : 1 ≤ length f
-  pub short : length f ≤ 3
-  pub leading : getD f 0 0 ≡ 48 → ⊥
-  pub small : value f ≤ 120
 
 pub field-passed : (f : List ℕ) → fieldRefusal f ≡ none → Number f
 unfolding fieldRefusal

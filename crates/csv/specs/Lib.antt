@@ -2,5 +2,6 @@ pub mod Decimals
 pub mod Records
 pub mod Tables
 pub mod Questions
+pub mod Passing
 pub mod Calls
 pub mod Rounds

@@ -19,7 +19,7 @@ use Rattle.semigroups.proofs.Tables.{filled, no-cells-refusal, accepted
 -- ---- one question
 
 module _ (number : ℕ) where
-  asked : {P : Type 0} (b : Bool) → (b ≡ true → P) → (P → b ≡ true) → (firstNo (ask number b ∷ []) ≡ none) ↔ P
+  pub asked : {P : Type 0} (b : Bool) → (b ≡ true → P) → (P → b ≡ true) → (firstNo (ask number b ∷ []) ≡ none) ↔ P
   asked b to from = ((λ e. to (ask-passed number b (all-passed (ask number b ∷ []) .0 e .0))), λ h. all-passed (ask number b ∷ []) .1 (rw (from h), tt))
 
   pub element-asked : (n x : ℕ) → (firstNo (ask number (isElement n x) ∷ []) ≡ none) ↔ Element n x
