@@ -1,18 +1,18 @@
 -- The questions about loading and saving pass exactly where what the call needs holds. Assumes nothing.
 use mathlib.Core.Path.{_≡_, refl, ap, sym, _∙_, subst}
-use mathlib.Core.Bool.{Bool, true, _||_, not, or-true}
-use mathlib.Core.Logic.{_⊎_, inl, inr, ⊎-elim, _↔_}
+use mathlib.Core.Bool.{true, _||_, not, or-true}
+use mathlib.Core.Logic.{⊎-elim, _↔_}
 use mathlib.Core.List.{List, [], _∷_, _++_, List·Memᴰ, List·Memᴰ·head, List·Memᴰ·tail, List·Memᴰ·not-nil, List·Memᴰ·cases-cons}
 use mathlib.Core.Option.{none, orElse, map-eq-none-iff}
 use Prim.Native.Nat.{ℕ, zero, suc, _+_, _-_, _*_, _≤_, _<_}
 use native.Mathlib.Omega.{arith}
 use lib.Dec.{eqb, leb}
-use lib.ListN.{length, getD, take, drop, length-append, length-drop, take-append-drop, drop-of-length-le, List·getD-eq-default}
+use lib.ListN.{length, getD, take, length-append, take-append-drop, drop-of-length-le, List·getD-eq-default}
 use lib.Seq.{drop-cons, getD-append-seam}
-use borrow.Author.Tests.{eqb-true, eq-eqb, not-true, not-false}
+use borrow.Author.Tests.{eqb-true, eq-eqb, not-false}
 use Rattle.semigroups.specs.Lists.{range, all}
-use Rattle.semigroups.specs.Tables.{Element, isElement}
-use Rattle.semigroups.specs.Questions.{Question, ask, firstNo, cellsQuestions, cellsRefusal}
+use Rattle.semigroups.specs.Tables.{isElement}
+use Rattle.semigroups.specs.Questions.{ask, firstNo, cellsQuestions, cellsRefusal}
 use Rattle.semigroups.proofs.Booleans.{both, and-left, and-right, or-holds, not-of-true, at-most-or-above}
 use Rattle.semigroups.proofs.Lists.{all-at, all-of, mem-range, range-mem, find-none, none-find}
 use Rattle.semigroups.proofs.Questions.{all-passed}
@@ -20,7 +20,7 @@ use Rattle.semigroups.proofs.Passing.{asked, element-asked, room-asked, joined,
 use Rattle.csv.specs.Decimals.{isDigit}
 use Rattle.csv.specs.Records.{isBreak, rows}
 use Rattle.csv.specs.Tables.{fieldsOf, orderOf, tableText}
-use Rattle.csv.specs.Questions.{longest, breakAt, inBreak, isAllowed, firstOther, bytesQuestion, endQuestion, fieldQuestions, fieldsQuestions, fieldsRefusal, isSquare, squareQuestion, gridQuestions, loadRefusal, saveRefusal}
+use Rattle.csv.specs.Questions.{longest, breakAt, inBreak, isAllowed, firstOther, bytesQuestion, endQuestion, fieldsQuestions, fieldsRefusal, isSquare, squareQuestion, gridQuestions, loadRefusal, saveRefusal}
 use Rattle.csv.specs.Passing.{AllowedByte, a-digit, a-comma, a-cr, an-lf, Number, LoadPasses, SavePasses}
 use Rattle.csv.proofs.Records.{break-bytes}
 use Rattle.csv.proofs.Rows.{digit-range}

@@ -11,7 +11,7 @@ use lib.ListN.{length}
 use Rattle.semigroups.specs.Lists.{Earliest}
 use Rattle.semigroups.specs.Tables.{product}
 use Rattle.semigroups.specs.Questions.{Refusal}
-use Rattle.semigroups.specs.Maps.{Kind, IsMap, maps, beyond, earliest}
+use Rattle.semigroups.specs.Maps.{Kind, IsMap, beyond}
 use Rattle.semigroups.specs.Walks.{Said, refused, found, nothing}
 use Rattle.semigroups.proofs.ListOrder.{earliest-same}
 use Rattle.semigroups.proofs.Passing.{search-passes}

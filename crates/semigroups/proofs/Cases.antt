@@ -1,8 +1,8 @@
 -- The worked table under one claim: thirteen cases, each question's answer by the definitions the one that stands beside it, and the tables they
 -- name. Assumes nothing.
 use mathlib.Core.Path.{_≡_, refl, sym, ap, _∙_}
-use mathlib.Core.List.{List, [], _∷_, map, flatMap, List·Memᴰ, List·Memᴰ·head, List·Memᴰ·tail, head-eq-of-cons-eq, tail-eq-of-cons-eq}
-use mathlib.Core.Option.{Option, none, orElse}
+use mathlib.Core.List.{List, _∷_, map, flatMap, List·Memᴰ, List·Memᴰ·head, List·Memᴰ·tail, head-eq-of-cons-eq, tail-eq-of-cons-eq}
+use mathlib.Core.Option.{none, orElse}
 use Rattle.semigroups.specs.Lists.{range, elements, at, all, find, keep, firstOf, sum, count, least, member, distinct, earlier, lists}
 use Rattle.semigroups.specs.Tables.{product, grid, isElement, associates, badCell, badTriple}
 use Rattle.semigroups.specs.Questions.{tableRefusal}
