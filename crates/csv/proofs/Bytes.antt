@@ -127,7 +127,7 @@ clean-other t h =
 
 pub no-other : (t : List ℕ) → bytesRefusal t ≡ none → firstOther t ≡ none
 unfolding bytesRefusal
-no-other t h = map-eq-none-iff (λ p. p ∷ []) (firstOther t) .0 (all-passed (bytesQuestion t ∷ []) .0 h .0)
+no-other t h = map-eq-none-iff _ (firstOther t) .0 (all-passed (bytesQuestion t ∷ []) .0 h .0)
 
 -- Question 22 passes: the text ends in a line break.
 pub closed : (t : List ℕ) → endRefusal t ≡ none → ends t ≡ true

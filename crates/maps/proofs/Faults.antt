@@ -7,12 +7,13 @@ use Prim.Native.Nat.{ℕ, _-_, _≤_, _<_}
 use borrow.Author.Tests.{eq-eqb, ne-eqb, lt-ltb, le-ltb}
 use lib.Dec.{eqb, ltb}
 use lib.ListN.{length, getD}
-use Rattle.semigroups.specs.Lists.{elements, at, find, lists}
+use Rattle.semigroups.specs.Lists.{elements, at, find, firstOf, lists}
 use Rattle.semigroups.specs.Tables.{Product, Element, IsList, isElement, badCell, product}
-use Rattle.semigroups.specs.Questions.{Refusal, no, firstNo, tablesRefusal, checkRefusal}
+use Rattle.semigroups.specs.Questions.{Question, ask, Refusal, no, firstNo, tablesQuestions, tablesRefusal, checkRefusal}
 use Rattle.semigroups.specs.Calls.{refused, gives}
 use Rattle.semigroups.specs.MapCheck.{holds, outside, equalImages, wrongProduct, unless, firstOutside, firstEqual, firstWrong, checkMap}
 use Rattle.semigroups.proofs.Booleans.{not-of-true, not-of-false}
+use Rattle.semigroups.proofs.Questions.{failed-before, passed-before}
 use Rattle.semigroups.proofs.NoRepeats.{mem-place}
 use Rattle.semigroups.proofs.Tables.{cells-in-range}
 use Rattle.maps.specs.Answers.{mapCheck}
@@ -94,14 +95,22 @@ module _ (m : ℕ) (s : Product) (n : ℕ) (t : Product) (f : List ℕ) where
 -- ---- what a call says
 
 module _ (m : ℕ) (source : List ℕ) (n : ℕ) (target f : List ℕ) where
+  abbrev map-size : Question
+  map-size = ask 5 (eqb (length f) m)
+
   pub call-refused : (r : Refusal) → tablesRefusal m source n target ≡ some r → mapCheck m source n target f ≡ refused r
-  unfolding mapCheck checkRefusal firstNo orElse
-  call-refused r e = rw e
+  unfolding mapCheck checkRefusal tablesRefusal
+  call-refused r e = rw (failed-before (tablesQuestions m source n target) (map-size ∷ []) e)
 
-  pub call-length : tablesRefusal m source n target ≡ none → (length f ≡ m → ⊥) → mapCheck m source n target f ≡ refused (no 5 [])
-  unfolding mapCheck checkRefusal firstNo orElse
-  call-length e h = rw (e, ne-eqb (length f) m h)
+  module _ (e : tablesRefusal m source n target ≡ none) where
+    map-left : checkRefusal m source n target (length f) ≡ firstNo (map-size ∷ [])
+    unfolding checkRefusal tablesRefusal
+    map-left = passed-before (tablesQuestions m source n target) (map-size ∷ []) e
 
-  pub call-checked : tablesRefusal m source n target ≡ none → length f ≡ m → mapCheck m source n target f ≡ gives (checkMap m (product m source) n (product n target) f)
-  unfolding mapCheck checkRefusal firstNo orElse
-  call-checked e h = rw (e, eq-eqb (length f) m h)
+    pub call-length : (length f ≡ m → ⊥) → mapCheck m source n target f ≡ refused (no 5 [])
+    unfolding mapCheck firstOf orElse
+    call-length h = rw (map-left, ne-eqb (length f) m h)
+
+    pub call-checked : length f ≡ m → mapCheck m source n target f ≡ gives (checkMap m (product m source) n (product n target) f)
+    unfolding mapCheck firstOf orElse
+    call-checked h = rw (map-left, eq-eqb (length f) m h)

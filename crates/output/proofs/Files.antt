@@ -2,16 +2,19 @@
 -- Assumes nothing.
 use mathlib.Core.Path.{_≡_, refl, ap, ap₂, sym, _∙_, subst₂}
 use mathlib.Core.List.{List, [], _∷_}
-use mathlib.Core.Option.{Option, none, some, Option·map, orElse}
+use mathlib.Core.Option.{Option, none, some}
 use Prim.Native.Nat.{ℕ, _*_, _≤_}
 use native.Mathlib.Omega.{arith}
+use borrow.Author.Tests.{eq-eqb}
+use lib.Dec.{eqb}
 use lib.ListN.{length, take}
-use Rattle.semigroups.specs.Tables.{product, badCell, badTriple, Accepted}
-use Rattle.semigroups.specs.Questions.{Refusal, no, firstNo, tableRefusal}
-use Rattle.semigroups.proofs.Tables.{orElse-none, accepted}
-use Rattle.tables.proofs.Questions.{right-size}
+use Rattle.semigroups.specs.Tables.{Accepted, isElement}
+use Rattle.semigroups.specs.Questions.{Question, ask, Refusal, cellQuestion, tripleQuestion, tableRefusal}
+use Rattle.semigroups.proofs.Lists.{element-is}
+use Rattle.semigroups.proofs.Tables.{accepted}
+use Rattle.semigroups.proofs.Questions.{all-passed, failed-before, passed-before, both-passed}
 use Rattle.csv.specs.Tables.{orderOf, cellsOf}
-use Rattle.csv.specs.Questions.{loadRefusal}
+use Rattle.csv.specs.Questions.{loadQuestions, loadRefusal}
 use Rattle.semigroups.specs.Calls.{Answer, refused, gives, givenUnless}
 use Rattle.csv.specs.Calls.{loadAnswer, cellsAfter}
 use Rattle.csv.proofs.Loading.{cells-length, load-passed}
@@ -20,24 +23,28 @@ use Rattle.csv.proofs.RoundTrips.{not-refused, loads-given}
 use Rattle.output.specs.Files.{fileRefusal, fileAnswer}
 
 module _ (t : List ℕ) (room : ℕ) where
+  -- 3 and 4.
+  abbrev pub behind : List Question
+  behind = cellQuestion (orderOf t) (cellsOf t) ∷ tripleQuestion (orderOf t) (cellsOf t) ∷ []
+
   pub loading-refused : {r : Refusal} → loadRefusal t room ≡ some r → fileRefusal t room ≡ some r
-  unfolding fileRefusal firstNo orElse
-  loading-refused e = rw e
+  unfolding fileRefusal loadRefusal
+  loading-refused e = failed-before (loadQuestions t room) behind e
 
   -- A loaded table has an order of 1 to 120 and as many cells as that asks for.
   pub loaded-table : loadRefusal t room ≡ none → fileRefusal t room ≡ tableRefusal (orderOf t) (cellsOf t)
-  unfolding fileRefusal tableRefusal firstNo orElse
+  unfolding fileRefusal loadRefusal tableRefusal
   loaded-table e =
       let l = load-passed t room e in
-      rw (e, right-size (orderOf t) (cellsOf t) (first-row t room l) (l .order) (cells-length (orderOf t) t (l .grid)) (badCell (orderOf t) (cellsOf t)) refl)
+      let size = cells-length (orderOf t) t (l .grid) in
+      let begin = ask 1 (isElement 120 (orderOf t)) ∷ ask 2 (eqb (length (cellsOf t)) (orderOf t * orderOf t)) ∷ [] in
+      passed-before (loadQuestions t room) behind e
+      ∙ sym (passed-before begin behind (all-passed begin .1 (rw (element-is 120 (orderOf t) (first-row t room l, l .order)), (rw (eq-eqb (length (cellsOf t)) (orderOf t * orderOf t) size), tt))))
 
   -- An accepted file loads.
   pub refusal-none : fileRefusal t room ≡ none → loadRefusal t room ≡ none
-  unfolding fileRefusal firstNo
-  refusal-none e =
-      let cell = Option·map (λ k. no 3 (k ∷ [])) (badCell (orderOf t) (cellsOf t)) in
-      let triple = Option·map (λ l. no 4 l) (badTriple (orderOf t) (product (orderOf t) (cellsOf t))) in
-      orElse-none (loadRefusal t room) (orElse cell (orElse triple none)) e .0
+  unfolding fileRefusal loadRefusal
+  refusal-none e = both-passed (loadQuestions t room) behind e .0
 
 -- ---- the answer
 

@@ -8,16 +8,16 @@ use Prim.Native.Nat.{ℕ, _*_, _≤_, _<_}
 use native.Mathlib.Omega.{arith}
 use lib.ListN.{length, take}
 use lib.Seq.{length-take-le, take-all}
-use Rattle.semigroups.specs.Lists.{range, elements, at, all, find, keep, member, distinct, lists}
+use Rattle.semigroups.specs.Lists.{range, elements, at, all, find, keep, firstOf, member, distinct, lists}
 use Rattle.semigroups.specs.Tables.{product, isElement, associates, badCell, badTriple}
-use Rattle.semigroups.specs.Questions.{Refusal, no, naming, firstNo}
+use Rattle.semigroups.specs.Questions.{Refusal, no, naming}
 use Rattle.semigroups.specs.Maps.{isHomomorphism, isEmbedding, maps, earliest}
 use Rattle.semigroups.specs.Scratch.{scratchSize}
 use Rattle.semigroups.proofs.Booleans.{at-most-or-above}
 use Rattle.csv.specs.Decimals.{isDigit, value, valueFrom, numeralWithin, numeral}
 use Rattle.csv.specs.Records.{isBreak, onto, records, fields, rows, recordText, lineText, rowsText}
 use Rattle.csv.specs.Tables.{fieldsOf, orderOf, cellsOf}
-use Rattle.csv.specs.Questions.{breakAt, inBreak, isAllowed, firstOther, bytesRefusal, endRefusal, fieldRefusal, fieldsRefusal, isSquare, squareRefusal, loadRefusal}
+use Rattle.csv.specs.Questions.{breakAt, inBreak, isAllowed, firstOther, fieldsQuestions, isSquare}
 use Rattle.semigroups.specs.Calls.{Answer, refused, gives}
 use Rattle.csv.specs.Calls.{cellsAfter}
 use Rattle.csv.proofs.Loading.{too-short, too-long}
@@ -108,5 +108,5 @@ first-bytes-decide source target = by-source (cut source)
 -- ---- 01's example
 
 pub example : recueOutput sourceFile targetFile ≡ printed
-unfolding recueOutput recueRecords answerRecords sourceFile targetFile printed fileRefusal firstRecord pairRecord pairRecords foundRecords noneRecords refusedRecord refusedRecords isDigit value valueFrom numeralWithin numeral isBreak onto records fields rows recordText lineText rowsText fieldsOf orderOf cellsOf breakAt inBreak isAllowed firstOther bytesRefusal endRefusal fieldRefusal fieldsRefusal isSquare squareRefusal loadRefusal range elements at all find keep member distinct lists product isElement associates badCell badTriple firstNo isHomomorphism isEmbedding maps earliest orElse flatMap flatten
+unfolding recueOutput recueRecords answerRecords sourceFile targetFile printed fileRefusal firstRecord pairRecord pairRecords foundRecords noneRecords refusedRecord refusedRecords isDigit value valueFrom numeralWithin numeral isBreak onto records fields rows recordText lineText rowsText fieldsOf orderOf cellsOf breakAt inBreak isAllowed firstOther fieldsQuestions isSquare range elements at all find keep member distinct lists product isElement associates badCell badTriple firstOf isHomomorphism isEmbedding maps earliest orElse flatMap flatten
 example = refl

@@ -2,7 +2,7 @@
 -- earliest embedding or of none. Assumes nothing.
 use mathlib.Core.Path.{_≡_, refl, _∙_}
 use mathlib.Core.List.{List, [], _∷_}
-use mathlib.Core.Option.{Option, none, some, orElse}
+use mathlib.Core.Option.{Option, none, some}
 use Prim.Native.Nat.{ℕ, _≤_}
 use native.Mathlib.Omega.{arith}
 use borrow.Author.Tests.{eqb-true}
@@ -11,10 +11,11 @@ use lib.ListN.{length}
 use lib.Seq.{sets}
 use Rattle.semigroups.specs.Tables.{Accepted}
 use Rattle.semigroups.specs.Scratch.{scratchSize}
-use Rattle.semigroups.specs.Questions.{Refusal, no, naming, ask, firstNo, tablesRefusal, checkRefusal, searchRefusal}
+use Rattle.semigroups.specs.Questions.{ask, Refusal, no, naming, tablesQuestions, tablesRefusal, searchRefusal}
 use Rattle.semigroups.specs.Maps.{embeddings}
 use Rattle.semigroups.specs.Walks.{refused, found, nothing}
-use Rattle.semigroups.proofs.Tables.{orElse-none, ask-passed, no-refusal}
+use Rattle.semigroups.proofs.Tables.{no-refusal}
+use Rattle.semigroups.proofs.Questions.{ask-passed, all-passed, both-passed}
 use Rattle.tables.proofs.Questions.{both-pass, tables-accepted}
 use Rattle.csv.specs.Records.{lineText, rowsText}
 use Rattle.semigroups.specs.Calls.{overwritten}
@@ -41,19 +42,16 @@ module _ (l : Lent) where
     pub map : length (l .map) ≡ l .m
 
   sized : refusalOf embeddings theFirst l ≡ none → Sized
-  unfolding searchRefusal checkRefusal firstNo
+  unfolding searchRefusal tablesRefusal
   sized e =
-      let tables = tablesRefusal (l .m) (l .source) (l .n) (l .target) in
-      let map = ask (eqb (length (l .map)) (l .m)) (no 5 []) in
-      let scratch = ask (leb (scratchSize (l .m) (l .n)) (length (l .scratch))) (no 6 []) in
-      let p = orElse-none (orElse tables (orElse map none)) (orElse scratch none) e in
-      let q = orElse-none tables (orElse map none) (p .0) in
-      let r = orElse-none map none (q .1) in
-      let both = tables-accepted (l .m) (l .source) (l .n) (l .target) (q .0) in
+      let tables = tablesQuestions (l .m) (l .source) (l .n) (l .target) in
+      let buffers = ask 5 (eqb (length (l .map)) (l .m)) ∷ ask 6 (leb (scratchSize (l .m) (l .n)) (length (l .scratch))) ∷ [] in
+      let p = both-passed tables buffers e in
+      let both = tables-accepted (l .m) (l .source) (l .n) (l .target) (p .0) in
       record {
         source = both .0 .to-limit;
         target = both .1 .to-limit;
-        map = eqb-true (length (l .map)) (l .m) (ask-passed (eqb (length (l .map)) (l .m)) (no 5 []) (r .0));
+        map = eqb-true (length (l .map)) (l .m) (ask-passed 5 (eqb (length (l .map)) (l .m)) (all-passed buffers .0 (p .1) .0));
       }
 
   pub found-sized : found ≡ c .says → Sized

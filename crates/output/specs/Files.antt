@@ -1,23 +1,20 @@
 -- What a file with a table says (01, "Program `recue`"): its bytes are loaded as text, and questions 3 and 4 are asked of the table.
 -- Assumes nothing.
-use mathlib.Core.List.{List, [], _∷_}
-use mathlib.Core.Option.{Option, Option·map}
+use mathlib.Core.List.{List, [], _∷_, _++_}
+use mathlib.Core.Option.{Option}
 use Prim.Native.Nat.{ℕ}
 use lib.ListN.{length}
-use Rattle.semigroups.specs.Tables.{product, badCell, badTriple}
-use Rattle.semigroups.specs.Questions.{Refusal, no, firstNo}
+use Rattle.semigroups.specs.Questions.{Question, Refusal, firstNo, cellQuestion, tripleQuestion}
 use Rattle.csv.specs.Tables.{orderOf, cellsOf}
-use Rattle.csv.specs.Questions.{loadRefusal}
+use Rattle.csv.specs.Questions.{loadQuestions}
 use Rattle.semigroups.specs.Calls.{Answer, givenUnless}
 
--- The earliest failed question about a file with these bytes and a buffer of so many cells: those about loading; then 3, is every cell 1 to n?
--- Then 4, is the table associative?
+-- About a file with these bytes and a buffer of so many cells: those about loading; then 3, is every cell 1 to n? Then 4, is the table associative?
+abbrev pub fileQuestions : List ℕ → ℕ → List Question
+fileQuestions t room = loadQuestions t room ++ cellQuestion (orderOf t) (cellsOf t) ∷ tripleQuestion (orderOf t) (cellsOf t) ∷ []
+
 unfoldable pub fileRefusal : List ℕ → ℕ → Option Refusal
-fileRefusal t room =
-    let loading = loadRefusal t room in
-    let cell = Option·map (λ k. no 3 (k ∷ [])) (badCell (orderOf t) (cellsOf t)) in
-    let triple = Option·map (λ l. no 4 l) (badTriple (orderOf t) (product (orderOf t) (cellsOf t))) in
-    firstNo (loading ∷ cell ∷ triple ∷ [])
+fileRefusal t room = firstNo (fileQuestions t room)
 
 -- The order is given.
 unfoldable pub fileAnswer : List ℕ → List ℕ → Answer ℕ

@@ -46,7 +46,7 @@ module _ (n : ℕ) (cells : List ℕ) where
     where
       go : (q : Option Refusal) → tableRefusal n cells ≡ q → saidOf q .number ≡ 0 → Accepted n cells
       go none w h = accepted n cells w
-      go (some q) w h = absurd (number-positive (refused n cells q w) h)
+      go (some q) w h = absurd (number-positive (refused n cells q .0 w) h)
 
   pub judged-filled : (r : Said) → r ≡ saidOf (tableRefusal n cells) → r .number ≡ 0 → Filled n cells
   judged-filled r e z = accepted-filled n cells (judged-accepted r e z)

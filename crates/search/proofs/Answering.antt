@@ -1,17 +1,19 @@
 -- The questions of a search in the code's order, and what the marked search finds. Assumes nothing.
 use mathlib.Core.Path.{_≡_, refl, sym, ap, ap₂, _∙_, subst}
 use mathlib.Core.Bool.{Bool, true, false}
-use mathlib.Core.List.{List, []}
+use mathlib.Core.List.{List, [], _∷_}
 use mathlib.Core.Option.{Option, none, some, orElse}
 use Prim.Native.Nat.{ℕ, _≤_, _<_}
 use borrow.Author.Tests.{leb-false, eqb-true, eqb-false, le-leb, lt-leb, eq-eqb, ne-eqb}
-use Rattle.semigroups.specs.Lists.{at, find}
+use lib.Dec.{eqb, leb}
+use Rattle.semigroups.specs.Lists.{at, find, firstOf}
 use Rattle.semigroups.specs.Tables.{Product, product, Element, Closed}
 use Rattle.semigroups.specs.Scratch.{scratchSize, marked, scratchAfter}
-use Rattle.semigroups.specs.Questions.{Refusal, no, ask, firstNo, tablesRefusal, checkRefusal, searchRefusal}
+use Rattle.semigroups.specs.Questions.{Question, ask, Refusal, no, firstNo, tablesQuestions, tablesRefusal, searchRefusal}
 use Rattle.semigroups.specs.Maps.{Embedding, Kind, embeddings, isomorphisms, maps, Ask, earliest}
 use Rattle.semigroups.specs.Candidates.{candidate}
 use Rattle.semigroups.specs.Search.{search as searched}
+use Rattle.semigroups.proofs.Questions.{failed-before, passed-before}
 use Rattle.semigroups.proofs.Maps.{no-embedding, no-isomorphism, one-order}
 use Rattle.semigroups.proofs.Candidates.{index-period-sound, profile-sound, marked-candidate}
 use Rattle.semigroups.proofs.Search.{search-earliest}
@@ -24,21 +26,30 @@ use Rattle.search.specs.Answers.{requestOf, orderFits}
 -- ---- the questions
 
 module _ (m : ℕ) (source : List ℕ) (n : ℕ) (target : List ℕ) (k l : ℕ) where
+  -- 5 and 6.
+  abbrev buffers : List Question
+  buffers = ask 5 (eqb k m) ∷ ask 6 (leb (scratchSize m n) l) ∷ []
+
   pub tables-refused : (r : Refusal) → tablesRefusal m source n target ≡ some r → searchRefusal m source n target k l ≡ some r
-  unfolding searchRefusal checkRefusal firstNo orElse
-  tables-refused r e = rw e
+  unfolding searchRefusal tablesRefusal
+  tables-refused r e = failed-before (tablesQuestions m source n target) buffers e
 
-  pub map-refused : tablesRefusal m source n target ≡ none → (k ≡ m → ⊥) → searchRefusal m source n target k l ≡ some (no 5 [])
-  unfolding searchRefusal checkRefusal firstNo orElse
-  map-refused e h = rw (e, ne-eqb k m h)
+  module _ (e : tablesRefusal m source n target ≡ none) where
+    buffers-left : searchRefusal m source n target k l ≡ firstNo buffers
+    unfolding searchRefusal tablesRefusal
+    buffers-left = passed-before (tablesQuestions m source n target) buffers e
 
-  pub scratch-refused : tablesRefusal m source n target ≡ none → k ≡ m → l < scratchSize m n → searchRefusal m source n target k l ≡ some (no 6 [])
-  unfolding searchRefusal checkRefusal firstNo orElse
-  scratch-refused e q h = rw (e, eq-eqb k m q, lt-leb (scratchSize m n) l h)
+    pub map-refused : (k ≡ m → ⊥) → searchRefusal m source n target k l ≡ some (no 5 [])
+    unfolding firstOf orElse
+    map-refused h = buffers-left ∙ rw (ne-eqb k m h)
 
-  pub none-refused : tablesRefusal m source n target ≡ none → k ≡ m → scratchSize m n ≤ l → searchRefusal m source n target k l ≡ none
-  unfolding searchRefusal checkRefusal firstNo orElse
-  none-refused e q h = rw (e, eq-eqb k m q, le-leb (scratchSize m n) l h)
+    pub scratch-refused : k ≡ m → l < scratchSize m n → searchRefusal m source n target k l ≡ some (no 6 [])
+    unfolding firstOf orElse
+    scratch-refused q h = buffers-left ∙ rw (eq-eqb k m q, lt-leb (scratchSize m n) l h)
+
+    pub none-refused : k ≡ m → scratchSize m n ≤ l → searchRefusal m source n target k l ≡ none
+    unfolding firstOf orElse
+    none-refused q h = buffers-left ∙ rw (eq-eqb k m q, le-leb (scratchSize m n) l h)
 
 -- ---- what the search finds
 

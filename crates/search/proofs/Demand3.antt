@@ -5,10 +5,10 @@ use mathlib.Core.List.{List, [], _∷_, flatMap, List·Memᴰ, List·Memᴰ·hea
 use mathlib.Core.Option.{Option, none, some, orElse, Option·some-ne-none}
 use Prim.Native.Nat.{ℕ}
 use lib.ListN.{length, replicate}
-use Rattle.semigroups.specs.Lists.{range, elements, at, all, find, keep, count, sum, member, distinct, earlier, lists}
+use Rattle.semigroups.specs.Lists.{range, elements, at, all, find, keep, firstOf, count, sum, member, distinct, earlier, lists}
 use Rattle.semigroups.specs.Tables.{product, grid, Accepted, isElement, associates, badCell, badTriple}
 use Rattle.semigroups.specs.Scratch.{scratchSize}
-use Rattle.semigroups.specs.Questions.{Refusal, no, naming, firstNo, cellsRefusal, tableRefusal, tablesRefusal, checkRefusal, searchRefusal}
+use Rattle.semigroups.specs.Questions.{Refusal, no, naming, searchRefusal}
 use Rattle.semigroups.specs.Maps.{isHomomorphism, isEmbedding, isIsomorphism, isomorphisms, maps, next, earliest, after}
 use Rattle.semigroups.specs.Walks.{refused, found, nothing, Outcome, held, outcomeOf, nextOutcome, walk, claim, finally}
 use Rattle.semigroups.specs.Transformations.{transformations, transformationOrder, transformation, numberOf, transformationProduct, transformationCells}
@@ -131,7 +131,7 @@ answers =
     ∷ record { says = refused (no 6 []); buffer = 4 ∷ 2 ∷ 3 ∷ 1 ∷ [] } ∷ record { says = nothing; buffer = 4 ∷ 2 ∷ 3 ∷ 1 ∷ [] } ∷ []
 
 refusals : (refusal (two .order) (onto (replicate 15 0)) ≡ some (no 6 [])) × (refusal (two .order) too-few ≡ some (no 5 [])) × (refusal (two .order) not-associative ≡ some (naming 1 (no 4 (1 ∷ 1 ∷ 2 ∷ [])))) × (refusal (two .order) (onto []) ≡ some (no 6 []))
-unfolding onto lending too-few not-associative refusal two range elements at find count sum earlier lists product grid isElement associates badCell badTriple firstNo cellsRefusal tableRefusal tablesRefusal checkRefusal searchRefusal scratchSize after transformations transformationOrder transformation numberOf transformationProduct transformationCells orElse flatMap
+unfolding onto lending too-few not-associative refusal two range elements at find count sum earlier lists product grid isElement associates badCell badTriple firstOf searchRefusal scratchSize after transformations transformationOrder transformation numberOf transformationProduct transformationCells orElse flatMap
 refusals = (refl, refl, refl, refl)
 
 two-is-walk : IsWalk (two .order) (two .cells) (two .cells) calls
@@ -143,7 +143,7 @@ two-is-walk =
     (walk-lending m t t _ _ (walk-lending m t t _ _ (walk-refused m t t _ _ (refusals .3) _ (walk-lending m t t _ _ (walk-empty m t t))))))))
 
 two-claim : claim (refusal (two .order)) (zeros (two .order)) (fullList (two .order) (two .cells) (two .cells)) 0 calls ≡ answers
-unfolding calls answers onto lending too-few not-associative refusal two range elements at all find keep count sum member distinct earlier lists product grid isElement associates badCell badTriple firstNo cellsRefusal tableRefusal tablesRefusal checkRefusal searchRefusal scratchSize isHomomorphism isEmbedding isIsomorphism maps after transformations transformationOrder transformation numberOf transformationProduct transformationCells orElse flatMap held
+unfolding calls answers onto lending too-few not-associative refusal two range elements at all find keep count sum member distinct earlier lists product grid isElement associates badCell badTriple firstOf searchRefusal scratchSize isHomomorphism isEmbedding isIsomorphism maps after transformations transformationOrder transformation numberOf transformationProduct transformationCells orElse flatMap held
 two-claim = refl
 
 accepted-two : Accepted (two .order) (two .cells)
@@ -174,7 +174,7 @@ across-is-walk =
     walk-lending 2 (left .cells) (right .cells) _ _ (walk-lending 2 (left .cells) (right .cells) _ _ (walk-lending 2 (left .cells) (right .cells) _ _ (walk-empty 2 (left .cells) (right .cells))))
 
 across-claim : claim (refusal 2) (zeros 2) (fullList 2 (left .cells) (right .cells)) 0 calls-across ≡ answers-across
-unfolding calls-across answers-across across lending refusal range elements at all find keep member distinct lists product isElement associates badCell badTriple firstNo cellsRefusal tableRefusal tablesRefusal checkRefusal searchRefusal scratchSize isHomomorphism isEmbedding isIsomorphism maps orElse flatMap held
+unfolding calls-across answers-across across lending refusal range elements at all find keep member distinct lists product isElement associates badCell badTriple firstOf searchRefusal scratchSize isHomomorphism isEmbedding isIsomorphism maps orElse flatMap held
 across-claim = refl
 
 across-walk : walk nextIsomorphism calls-across (zeros 2) ≡ answers-across

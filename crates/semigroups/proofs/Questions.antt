@@ -89,7 +89,7 @@ first-sided side (q ∷ qs) = go (first-sided side qs) (q .fails)
     go later none = later
     go later (some values) = refl
 
-orElse-none : {A : Type 0} (p q : Option A) → orElse p q ≡ none → (p ≡ none) × (q ≡ none)
+pub orElse-none : {A : Type 0} (p q : Option A) → orElse p q ≡ none → (p ≡ none) × (q ≡ none)
 unfolding orElse
 orElse-none none q e = (refl, e)
 orElse-none (some x) q e = absurd (let z : _≡_ {A = ℕ} 0 1 = cc in let y : ⊥ = omega arith in y)

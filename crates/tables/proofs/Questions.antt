@@ -1,19 +1,20 @@
 -- The questions about a table, one by one: what each way out of them answers. Assumes nothing.
-use mathlib.Core.Path.{_≡_, refl, ap, _∙_}
+use mathlib.Core.Path.{_≡_, refl, sym, ap, ap₂, _∙_}
 use mathlib.Core.Bool.{Bool, cond, not}
-use mathlib.Core.List.{List, [], _∷_}
-use mathlib.Core.Option.{Option, none, some, Option·map, orElse}
+use mathlib.Core.List.{List, [], _∷_, map}
+use mathlib.Core.Option.{Option, none, some, Option·map, orElse, map-eq-none-iff}
 use Prim.Native.Nat.{ℕ, _+_, _-_, _*_, _≤_, _<_}
 use native.Mathlib.Nat.{mul-le-mul}
 use borrow.Author.Tests.{le-leb, lt-leb, eq-eqb, ne-eqb}
 use lib.ListN.{length, getD}
-use Rattle.semigroups.specs.Lists.{elements, at}
+use Rattle.semigroups.specs.Lists.{elements, at, firstOf}
 use Rattle.semigroups.specs.Tables.{product, Element, isElement, associates, badCell, badTriple, Filled, Accepted}
-use Rattle.semigroups.specs.Questions.{Refusal, no, firstNo, cellsRefusal, tableRefusal, tablesRefusal, naming, onSide}
-use Rattle.semigroups.proofs.Tables.{place-below, orElse-none, map-none, accepted}
-use Rattle.semigroups.proofs.Completions.{find-firstOf, firstFrom, first-start, first-skip, first-hit, first-end}
+use Rattle.semigroups.specs.Questions.{seek, onSide, Refusal, no, naming, refusalBy, firstNo, tripleQuestion, cellsQuestions, cellsRefusal, tableQuestions, tableRefusal, tablesRefusal}
+use Rattle.semigroups.proofs.Tables.{place-below, accepted}
+use Rattle.semigroups.proofs.Questions.{orElse-none, first-sided, first-append, failed-before, passed-before}
+use Rattle.semigroups.proofs.Completions.{orElse-nothing, find-firstOf, firstFrom, first-start, first-skip, first-hit, first-end}
 use Rattle.semigroups.proofs.Booleans.{not-of-true, not-of-false}
-use Rattle.tables.proofs.Remaining.{orElse-nothing, remaining, begin, enter, pass, hit, leave}
+use Rattle.tables.proofs.Remaining.{remaining, begin, enter, pass, hit, leave}
 
 pub square-small : (n : ℕ) → n ≤ 120 → n * n ≤ 14400
 square-small n h = mul-le-mul h h
@@ -122,28 +123,32 @@ module _ (n : ℕ) (cells : List ℕ) where
   -- ---- the questions in order
 
   pub order-low : n < 1 → cellsRefusal n cells ≡ some (no 1 [])
-  unfolding cellsRefusal firstNo isElement orElse
+  unfolding cellsRefusal firstOf isElement orElse
   order-low h = rw (lt-leb 1 n h)
 
   pub order-high : 1 ≤ n → 120 < n → cellsRefusal n cells ≡ some (no 1 [])
-  unfolding cellsRefusal firstNo isElement orElse
+  unfolding cellsRefusal firstOf isElement orElse
   order-high l h = rw (le-leb 1 n l, lt-leb n 120 h)
 
   pub wrong-size : 1 ≤ n → n ≤ 120 → (length cells ≡ n * n → ⊥) → cellsRefusal n cells ≡ some (no 2 [])
-  unfolding cellsRefusal firstNo isElement orElse
+  unfolding cellsRefusal firstOf isElement orElse
   wrong-size l h e = rw (le-leb 1 n l, le-leb n 120 h, ne-eqb (length cells) (n * n) e)
 
   pub right-size : 1 ≤ n → n ≤ 120 → length cells ≡ n * n → (o : Option ℕ) → badCell n cells ≡ o → cellsRefusal n cells ≡ Option·map (λ k. no 3 (k ∷ [])) o
-  unfolding cellsRefusal firstNo isElement orElse
-  right-size l h e o w = rw (le-leb 1 n l, le-leb n 120 h, eq-eqb (length cells) (n * n) e, w) (orElse-nothing (Option·map (λ k. no 3 (k ∷ [])) o))
+  unfolding cellsRefusal firstOf isElement orElse
+  right-size l h e o w = rw (le-leb 1 n l, le-leb n 120 h, eq-eqb (length cells) (n * n) e, w) (said o)
+    where
+      said : (o : Option ℕ) → firstNo (seek 3 (Option·map (λ k. k ∷ []) o) ∷ []) ≡ Option·map (λ k. no 3 (k ∷ [])) o
+      said none = refl
+      said (some k) = refl
 
   pub cells-refused : (r : Refusal) → cellsRefusal n cells ≡ some r → tableRefusal n cells ≡ some r
-  unfolding tableRefusal firstNo orElse
-  cells-refused r e = rw e
+  unfolding tableRefusal cellsRefusal
+  cells-refused r e = failed-before (cellsQuestions n cells) (tripleQuestion n cells ∷ []) e
 
   pub cells-pass : cellsRefusal n cells ≡ none → tableRefusal n cells ≡ Option·map (λ l. no 4 l) (badTriple n (product n cells))
-  unfolding tableRefusal firstNo orElse
-  cells-pass e = rw e (orElse-nothing (Option·map (λ l. no 4 l) (badTriple n (product n cells))))
+  unfolding tableRefusal cellsRefusal firstOf
+  cells-pass e = passed-before (cellsQuestions n cells) (tripleQuestion n cells ∷ []) e ∙ orElse-nothing (refusalBy (tripleQuestion n cells))
 
 pub accepted-filled : (n : ℕ) (cells : List ℕ) → Accepted n cells → Filled n cells
 accepted-filled n cells a = record { order = (a .from-one, a .to-limit); size = a .size; in-range = a .in-range }
@@ -151,23 +156,25 @@ accepted-filled n cells a = record { order = (a .from-one, a .to-limit); size = 
 -- ---- the questions about two tables
 
 module _ (m : ℕ) (source : List ℕ) (n : ℕ) (target : List ℕ) where
+  tables-first : tablesRefusal m source n target ≡ orElse (Option·map (naming 1) (tableRefusal m source)) (Option·map (naming 2) (tableRefusal n target))
+  unfolding tablesRefusal tableRefusal
+  tables-first =
+      first-append (map (onSide 1) (tableQuestions m source)) (map (onSide 2) (tableQuestions n target))
+      ∙ ap₂ orElse (first-sided 1 (tableQuestions m source)) (first-sided 2 (tableQuestions n target))
+
   pub source-refused : (r : Refusal) → tableRefusal m source ≡ some r → tablesRefusal m source n target ≡ some (naming 1 r)
-  unfolding tablesRefusal firstNo orElse
-  source-refused r e = rw e
+  unfolding orElse
+  source-refused r e = tables-first ∙ rw e
 
   pub target-refused : (r : Refusal) → tableRefusal m source ≡ none → tableRefusal n target ≡ some r → tablesRefusal m source n target ≡ some (naming 2 r)
-  unfolding tablesRefusal firstNo orElse
-  target-refused r e g = rw (e, g)
+  unfolding orElse
+  target-refused r e g = tables-first ∙ rw (e, g)
 
   pub both-pass : tableRefusal m source ≡ none → tableRefusal n target ≡ none → tablesRefusal m source n target ≡ none
-  unfolding tablesRefusal firstNo orElse
-  both-pass e g = rw (e, g)
+  unfolding orElse
+  both-pass e g = tables-first ∙ rw (e, g)
 
   pub tables-accepted : tablesRefusal m source n target ≡ none → Accepted m source × Accepted n target
-  unfolding tablesRefusal firstNo
   tables-accepted e =
-      let first = onSide 1 (tableRefusal m source) in
-      let second = onSide 2 (tableRefusal n target) in
-      let p = orElse-none first (orElse second none) e in
-      let q = orElse-none second none (p .1) in
-      (accepted m source (map-none (naming 1) (tableRefusal m source) (p .0)), accepted n target (map-none (naming 2) (tableRefusal n target) (q .0)))
+      let p = orElse-none (Option·map (naming 1) (tableRefusal m source)) (Option·map (naming 2) (tableRefusal n target)) (sym tables-first ∙ e) in
+      (accepted m source (map-eq-none-iff (naming 1) (tableRefusal m source) .0 (p .0)), accepted n target (map-eq-none-iff (naming 2) (tableRefusal n target) .0 (p .1)))

@@ -8,17 +8,7 @@ use Prim.Native.Nat.{ℕ, zero, suc, _+_, _≤_, _<_}
 use native.Mathlib.Omega.{arith}
 use Rattle.semigroups.specs.Lists.{find, lists}
 use Rattle.semigroups.specs.Tables.{Element}
-use Rattle.semigroups.proofs.Completions.{findBehind, find-all, find-whole, find-entry, firstFrom, first-start, first-step, first-end}
-
-orElse-assoc : {A : Type 0} (a b c : Option A) → orElse (orElse a b) c ≡ orElse a (orElse b c)
-unfolding orElse
-orElse-assoc none b c = refl
-orElse-assoc (some x) b c = refl
-
-pub orElse-nothing : {A : Type 0} (a : Option A) → orElse a none ≡ a
-unfolding orElse
-orElse-nothing none = refl
-orElse-nothing (some x) = refl
+use Rattle.semigroups.proofs.Completions.{orElse-assoc, orElse-nothing, findBehind, find-all, find-whole, find-entry, firstFrom, first-start, first-step, first-end}
 
 module _ (test : List ℕ → Bool) (n : ℕ) where
   -- The answers for the next entry y.

@@ -9,10 +9,10 @@ use native.Mathlib.Omega.{arith}
 use borrow.Author.Tests.{le-leb, lt-leb}
 use lib.ListN.{length, take, drop, getD, replicate, List·getD-append}
 use lib.Seq.{take-all}
-use Rattle.semigroups.specs.Lists.{at}
+use Rattle.semigroups.specs.Lists.{at, firstOf}
 use Rattle.semigroups.specs.Tables.{Element, isElement, grid}
 use Rattle.semigroups.specs.Maps.{after}
-use Rattle.semigroups.specs.Questions.{Refusal, no, firstNo}
+use Rattle.semigroups.specs.Questions.{Refusal, no}
 use Rattle.semigroups.specs.Calls.{refused, gives}
 use Rattle.semigroups.specs.Transformations.{transformationOrder, transformation, transformationProduct, transformationCells, transformationRefusal}
 use Rattle.semigroups.proofs.Composition.{at-after, length-after}
@@ -151,23 +151,23 @@ module _ (d : ℕ) (before : List ℕ) where
   by-question r e = (rw e, rw e)
 
   pub degree-low : d < 1 → Refused (no 8 [])
-  unfolding transformationRefusal firstNo isElement orElse
+  unfolding transformationRefusal firstOf isElement orElse
   degree-low h = by-question (no 8 []) (rw (lt-leb 1 d h))
 
   pub degree-high : 1 ≤ d → 3 < d → Refused (no 8 [])
-  unfolding transformationRefusal firstNo isElement orElse
+  unfolding transformationRefusal firstOf isElement orElse
   degree-high l h = by-question (no 8 []) (rw (le-leb 1 d l, lt-leb d 3 h))
 
   module _ (e : Element 3 d) (n : ℕ) (s : n ≡ transformationOrder d) where
     pub cells-short : length before < n * n → Refused (no 9 [])
-    unfolding transformationRefusal firstNo isElement orElse
+    unfolding transformationRefusal firstOf isElement orElse
     cells-short h =
         let size : ℕ = transformationOrder d * transformationOrder d in
         let less : length before < size = subst (λ (m : ℕ). length before < m * m) s h in
         by-question (no 9 []) (rw (le-leb 1 d (e .0), le-leb d 3 (e .1), lt-leb size (length before) less))
 
     none-failed : n * n ≤ length before → transformationRefusal d (length before) ≡ none
-    unfolding transformationRefusal firstNo isElement orElse
+    unfolding transformationRefusal firstOf isElement orElse
     none-failed h =
         let size : ℕ = transformationOrder d * transformationOrder d in
         let room : size ≤ length before = subst (λ (m : ℕ). m * m ≤ length before) s h in
