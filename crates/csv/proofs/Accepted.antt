@@ -18,12 +18,13 @@ use Rattle.csv.specs.Decimals.{numeral, value}
 use Rattle.csv.specs.Records.{rows, rowsText}
 use Rattle.csv.specs.Tables.{fieldsOf, orderOf, cellsOf, tableText}
 use Rattle.csv.specs.Questions.{fieldRefusal, fieldsRefusal, isSquare, gridRefusal, loadRefusal}
+use Rattle.csv.specs.Passing.{Number}
 use Rattle.csv.proofs.Every.{Every, every-append}
 use Rattle.csv.proofs.Bytes.{clean, clean-other, other-clean, no-other, closed, closed-some, ends-passes}
 use Rattle.csv.proofs.Scan.{none-refused}
 use Rattle.csv.proofs.Rows.{Digits, Row, Rows, rows-rowsText, rowsText-rows, clean-rows, rows-some, rowsText-clean, rowsText-ends}
 use Rattle.csv.proofs.Decimals.{numeral-one, numeral-digits, numeral-long, numeral-leading, digits-few, value-numeral, numeral-value}
-use Rattle.csv.proofs.Fields.{Number, field-passes, field-passed, no-fields, fields-first, fields-passed}
+use Rattle.csv.proofs.Fields.{field-passes, field-passed, no-fields, fields-first, fields-passed}
 use Rattle.csv.proofs.Records.{ends, missing-none}
 use Rattle.csv.proofs.Tables.{split, Even, length-split, split-even, flatten-split, split-flatten, table-rows, flatten-map, text-length}
 use Rattle.csv.proofs.Judging.{says-passed}

@@ -1,7 +1,7 @@
 -- The field of digits at a place of a text, and questions 22 to 25.
 -- Assumes nothing.
 use mathlib.Core.Path.{_≡_, refl, ap, sym, _∙_}
-use mathlib.Core.Bool.{Bool, true, false, _&&_, not, cond, and-false}
+use mathlib.Core.Bool.{Bool, true, false, not, cond, and-false}
 use mathlib.Core.List.{List, [], _∷_, flatMap}
 use mathlib.Core.Option.{none, some, orElse}
 use Prim.Native.Nat.{ℕ, suc, _+_, _-_, _*_, _^_, _≤_, _<_}
@@ -15,13 +15,13 @@ use borrow.Author.Tests.{leb-true, leb-false, le-leb, lt-leb, le-ltb, eqb-false,
 use Rattle.semigroups.specs.Tables.{isElement}
 use Rattle.semigroups.specs.Lists.{firstOf}
 use Rattle.semigroups.specs.Questions.{no}
-use Rattle.semigroups.proofs.Booleans.{and-left, and-right}
 use Rattle.semigroups.proofs.Lists.{is-element}
 use Rattle.semigroups.proofs.Questions.{ask-passed, all-passed, first-append, both-passed}
 use Rattle.csv.specs.Decimals.{isDigit, digits, value}
 use Rattle.csv.specs.Records.{isBreak}
 use Rattle.csv.specs.Cursor.{fieldEnd, commaBehind, nextField, fieldFollows}
 use Rattle.csv.specs.Questions.{breakAt, endRefusal, fieldQuestions, fieldRefusal, fieldsQuestions, fieldsRefusal}
+use Rattle.csv.specs.Passing.{Number}
 
 -- ---- the digits at a place
 
@@ -161,13 +161,6 @@ module _ (f : List ℕ) where
     field-passes h g = simp (le-leb _ _ one, le-leb _ _ three, ne-eqb _ _ h, le-leb _ _ g)
 
 -- ---- a field that passes
-
--- What 23, 24 and 25 show of a field.
-pub record Number (f : List ℕ) : Type 0 where
-  pub some-byte : 1 ≤ length f
-  pub short : length f ≤ 3
-  pub leading : getD f 0 0 ≡ 48 → ⊥
-  pub small : value f ≤ 120
 
 pub field-passed : (f : List ℕ) → fieldRefusal f ≡ none → Number f
 unfolding fieldRefusal

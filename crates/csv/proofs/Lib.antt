@@ -4,6 +4,7 @@ pub mod Bytes
 pub mod Rows
 pub mod Decimals
 pub mod Fields
+pub mod Passing
 pub mod Scan
 pub mod Reading
 pub mod Judging

@@ -3,5 +3,6 @@ pub mod Records
 pub mod Cursor
 pub mod Tables
 pub mod Questions
+pub mod Passing
 pub mod Calls
 pub mod Rounds

@@ -1,15 +1,34 @@
--- Rounds: a text is loaded and what was loaded is saved, again and again, on one text buffer and one cell buffer.
+-- The round trips of demand 2; and rounds: a text is loaded and what was loaded is saved, again and again, on one text buffer and one cell buffer.
 -- Assumes nothing.
+use mathlib.Core.Path.{_≡_}
 use mathlib.Core.List.{List}
 use Prim.Native.Nat.{ℕ, zero, suc, _*_}
-use lib.ListN.{take}
-use Rattle.semigroups.specs.Calls.{Answer, refused, gives}
+use lib.ListN.{length, take}
+use Rattle.semigroups.specs.Calls.{Answer, refused, gives, overwritten}
 use Rattle.csv.specs.Calls.{loadAnswer, cellsAfter, saveAnswer, textAfter}
+
+-- ---- there and back
+
+-- The table of order n with these cells, saved into the buffer `text`, loads into the buffer `cells-buffer` as the same order and cells.
+pub record SavedLoads (n : ℕ) (cells text cells-buffer : List ℕ) : Type 0 where
+  pub size : ℕ
+  pub saved : saveAnswer n cells text ≡ gives size
+  pub order : loadAnswer (take size (textAfter n cells text)) cells-buffer ≡ gives n
+  pub cells-same : cellsAfter (take size (textAfter n cells text)) cells-buffer ≡ overwritten cells cells-buffer
+
+-- The text t, loaded into the buffer `cells-buffer`, saves into the buffer `text` as the same bytes.
+pub record LoadedSaves (t cells-buffer text : List ℕ) : Type 0 where
+  pub order : ℕ
+  pub loaded : loadAnswer t cells-buffer ≡ gives order
+  pub size : saveAnswer order (take (order * order) (cellsAfter t cells-buffer)) text ≡ gives (length t)
+  pub text-same : textAfter order (take (order * order) (cellsAfter t cells-buffer)) text ≡ overwritten t text
+
+-- ---- again and again
 
 -- The two buffers, and how many bytes of the first are the text.
 pub record Buffers : Type 0 where
   pub text : List ℕ
-  pub length : ℕ
+  pub size : ℕ
   pub cells : List ℕ
 
 -- The number that is given; 0 stands for none.
@@ -19,11 +38,11 @@ given (gives x) = x
 
 -- The text that stands there.
 abbrev pub held : Buffers → List ℕ
-held b = take (b .length) (b .text)
+held b = take (b .size) (b .text)
 
 -- A table is saved.
 unfoldable pub saved : ℕ → List ℕ → Buffers → Buffers
-saved n cells b = record { text = textAfter n cells (b .text); length = given (saveAnswer n cells (b .text)); cells = b .cells }
+saved n cells b = record { text = textAfter n cells (b .text); size = given (saveAnswer n cells (b .text)); cells = b .cells }
 
 -- The order and the cells that loading the text gives.
 abbrev pub loadedOrder : Buffers → ℕ
@@ -34,8 +53,15 @@ loadedCells b = take (loadedOrder b * loadedOrder b) (cellsAfter (held b) (b .ce
 
 -- One round: the text is loaded, and the table that this gives is saved.
 unfoldable pub round : Buffers → Buffers
-round b = saved (loadedOrder b) (loadedCells b) (record { text = b .text; length = b .length; cells = cellsAfter (held b) (b .cells) })
+round b = saved (loadedOrder b) (loadedCells b) (record { text = b .text; size = b .size; cells = cellsAfter (held b) (b .cells) })
 
 unfoldable pub rounds : ℕ → Buffers → Buffers
 rounds zero b = b
 rounds (suc k) b = round (rounds k b)
+
+-- After any number of rounds: the text buffer and the text's length are what the first saving left, and loading gives the table.
+pub record Unchanged (n : ℕ) (cells : List ℕ) (first b : Buffers) : Type 0 where
+  pub text : b .text ≡ first .text
+  pub size : b .size ≡ first .size
+  pub order : loadAnswer (held b) (b .cells) ≡ gives n
+  pub cells-same : loadedCells b ≡ cells

@@ -1,3 +1,4 @@
 pub mod Calls
+pub mod Wanted
 pub mod Answers
 pub mod Walks

@@ -13,6 +13,7 @@ use Rattle.semigroups.specs.Maps.{Isomorphism, isomorphisms, maps}
 use Rattle.semigroups.specs.Isomorphisms.{IsGroup, EachOnce}
 use Rattle.semigroups.specs.Walks.{refused, Outcome, held, walk, claim, answered, finally}
 use Rattle.search.specs.Calls.{Lent, theNext, call}
+use Rattle.search.specs.Wanted.{Passes}
 
 -- What a call of a walk lends beside the map buffer.
 pub record Beside : Type 0 where
@@ -66,6 +67,12 @@ pub record Demand3 (m : ℕ) (source target : List ℕ) : Type 0 where
       → finally (zeros m) (walk nextIsomorphism cs (zeros m)) ≡ held (zeros m) (fullList m source target) (answered (refusal m) 0 cs)
   -- A call is refused exactly where a question gets "no", and says the earliest one's refusal.
   pub refused-exactly : (c : Beside) (bytes : List ℕ) → length bytes ≡ m → (r : Refusal) → (nextIsomorphism c bytes .says ≡ refused r) ↔ (refusal m c ≡ some r)
+  -- A refused call changes no byte of the map buffer or of scratch.
+  pub refused-unchanged : (c : Beside) (bytes : List ℕ) → length bytes ≡ m → (r : Refusal) → refusal m c ≡ some r
+      → call isomorphisms theNext (lentOn c bytes) ≡ record { says = refused r; map = bytes; scratch = c .scratch }
+  -- Only a failed question refuses: a call is not refused exactly if both tables that it lends are accepted, the map buffer has a byte for each
+  -- element of the source, and scratch has at least the bytes that its marks take.
+  pub answered-exactly : (c : Beside) (bytes : List ℕ) → ((r : Refusal) → nextIsomorphism c bytes .says ≡ refused r → ⊥) ↔ Passes (lentOn c bytes)
   -- The full list is empty or as long as the first table's onto itself.
   pub empty-or-as-long : (fullList m source target ≡ []) ⊎ (length (fullList m source target) ≡ length (fullList m source source))
   -- Any entry done after each entry of that list gives every isomorphism exactly once and nothing else.

@@ -1,14 +1,16 @@
--- The worked table under one claim: each question's answer, by the definitions, is the one that stands beside it. Assumes nothing.
+-- The worked table under one claim: thirteen cases, each question's answer by the definitions the one that stands beside it, and the tables they
+-- name. Assumes nothing.
 use mathlib.Core.Path.{_≡_, refl, sym, ap, _∙_}
-use mathlib.Core.List.{List, [], _∷_, map, flatMap, List·Memᴰ, List·Memᴰ·head, List·Memᴰ·tail, head-eq-of-cons-eq, tail-eq-of-cons-eq}
-use mathlib.Core.Option.{orElse}
+use mathlib.Core.List.{List, _∷_, map, flatMap, List·Memᴰ, List·Memᴰ·head, List·Memᴰ·tail, head-eq-of-cons-eq, tail-eq-of-cons-eq}
+use mathlib.Core.Option.{none, orElse}
 use Rattle.semigroups.specs.Lists.{range, elements, at, all, find, keep, firstOf, sum, count, least, member, distinct, earlier, lists}
 use Rattle.semigroups.specs.Tables.{product, grid, isElement, associates, badCell, badTriple}
 use Rattle.semigroups.specs.Questions.{tableRefusal}
 use Rattle.semigroups.specs.Invariants.{power, periodFrom, index, period, indexPeriod, frequency, diagonalFrequency, rowFrequency, columnFrequency, profile}
 use Rattle.semigroups.specs.Maps.{isHomomorphism, isEmbedding, isIsomorphism, maps, earliest, after}
 use Rattle.semigroups.specs.Transformations.{transformations, transformationOrder, transformation, numberOf, transformationProduct, transformationCells}
-use Rattle.semigroups.specs.Cases.{Case, answer, cases, left, two}
+use Rattle.semigroups.specs.Cases.{Table, left, two, tables, Case, answer, cases, Worked}
+use Rattle.semigroups.proofs.Tables.{accepted}
 
 -- Two functions that agree over a list agree at each entry.
 each : {A B : Type 0} (f g : A → B) (l : List A) → map f l ≡ map g l → (c : A) → List·Memᴰ c l → f c ≡ g c
@@ -19,13 +21,20 @@ computed : map (λ (c : Case). answer (c .asks)) cases ≡ map (λ (c : Case). c
 unfolding answer cases two range elements at all find keep sum count least member distinct earlier lists product grid isElement associates badCell badTriple firstOf tableRefusal power periodFrom index period indexPeriod frequency diagonalFrequency rowFrequency columnFrequency profile isHomomorphism isEmbedding isIsomorphism maps earliest after transformations transformationOrder transformation numberOf transformationProduct transformationCells orElse flatMap
 computed = refl
 
-pub worked : (c : Case) → List·Memᴰ c cases → answer (c .asks) ≡ c .says
-worked c m = each (λ (x : Case). answer (x .asks)) (λ (x : Case). x .says) cases computed c m
+-- Whether each table has no failed question.
+passed : map (λ (t : Table). tableRefusal (t .order) (t .cells)) tables ≡ map (λ (t : Table). none) tables
+unfolding two range elements at sum count earlier find lists product grid isElement associates badCell badTriple firstOf tableRefusal after transformations transformationOrder transformation numberOf transformationProduct transformationCells orElse flatMap
+passed = refl
 
--- The degree 2 table has the cells that 01 prints.
-two-printed : two ≡ record { order = 4; cells = 1 ∷ 1 ∷ 4 ∷ 4 ∷ 1 ∷ 2 ∷ 3 ∷ 4 ∷ 1 ∷ 3 ∷ 2 ∷ 4 ∷ 1 ∷ 4 ∷ 1 ∷ 4 ∷ [] }
-unfolding two range elements at sum count earlier lists grid after transformations transformationOrder transformation numberOf transformationProduct transformationCells flatMap
-two-printed = refl
+pub worked : Worked
+worked =
+    record {
+      thirteen = unfold cases in refl;
+      answers = each (λ (x : Case). answer (x .asks)) (λ (x : Case). x .says) cases computed;
+      accepted = λ t m. accepted (t .order) (t .cells) (each (λ (x : Table). tableRefusal (x .order) (x .cells)) (λ (x : Table). none) tables passed t m);
+      two-printed = unfold two range elements at sum count earlier lists grid after transformations transformationOrder transformation numberOf transformationProduct transformationCells flatMap in refl;
+      degrees-printed = unfold range elements lists grid transformations transformationOrder transformationCells flatMap in refl;
+    }
 
 -- Row and column counts differ where products depend on the side: in left, element 1 stands twice in its row and once in its column.
 row-and-column : (rowFrequency 2 (product 2 (left .cells)) 1 ≡ 2) × (columnFrequency 2 (product 2 (left .cells)) 1 ≡ 1)

@@ -1,19 +1,22 @@
 -- The mathematics of demand 3 for two tables of one order with closed products: the list onto itself is a group, the full list is empty or as long
 -- as it, and any entry done after each entry of it gives every isomorphism exactly once. Assumes nothing.
 use mathlib.Core.Path.{_≡_, refl, sym, ap, _∙_, subst, subst₂}
-use mathlib.Core.Logic.{_⊎_, inl, inr}
+use mathlib.Core.Logic.{_⊎_, inl, inr, _↔_}
 use mathlib.Core.List.{List, [], _∷_, map, List·Memᴰ, List·Memᴰ·head, Memᴰ·cast, Memᴰ·of-map, Memᴰ·map}
-use Prim.Native.Nat.{ℕ, _≤_}
+use Prim.Native.Nat.{ℕ, _≤_, _<_}
 use native.Mathlib.Nat.{le-antisymm}
+use native.Mathlib.Omega.{arith}
 use lib.ListN.{length, getD, length-map}
-use Rattle.semigroups.specs.Lists.{NoRepeats}
-use Rattle.semigroups.specs.Tables.{Product, Closed}
+use Rattle.semigroups.specs.Lists.{at, NoRepeats}
+use Rattle.semigroups.specs.Tables.{Product, IsList, Closed}
 use Rattle.semigroups.specs.Maps.{Embedding, embeddings, isomorphisms, maps, identity, after, inverse}
 use Rattle.semigroups.specs.Isomorphisms.{IsGroup, EachOnce}
-use Rattle.semigroups.proofs.NoRepeats.{length-inside, mem-place, place-mem, place-unique, map-no-repeats}
+use Rattle.semigroups.proofs.Lists.{ext-at}
+use Rattle.semigroups.proofs.Tables.{list-at}
+use Rattle.semigroups.proofs.NoRepeats.{length-inside, mem-place, place-mem, place-unique, places-no-repeats, map-no-repeats}
 use Rattle.semigroups.proofs.ListOrder.{increasing-no-repeats}
 use Rattle.semigroups.proofs.Maps.{maps-increasing, mem-maps, maps-mem, one-order}
-use Rattle.semigroups.proofs.Composition.{identity-embeds, after-embeds, inverse-at, inverse-embeds, after-inverse, after-cancels}
+use Rattle.semigroups.proofs.Composition.{identity-embeds, at-after, length-after, after-embeds, inverse-at, inverse-embeds, after-inverse, after-cancels}
 
 module _ (n : ℕ) (s t : Product) (c : Closed n s) where
   -- Between tables of one order every isomorphism is an embedding and the other way round.
@@ -94,3 +97,49 @@ module _ (n : ℕ) (s t : Product) (c : Closed n s) where
   pub empty-or-as-long : (maps isomorphisms n s n t ≡ []) ⊎ (length (maps isomorphisms n s n t) ≡ length (maps isomorphisms n s n s))
   unfolding own every
   empty-or-as-long = subst₂ (λ (o e : List (List ℕ)). (e ≡ []) ⊎ (length e ≡ length o)) (sym (one-order n s s)) (sym (one-order n s t)) long
+
+-- ---- what the two records say
+
+-- The maps made are exactly the entries of `every`.
+pub made-exactly : (f : List ℕ) (own every : List (List ℕ)) → EachOnce f own every → (g : List ℕ) → List·Memᴰ g (map (after f) own) ↔ List·Memᴰ g every
+made-exactly f own every e g = (into, out)
+  where
+    into : List·Memᴰ g (map (after f) own) → List·Memᴰ g every
+    into m =
+        let a = Memᴰ·of-map (after f) own m in
+        let k = mem-place [] own (a .1) in
+        Memᴰ·cast (sym (ap (after f) (k .2) ∙ a .2)) (e .nothing-else (k .0) (k .1))
+
+    out : List·Memᴰ g every → List·Memᴰ g (map (after f) own)
+    out m = let k = e .at-one-place g m in Memᴰ·cast (sym (k .2)) (Memᴰ·map (after f) (place-mem [] own (k .0) (k .1)))
+
+-- No map is made twice.
+pub made-once : (f : List ℕ) (own every : List (List ℕ)) → EachOnce f own every → NoRepeats (map (after f) own)
+made-once f own every e = map-no-repeats (after f) own (places-no-repeats [] own (λ i j hi hj q. one-place i j hi hj (ap (after f) q))) cancels
+  where
+    one-place : (i j : ℕ) → i < length own → j < length own → after f (getD own i []) ≡ after f (getD own j []) → i ≡ j
+    one-place i j hi hj q =
+        let k = e .at-one-place (after f (getD own j [])) (e .nothing-else j hj) in
+        k .3 i hi q ∙ sym (k .3 j hj refl)
+
+    cancels : (a b : List ℕ) → List·Memᴰ a own → List·Memᴰ b own → after f a ≡ after f b → a ≡ b
+    cancels a b p q r =
+        let i = mem-place [] own p in
+        let j = mem-place [] own q in
+        sym (i .2) ∙ ap (λ (k : ℕ). getD own k []) (one-place (i .0) (j .0) (i .1) (j .1) (ap (after f) (i .2) ∙ r ∙ sym (ap (after f) (j .2)))) ∙ j .2
+
+-- Of any two entries the second is a third done after the first.
+pub quotient : (n : ℕ) (own : List (List ℕ)) → IsGroup n own → ((a : List ℕ) → List·Memᴰ a own → IsList n n a) → (a b : List ℕ) → List·Memᴰ a own → List·Memᴰ b own
+    → (x : List ℕ) × List·Memᴰ x own × (after x a ≡ b)
+quotient n own g l a b p q =
+    let undo = inverse n a in
+    let A = l a p in
+    let la = A .size in
+    let lu = l undo (g .has-inverses a p) .size in (
+      after b undo,
+      g .has-composites b undo q (g .has-inverses a p),
+      ext-at n (after (after b undo) a) b (length-after (after b undo) a ∙ la) (l b q .size)
+          (λ i h.
+          let w = list-at n n a A i h in
+          at-after (after b undo) a i (omega arith) ∙ at-after b undo (at a i) (omega arith) ∙ ap (at b) (g .inverse-at a p i h)),
+    )

@@ -2,7 +2,7 @@
 -- and complete, and what is found in it is the earliest that passes. Assumes nothing.
 use mathlib.Core.Path.{_≡_, refl, sym, ap, ap₂, _∙_, subst}
 use mathlib.Core.Bool.{Bool, true, false, cond}
-use mathlib.Core.Logic.{_⊎_, inl, inr, ⊎-elim}
+use mathlib.Core.Logic.{_⊎_, inl, inr, ⊎-elim, _↔_}
 use mathlib.Core.Option.{none, some}
 use mathlib.Core.List.{List, [], _∷_, _++_, map, List·Memᴰ, List·Memᴰ·head, List·Memᴰ·tail, List·Memᴰ·not-nil, List·Memᴰ·cases-cons, List·Memᴰ·eq-of-singleton, Memᴰ·of-map, Memᴰ·map}
 use Prim.Native.Nat.{ℕ, zero, suc, _*_, _^_, _<_}
@@ -10,8 +10,8 @@ use native.Mathlib.Nat.{pow-zero, pow-succ'}
 use native.Mathlib.Omega.{arith}
 use borrow.Author.Tests.{eqb-true, eq-eqb, ne-eqb, ltb-true, lt-ltb, le-ltb}
 use lib.Dec.{eqb, ltb}
-use lib.ListN.{length, length-map}
-use Rattle.semigroups.specs.Lists.{range, elements, find, earlier, lists, Increasing, Earliest, NoRepeats}
+use lib.ListN.{length, getD, length-map}
+use Rattle.semigroups.specs.Lists.{range, elements, find, earlier, lists, Increasing, Earlier, Earliest, NoRepeats}
 use Rattle.semigroups.specs.Tables.{Element, IsList}
 use Rattle.semigroups.proofs.Booleans.{clash, untrue, trichotomy}
 use Rattle.semigroups.proofs.Lists.{mem-elements, elements-mem, length-range, find-some, find-none, find-first, sorted-map, sorted-weaken, sorted-range}
@@ -38,6 +38,39 @@ earlier-cases x a y b e = go (eqb x y) refl e
     go : (c : Bool) → eqb x y ≡ c → cond c (earlier a b) (ltb x y) ≡ true → (x < y) ⊎ ((x ≡ y) × (earlier a b ≡ true))
     go true q r = inr (eqb-true x y q, r)
     go false q r = inl (ltb-true x y r)
+
+-- Equal entries in front of lists one of which is earlier.
+earlier-behind : (x y : ℕ) (a b : List ℕ) → x ≡ y → Earlier a b → Earlier (x ∷ a) (y ∷ b)
+earlier-behind x y a b e w =
+    let i = w .in-first in
+    let j = w .in-second in
+    record { place = suc (w .place); in-first = omega arith; in-second = omega arith; same-before = same; smaller = w .smaller }
+  where
+    same : (k : ℕ) → k < suc (w .place) → getD (x ∷ a) k 0 ≡ getD (y ∷ b) k 0
+    same zero l = e
+    same (suc k) l = w .same-before k (omega arith)
+
+earlier-place : (a b : List ℕ) → earlier a b ≡ true → Earlier a b
+unfolding earlier
+earlier-place [] b e = absurd (clash {b = false} e refl)
+earlier-place (x ∷ a) [] e = absurd (clash {b = false} e refl)
+earlier-place (x ∷ a) (y ∷ b) e = go (λ h. earlier-place a b h) (earlier-cases x a y b e)
+  where
+    go : (earlier a b ≡ true → Earlier a b) → (x < y) ⊎ ((x ≡ y) × (earlier a b ≡ true)) → Earlier (x ∷ a) (y ∷ b)
+    go below (inl h) = record { place = 0; in-first = omega arith; in-second = omega arith; same-before = λ k l. absurd (let z : ⊥ = omega arith in z); smaller = h }
+    go below (inr h) = earlier-behind x y a b (h .0) (below (h .1))
+
+place-earlier : (a b : List ℕ) (p : ℕ) → p < length a → p < length b → ((k : ℕ) → k < p → getD a k 0 ≡ getD b k 0) → getD a p 0 < getD b p 0 → earlier a b ≡ true
+place-earlier [] b p h g s l = absurd (let z : ⊥ = omega arith in z)
+place-earlier (x ∷ a) [] p h g s l = absurd (let z : ⊥ = omega arith in z)
+place-earlier (x ∷ a) (y ∷ b) zero h g s l = earlier-head x a y b l
+place-earlier (x ∷ a) (y ∷ b) (suc p) h g s l =
+    ap (λ (v : ℕ). earlier (v ∷ a) (y ∷ b)) (s 0 (omega arith)) ∙ earlier-tail y a b
+    ∙ place-earlier a b p (omega arith) (omega arith) (λ k u. s (suc k) (omega arith)) l
+
+-- The test says what 01 words.
+pub earlier-exactly : (a b : List ℕ) → (earlier a b ≡ true) ↔ Earlier a b
+earlier-exactly a b = (earlier-place a b, λ w. place-earlier a b (w .place) (w .in-first) (w .in-second) (w .same-before) (w .smaller))
 
 pub earlier-irreflexive : (a : List ℕ) → earlier a a ≡ false
 earlier-irreflexive [] = unfold earlier in refl
@@ -72,6 +105,13 @@ earlier-total (x ∷ a) (y ∷ b) e = go (trichotomy x y) (earlier-total a b (om
     go (inl q) (inr (inr r)) = inr (inr (ap (λ (v : ℕ). earlier (y ∷ b) (v ∷ a)) q ∙ earlier-tail y b a ∙ r))
     go (inr (inl h)) d = inr (inl (earlier-head x a y b h))
     go (inr (inr h)) d = inr (inr (earlier-head y b x a h))
+
+-- The earliest with one of two properties that mean the same.
+pub earliest-same : {P Q : List ℕ → Type 0} {a : List ℕ} → ((g : List ℕ) → P g ↔ Q g) → Earliest P a ↔ Earliest Q a
+earliest-same {a = a} w = (
+  (λ e. record { has = w a .0 (e .has); before-others = λ g h. e .before-others g (w g .1 h) }),
+  λ e. record { has = w a .1 (e .has); before-others = λ g h. e .before-others g (w g .0 h) },
+)
 
 -- Equal beginnings do not count.
 pub earlier-skip : (p a b : List ℕ) → earlier (p ++ a) (p ++ b) ≡ earlier a b

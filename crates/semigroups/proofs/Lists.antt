@@ -2,7 +2,7 @@
 use mathlib.Core.Path.{_≡_, refl, sym, ap, ap₂, _∙_, subst}
 use mathlib.Core.Bool.{Bool, true, false, cond, _&&_}
 use mathlib.Core.Logic.{_⊎_, inl, inr, ⊎-elim}
-use mathlib.Core.Option.{Option, none, some, orElse, Option·getD}
+use mathlib.Core.Option.{Option, none, some, orElse, Option·getD, Option·none-ne-some, Option·some-ne-none}
 use mathlib.Core.List.{List, [], _∷_, _++_, map, List·Memᴰ, List·Memᴰ·head, List·Memᴰ·tail, List·Memᴰ·not-nil, List·Memᴰ·cases-cons, List·Memᴰ·append-cases, Memᴰ·of-map}
 use Prim.Native.Nat.{ℕ, zero, suc, _+_, _-_, _≤_, _<_}
 use native.Mathlib.Omega.{arith}
@@ -123,7 +123,7 @@ module _ {A : Type 0} where
   -- What is true of an entry that is found, and of every entry where none is.
   pub find-some : (p : A → Bool) (l : List A) (x : A) → find p l ≡ some x → List·Memᴰ x l × (p x ≡ true)
   unfolding find
-  find-some p [] x e = absurd (let z : _≡_ {A = ℕ} 0 1 = cc in let y : ⊥ = omega arith in y)
+  find-some p [] x e = absurd (Option·none-ne-some x e)
   find-some p (y ∷ l) x e = go (p y) refl e (λ r. find-some p l x r)
     where
       go : (b : Bool) → p y ≡ b → cond b (some y) (find p l) ≡ some x → (find p l ≡ some x → List·Memᴰ x l × (p x ≡ true)) → List·Memᴰ x (y ∷ l) × (p x ≡ true)
@@ -136,7 +136,7 @@ module _ {A : Type 0} where
   find-none p (y ∷ l) e x m = go (p y) refl e (λ r k. find-none p l r x k) (List·Memᴰ·cases-cons m)
     where
       go : (b : Bool) → p y ≡ b → cond b (some y) (find p l) ≡ none → (find p l ≡ none → List·Memᴰ x l → p x ≡ false) → (x ≡ y) ⊎ List·Memᴰ x l → p x ≡ false
-      go true q r below m = absurd (let z : _≡_ {A = ℕ} 0 1 = cc in let y : ⊥ = omega arith in y)
+      go true q r below m = absurd (Option·some-ne-none y r)
       go false q r below (inl e) = ap p e ∙ q
       go false q r below (inr k) = below r k
 

@@ -1,6 +1,6 @@
 -- The map check of m bytes says "holds" exactly for embeddings, and otherwise the earliest fault. The idea: where nothing is found among all elements
 -- or all pairs, every one of them is right. Assumes nothing.
-use mathlib.Core.Path.{_≡_, refl, sym}
+use mathlib.Core.Path.{_≡_, refl, sym, ap, subst}
 use mathlib.Core.Bool.{Bool, _&&_, not}
 use mathlib.Core.Logic.{_⊎_, inl, inr, ⊎-elim, _↔_}
 use mathlib.Core.Option.{Option, none, some}
@@ -16,7 +16,7 @@ use Rattle.semigroups.specs.Maps.{Embedding}
 use Rattle.semigroups.specs.MapCheck.{Checked, holds, outside, equalImages, wrongProduct, unless, firstOutside, firstEqual, firstWrong, checkMap, EqualPair, WrongPair, IsChecked, an-embedding, an-outsider, an-equal-pair, a-wrong-pair}
 use Rattle.semigroups.proofs.Booleans.{clash, untrue, both, and-left, and-right, not-of-false, trichotomy}
 use Rattle.semigroups.proofs.Lists.{mem-elements, elements-mem, is-element, element-is, find-some, find-none, find-first, sorted-range}
-use Rattle.semigroups.proofs.ListOrder.{find-earliest, find-nowhere}
+use Rattle.semigroups.proofs.ListOrder.{earliest-unique, find-earliest, find-nowhere}
 use Rattle.semigroups.proofs.Tables.{pair-list, list-at}
 
 module _ (m : ℕ) (s : Product) (n : ℕ) (t : Product) (f : List ℕ) where
@@ -111,20 +111,52 @@ module _ (m : ℕ) (s : Product) (n : ℕ) (t : Product) (f : List ℕ) where
       at-outside none e = at-equal (within e) (firstEqual m s n t f) refl
       at-outside (some i) e = outsider i e
 
-  embeds-if : (c : Checked) → IsChecked m s n t f c → c ≡ holds → Embedding m s n t f
-  embeds-if c (an-embedding F) e = F
-  embeds-if c (an-outsider i h u w) e = absurd (let z : _≡_ {A = ℕ} 0 1 = cc in let y : ⊥ = omega arith in y)
-  embeds-if c (an-equal-pair l w q) e = absurd (let z : _≡_ {A = ℕ} 0 1 = cc in let y : ⊥ = omega arith in y)
-  embeds-if c (a-wrong-pair l w a q) e = absurd (let z : _≡_ {A = ℕ} 0 1 = cc in let y : ⊥ = omega arith in y)
+  not-apart : (l : List ℕ) → EqualPair m f l → Apart → ⊥
+  not-apart l h a =
+      let r = h .rising in
+      let e = a (at l 1) (at l 2) (list-at 2 m l (h .pair) 1 (omega arith)) (list-at 2 m l (h .pair) 2 (omega arith)) (h .equal) in
+      omega arith
+
+  same-outsider : (i j : ℕ) → Element m i → Element m j → (Element n (at f i) → ⊥) → (Element n (at f j) → ⊥)
+      → ((k : ℕ) → Element m k → k < i → Element n (at f k)) → ((k : ℕ) → Element m k → k < j → Element n (at f k)) → i ≡ j
+  same-outsider i j hi hj ui uj wi wj = go (trichotomy i j)
+    where
+      go : (i ≡ j) ⊎ ((i < j) ⊎ (j < i)) → i ≡ j
+      go (inl e) = e
+      go (inr (inl h)) = absurd (ui (wj i hi h))
+      go (inr (inr h)) = absurd (uj (wi j hj h))
 
   holds-if : (c : Checked) → IsChecked m s n t f c → Embedding m s n t f → c ≡ holds
   holds-if c (an-embedding F) E = refl
   holds-if c (an-outsider i h u w) E = absurd (u (E .homomorphism .within i h))
-  holds-if c (an-equal-pair l w q) E = let h = q .has in let r = h .rising in let e = E .one-to-one (at l 1) (at l 2) (list-at 2 m l (h .pair) 1 (omega arith)) (list-at 2 m l (h .pair) 2 (omega arith)) (h .equal) in absurd (let y : ⊥ = omega arith in y)
+  holds-if c (an-equal-pair l w q) E = absurd (not-apart l (q .has) (E .one-to-one))
   holds-if c (a-wrong-pair l w a q) E =
       let h = q .has in
       absurd (h .wrong (E .homomorphism .keeps-product (at l 1) (at l 2) (list-at 2 m l (h .pair) 1 (omega arith)) (list-at 2 m l (h .pair) 2 (omega arith))))
 
-  -- The check of m bytes says "holds" exactly for embeddings.
+  -- One answer alone is so.
+  one-answer : (c d : Checked) → IsChecked m s n t f c → IsChecked m s n t f d → c ≡ d
+  one-answer c d (an-embedding F) v = sym (holds-if d v F)
+  one-answer c d (an-outsider i h u w) (an-embedding F) = absurd (u (F .homomorphism .within i h))
+  one-answer c d (an-outsider i h u w) (an-outsider j k v x) = ap outside (same-outsider i j h k u v w x)
+  one-answer c d (an-outsider i h u w) (an-equal-pair l x q) = absurd (u (x i h))
+  one-answer c d (an-outsider i h u w) (a-wrong-pair l x a q) = absurd (u (x i h))
+  one-answer c d (an-equal-pair l w q) (an-embedding F) = absurd (not-apart l (q .has) (F .one-to-one))
+  one-answer c d (an-equal-pair l w q) (an-outsider i h u x) = absurd (u (w i h))
+  one-answer c d (an-equal-pair l w q) (an-equal-pair k x r) = ap equalImages (earliest-unique q r)
+  one-answer c d (an-equal-pair l w q) (a-wrong-pair k x a r) = absurd (not-apart l (q .has) a)
+  one-answer c d (a-wrong-pair l w a q) (an-embedding F) = holds-if c (a-wrong-pair l w a q) F
+  one-answer c d (a-wrong-pair l w a q) (an-outsider i h u x) = absurd (u (w i h))
+  one-answer c d (a-wrong-pair l w a q) (an-equal-pair k x r) = absurd (not-apart k (r .has) a)
+  one-answer c d (a-wrong-pair l w a q) (a-wrong-pair k x b r) = ap wrongProduct (earliest-unique q r)
+
+  -- The check of m bytes says an answer exactly where it is so.
+  pub checked-exactly : length f ≡ m → (c : Checked) → (checkMap m s n t f ≡ c) ↔ IsChecked m s n t f c
+  checked-exactly size c = ((λ e. subst (IsChecked m s n t f) e (checked size)), one-answer (checkMap m s n t f) c (checked size))
+
+  -- It says "holds" exactly for embeddings.
   pub holds-exactly : length f ≡ m → (checkMap m s n t f ≡ holds) ↔ Embedding m s n t f
-  holds-exactly size = (embeds-if (checkMap m s n t f) (checked size), holds-if (checkMap m s n t f) (checked size))
+  holds-exactly size = ((λ e. embeds (checked-exactly size holds .0 e)), λ F. checked-exactly size holds .1 (an-embedding F))
+    where
+      embeds : IsChecked m s n t f holds → Embedding m s n t f
+      embeds (an-embedding F) = F

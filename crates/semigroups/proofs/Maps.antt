@@ -1,9 +1,9 @@
 -- Maps: the tests and the plain statements agree, both ways; the full lists are increasing and hold exactly the maps of their kind; what first and next
 -- find is the earliest, and none means that there is none; more elements do not fit into fewer. Assumes nothing.
-use mathlib.Core.Path.{_≡_, refl, ap}
+use mathlib.Core.Path.{_≡_, refl, ap, _∙_}
 use mathlib.Core.Bool.{Bool, true, _&&_}
 use mathlib.Core.Logic.{_↔_}
-use mathlib.Core.Option.{none, some}
+use mathlib.Core.Option.{Option, none, some}
 use mathlib.Core.List.{List, [], _∷_, List·Memᴰ, List·Memᴰ·head}
 use Prim.Native.Nat.{ℕ, _-_, _≤_, _<_}
 use native.Mathlib.Omega.{arith}
@@ -16,7 +16,7 @@ use Rattle.semigroups.specs.Maps.{Homomorphism, Embedding, Isomorphism, 
 use Rattle.semigroups.proofs.Booleans.{clash, both, and-left, and-right}
 use Rattle.semigroups.proofs.Lists.{all-at, all-of, pairs-at, pairs-of, is-element, element-is, find-some, find-none, find-first, keep-same, mem-keep, keep-mem, sorted-keep}
 use Rattle.semigroups.proofs.NoRepeats.{distinct-places, distinct-of, one-to-one, one-to-one-no-repeats, within-mem, no-more, place-mem}
-use Rattle.semigroups.proofs.ListOrder.{lists-increasing, lists-mem}
+use Rattle.semigroups.proofs.ListOrder.{lists-increasing, lists-mem, earliest-unique}
 
 -- ---- tests and plain statements
 
@@ -115,6 +115,24 @@ module _ (kind : Kind) (m : ℕ) (s : Product) (n : ℕ) (t : Product) where
   pub earliest-none : (ask : Ask) → earliest ask (maps kind m s n t) ≡ none → (g : List ℕ) → IsMap kind m s n t g → beyond ask g ≡ true → ⊥
   unfolding earliest
   earliest-none ask e g h q = clash {b = beyond ask g} q (find-none (beyond ask) (maps kind m s n t) e g (maps-mem g h))
+
+  -- A map that is late enough is found, or an earlier one.
+  pub map-found : (ask : Ask) (g : List ℕ) → IsMap kind m s n t g → beyond ask g ≡ true → (f : List ℕ) × (earliest ask (maps kind m s n t) ≡ some f)
+  map-found ask g h q = go (earliest ask (maps kind m s n t)) refl
+    where
+      go : (o : Option (List ℕ)) → earliest ask (maps kind m s n t) ≡ o → (f : List ℕ) × (o ≡ some f)
+      go none e = absurd (earliest-none ask e g h q)
+      go (some f) e = (f, refl)
+
+  -- A map is found exactly if it is the earliest that is late enough.
+  pub found-exactly : (ask : Ask) (f : List ℕ) → (earliest ask (maps kind m s n t) ≡ some f) ↔ Earliest (λ g. IsMap kind m s n t g × (beyond ask g ≡ true)) f
+  found-exactly ask f = (earliest-found ask f, from)
+    where
+      from : Earliest (λ g. IsMap kind m s n t g × (beyond ask g ≡ true)) f → earliest ask (maps kind m s n t) ≡ some f
+      from e =
+          let h = e .has in
+          let r = map-found ask f (h .0) (h .1) in
+          r .1 ∙ ap {B = Option (List ℕ)} some (earliest-unique (earliest-found ask (r .0) (r .1)) e)
 
   -- First is earlier than every other map of its kind.
   pub first-earliest : (f : List ℕ) → earliest first (maps kind m s n t) ≡ some f → Earliest (IsMap kind m s n t) f

@@ -1,10 +1,12 @@
 -- The worked table of 01: thirteen cases, each a question and its answer. The questions are answered by the definitions that contracts cite.
 -- Assumes nothing.
-use mathlib.Core.List.{List, [], _∷_, map}
+use mathlib.Core.Path.{_≡_}
+use mathlib.Core.List.{List, [], _∷_, map, List·Memᴰ}
 use mathlib.Core.Option.{Option, none, some}
 use Prim.Native.Nat.{ℕ}
-use lib.ListN.{replicate}
-use Rattle.semigroups.specs.Tables.{product}
+use lib.ListN.{length, replicate}
+use Rattle.semigroups.specs.Lists.{elements}
+use Rattle.semigroups.specs.Tables.{product, Accepted}
 use Rattle.semigroups.specs.Questions.{Refusal, no, tableRefusal}
 use Rattle.semigroups.specs.Invariants.{IndexPeriod, Profile, indexPeriod, profile}
 use Rattle.semigroups.specs.Maps.{Kind, embeddings, isomorphisms, maps, Ask, first, next, earliest}
@@ -38,6 +40,9 @@ two = record { order = transformationOrder 2; cells = transformationCells 2 }
 -- 1603.06204, example 5.2.
 abbrev pub mat5 : Table
 mat5 = record { order = 5; cells = 1 ∷ 1 ∷ 1 ∷ 1 ∷ 1 ∷ 1 ∷ 2 ∷ 3 ∷ 2 ∷ 3 ∷ 1 ∷ 1 ∷ 1 ∷ 2 ∷ 3 ∷ 1 ∷ 4 ∷ 5 ∷ 4 ∷ 5 ∷ 1 ∷ 1 ∷ 1 ∷ 4 ∷ 5 ∷ [] }
+
+abbrev pub tables : List Table
+tables = one ∷ swap ∷ left ∷ right ∷ null3 ∷ two ∷ mat5 ∷ []
 
 -- ---- the questions
 
@@ -82,3 +87,16 @@ cases =
     ∷ record { asks = mapsOf isomorphisms mat5 mat5 (first ∷ next (1 ∷ 2 ∷ 3 ∷ 4 ∷ 5 ∷ []) ∷ []); says = found (some (1 ∷ 2 ∷ 3 ∷ 4 ∷ 5 ∷ []) ∷ none ∷ []) }
     ∷ record { asks = mapsOf embeddings two swap (first ∷ []); says = found (none ∷ []) }
     ∷ []
+
+-- ---- the claim that they share
+
+pub record Worked : Type 0 where
+  pub thirteen : length cases ≡ 13
+  -- By the definitions each question's answer is the one that stands beside it.
+  pub answers : (c : Case) → List·Memᴰ c cases → answer (c .asks) ≡ c .says
+  -- Each table that is named is accepted.
+  pub accepted : (t : Table) → List·Memᴰ t tables → Accepted (t .order) (t .cells)
+  -- The degree 2 table has the cells that 01 prints.
+  pub two-printed : two ≡ record { order = 4; cells = 1 ∷ 1 ∷ 4 ∷ 4 ∷ 1 ∷ 2 ∷ 3 ∷ 4 ∷ 1 ∷ 3 ∷ 2 ∷ 4 ∷ 1 ∷ 4 ∷ 1 ∷ 4 ∷ [] }
+  -- The tables of transformations (01): orders 1, 4, 27; cells 1, 16, 729.
+  pub degrees-printed : map (λ d. transformationOrder d ∷ length (transformationCells d) ∷ []) (elements 3) ≡ (1 ∷ 1 ∷ []) ∷ (4 ∷ 16 ∷ []) ∷ (27 ∷ 729 ∷ []) ∷ []

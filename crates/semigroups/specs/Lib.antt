@@ -11,4 +11,5 @@ pub mod Candidates
 pub mod Search
 pub mod Walks
 pub mod Transformations
+pub mod Passing
 pub mod Cases

@@ -6,9 +6,9 @@ use mathlib.Core.Bool.{Bool, true, false, _&&_, _||_, not, cond}
 use mathlib.Core.Logic.{_⊎_}
 use mathlib.Core.List.{List, [], _∷_, map, flatMap, List·Memᴰ}
 use mathlib.Core.Option.{Option, none, some, Option·getD, orElse}
-use Prim.Native.Nat.{ℕ, zero, suc, _+_, _-_}
+use Prim.Native.Nat.{ℕ, zero, suc, _+_, _-_, _<_}
 use lib.Dec.{eqb, ltb}
-use lib.ListN.{getD}
+use lib.ListN.{length, getD}
 
 -- ---- numbers in a row
 
@@ -98,6 +98,14 @@ NoRepeats {A} l = Sorted (λ (x y : A). x ≡ y → ⊥) l
 -- Each list is earlier than every list behind it.
 abbrev pub Increasing : List (List ℕ) → Type 0
 Increasing l = Sorted (λ a b. earlier a b ≡ true) l
+
+-- List a is earlier than list b: at the first place where they differ, counted from 0, a's entry is smaller.
+pub record Earlier (a b : List ℕ) : Type 0 where
+  pub place : ℕ
+  pub in-first : place < length a
+  pub in-second : place < length b
+  pub same-before : (k : ℕ) → k < place → getD a k 0 ≡ getD b k 0
+  pub smaller : getD a place 0 < getD b place 0
 
 -- e is the earliest list with the property P.
 pub record Earliest (P : List ℕ → Type 0) (e : List ℕ) : Type 0 where

@@ -1,0 +1,21 @@
+-- What a call of a search is asked for, and what it needs to be answered, in plain words (01, "Maps" and "The questions").
+-- Assumes nothing.
+use mathlib.Core.Path.{_≡_}
+use mathlib.Core.Bool.{true}
+use mathlib.Core.List.{List}
+use Prim.Native.Nat.{ℕ}
+use lib.ListN.{length}
+use Rattle.semigroups.specs.Lists.{earlier}
+use Rattle.semigroups.specs.Tables.{product}
+use Rattle.semigroups.specs.Maps.{Kind, IsMap}
+use Rattle.semigroups.specs.Passing.{SearchPasses}
+use Rattle.search.specs.Calls.{Lent, Request, theFirst, theNext}
+
+-- Two accepted tables, a map buffer of m bytes and a scratch buffer that is long enough.
+abbrev pub Passes : Lent → Type 0
+Passes l = SearchPasses (l .m) (l .source) (l .n) (l .target) (length (l .map)) (length (l .scratch))
+
+-- First: a map of the kind asked for between the two tables. Next: one that is later than the bytes of the map buffer.
+abbrev pub Wanted : Kind → Lent → Request → List ℕ → Type 0
+Wanted kind l theFirst f = IsMap kind (l .m) (product (l .m) (l .source)) (l .n) (product (l .n) (l .target)) f
+Wanted kind l theNext f = IsMap kind (l .m) (product (l .m) (l .source)) (l .n) (product (l .n) (l .target)) f × (earlier (l .map) f ≡ true)
