@@ -96,9 +96,11 @@ end-asked t = asked 22 (breakAt t (length t - 2)) to from
     to e =
         let k = length t - 2 in
         let b = break-at t k e in
-        let l = two-bytes (b .1) in
-        (take k t, sym (take-append-drop k t) ∙ ap (λ (r : List ℕ). take k t ++ r)
-        (drop-cons t k 0 (omega arith) ∙ rw (b .0, drop-cons t (suc k) 0 (omega arith), b .1, drop-of-length-le t {i = suc (suc k)} (omega arith))))
+        let l = two-bytes (b .1) in (
+          take k t,
+          sym (take-append-drop k t) ∙ ap (λ (r : List ℕ). take k t ++ r)
+              (drop-cons t k 0 (omega arith) ∙ rw (b .0, drop-cons t (suc k) 0 (omega arith), b .1, drop-of-length-le t {i = suc (suc k)} (omega arith))),
+        )
 
     from : (front : List ℕ) × (t ≡ front ++ 13 ∷ 10 ∷ []) → breakAt t (length t - 2) ≡ true
     from h =
@@ -118,9 +120,10 @@ field-asked f fs e n = fields-first f fs ∙ rw (sym (field-passes f (n .some-by
 fields-asked : (fs : List (List ℕ)) → (fieldsRefusal fs ≡ none) ↔ ((f : List ℕ) → List·Memᴰ f fs → Number f)
 fields-asked [] = ((λ e f m. absurd (List·Memᴰ·not-nil m)), λ h. no-fields)
 fields-asked (f ∷ fs) =
-    let later = fields-asked fs in
-    ((λ e g m. let p = fields-passed f fs e in ⊎-elim (λ (q : g ≡ f). subst Number (sym q) (field-passed f (p .0))) (λ k. later .0 (p .1) g k) (List·Memᴰ·cases-cons m)),
-    λ h. field-asked f fs (later .1 (λ g m. h g (List·Memᴰ·tail m))) (h f (List·Memᴰ·head refl)))
+    let later = fields-asked fs in (
+      (λ e g m. let p = fields-passed f fs e in ⊎-elim (λ (q : g ≡ f). subst Number (sym q) (field-passed f (p .0))) (λ k. later .0 (p .1) g k) (List·Memᴰ·cases-cons m)),
+      λ h. field-asked f fs (later .1 (λ g m. h g (List·Memᴰ·tail m))) (h f (List·Memᴰ·head refl)),
+    )
 
 -- As many records as n, each with n fields.
 square-asked : (n : ℕ) (t : List ℕ) → (firstNo (squareQuestion n t ∷ []) ≡ none) ↔ ((length (rows t) ≡ n) × ((r : List (List ℕ)) → List·Memᴰ r (rows t) → length r ≡ n))
@@ -143,20 +146,21 @@ load-passes t room =
     let from-fields = joined (gridQuestions n t) last grid (joined (ask 1 (leb n 120) ∷ []) (ask 27 (leb (n * n) room) ∷ []) (room-asked 1 n 120) (room-asked 27 (n * n) room)) in
     let from-end = joined (endQuestion t ∷ []) (gridQuestions n t ++ last) (end-asked t) from-fields in
     let from-bytes = joined (bytesQuestion t ∷ []) (endQuestion t ∷ (gridQuestions n t ++ last)) (bytes-asked t) from-end in
-    let w = joined (ask 20 (isElement longest (length t)) ∷ []) (bytesQuestion t ∷ endQuestion t ∷ (gridQuestions n t ++ last)) (element-asked 20 longest (length t)) from-bytes in
-    ((λ e.
-    let h = w .0 e in
-    record {
-      size = h .0;
-      bytes = h .1 .0;
-      end = h .1 .1 .0;
-      numbers = h .1 .1 .1 .0 .0;
-      as-many-records = h .1 .1 .1 .0 .1 .0;
-      as-many-fields = h .1 .1 .1 .0 .1 .1;
-      order = h .1 .1 .1 .1 .0;
-      cells-room = h .1 .1 .1 .1 .1;
-    }),
-    λ h. w .1 (h .size, (h .bytes, (h .end, ((h .numbers, (h .as-many-records, h .as-many-fields)), (h .order, h .cells-room))))))
+    let w = joined (ask 20 (isElement longest (length t)) ∷ []) (bytesQuestion t ∷ endQuestion t ∷ (gridQuestions n t ++ last)) (element-asked 20 longest (length t)) from-bytes in (
+      (λ e.
+          let h = w .0 e in
+          record {
+            size = h .0;
+            bytes = h .1 .0;
+            end = h .1 .1 .0;
+            numbers = h .1 .1 .1 .0 .0;
+            as-many-records = h .1 .1 .1 .0 .1 .0;
+            as-many-fields = h .1 .1 .1 .0 .1 .1;
+            order = h .1 .1 .1 .1 .0;
+            cells-room = h .1 .1 .1 .1 .1;
+          }),
+      λ h. w .1 (h .size, (h .bytes, (h .end, ((h .numbers, (h .as-many-records, h .as-many-fields)), (h .order, h .cells-room))))),
+    )
 
 pub save-passes : (n : ℕ) (cells : List ℕ) (room : ℕ) → (saveRefusal n cells room ≡ none) ↔ SavePasses n cells room
 unfolding saveRefusal cellsRefusal
