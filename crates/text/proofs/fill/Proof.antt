@@ -6,7 +6,8 @@ use lib.ListN.{length, drop}
 use denote.Ref.{now}
 use Rattle.csv.specs.Decimals.{digits}
 use Rattle.csv.specs.Tables.{cellsOf}
-use Rattle.csv.proofs.Fields.{Number, field-passed}
+use Rattle.csv.specs.Passing.{Number}
+use Rattle.csv.proofs.Fields.{field-passed}
 use Rattle.csv.proofs.Reading.{Turn, turn-inside, break-inside}
 use Rattle.csv.proofs.Filling.{Filling, here, fill-first, fill-done, fill-length, fill-field, fill-room, fill-comma, fill-break}
 use Rattle.text.proofs.fill.Statement.{statement}
