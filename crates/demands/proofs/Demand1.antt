@@ -1,16 +1,27 @@
 -- Demand 1 holds. Assumes nothing.
-use mathlib.Core.Path.{ap}
-use lib.ListN.{length}
-use Rattle.semigroups.specs.Tables.{product}
-use Rattle.semigroups.specs.Questions.{cellsQuestions, cellsRefusal, tableQuestions, tableRefusal, elementQuestions, elementRefusal, tablesQuestions, tablesRefusal, checkQuestions, checkRefusal}
+use mathlib.Core.Path.{_≡_, refl, ap}
+use mathlib.Core.Logic.{_⊎_}
+use mathlib.Core.List.{[], _∷_, flatMap, List·Memᴰ·head, List·Memᴰ·tail}
+use mathlib.Core.Option.{some, orElse}
+use Prim.Native.Nat.{ℕ}
+use native.Mathlib.Omega.{arith}
+use lib.ListN.{length, replicate}
+use Rattle.semigroups.specs.Lists.{range, elements, at, find, firstOf, sum, count, earlier, lists}
+use Rattle.semigroups.specs.Tables.{product, grid, isElement, associates, badCell, badTriple}
+use Rattle.semigroups.specs.Scratch.{scratchSize}
+use Rattle.semigroups.specs.Questions.{no, EarliestNo, searchQuestions, searchRefusal, cellsQuestions, cellsRefusal, tableQuestions, tableRefusal, elementQuestions, elementRefusal, tablesQuestions, tablesRefusal, checkQuestions, checkRefusal}
 use Rattle.semigroups.specs.Invariants.{indexPeriod, profile}
+use Rattle.semigroups.specs.Maps.{embeddings, after}
 use Rattle.semigroups.specs.MapCheck.{checkMap}
-use Rattle.semigroups.specs.Transformations.{transformationOrder, transformationCells, transformationQuestions, transformationRefusal}
-use Rattle.semigroups.specs.Walks as walks
+use Rattle.semigroups.specs.Transformations.{transformations as image-lists, transformationOrder, transformation, numberOf, transformationProduct, transformationCells, transformationQuestions, transformationRefusal}
+use Rattle.semigroups.specs.Walks.{refused, found, nothing}
+use Rattle.semigroups.specs.Cases.{swap, two}
+use Rattle.semigroups.proofs.Cases.{worked}
 use Rattle.semigroups.proofs.Passing.{cells-pass, table-passes, element-passes, tables-pass, check-passes, transformations-pass}
 use Rattle.maps.specs.Answers.{mapCheck}
 use Rattle.transformations.specs.Answers as transformations
-use Rattle.search.specs.Calls.{Called}
+use Rattle.search.specs.Calls.{Lent, lend, Called, theFirst, refusalOf, call}
+use Rattle.search.specs.Wanted.{Passes}
 use Rattle.search.proofs.Calls.{refused-exactly, refused-unchanged, nothing-keeps-map}
 use Rattle.csv.specs.Tables.{orderOf, cellsOf, tableText}
 use Rattle.csv.specs.Questions.{loadQuestions, loadRefusal, saveQuestions, saveRefusal}
@@ -42,3 +53,41 @@ demand-1 =
       save-refused = λ n cells text r e. refused-keeps (length (tableText n cells)) (saveRefusal n cells (length text)) r e (tableText n cells) text;
       none-keeps-map = λ kind request l e. nothing-keeps-map kind l request e;
     }
+
+-- ---- instances, to show that it is not empty
+
+-- The first embedding of swap in the degree 2 table, with this many bytes of scratch.
+unfoldable pub lent : ℕ → Lent
+lent scratch = lend (swap .cells) (swap .order) (two .cells) (two .order) (0 ∷ 0 ∷ []) (replicate scratch 9)
+
+-- Eight bytes are enough: the call is answered.
+pub enough : Passes (lent 8)
+unfolding lent two scratchSize transformationOrder
+enough =
+    record {
+      check = record {
+        source-table = worked .accepted swap (List·Memᴰ·tail (List·Memᴰ·head refl));
+        target-table = worked .accepted two (List·Memᴰ·tail (List·Memᴰ·tail (List·Memᴰ·tail (List·Memᴰ·tail (List·Memᴰ·tail (List·Memᴰ·head refl))))));
+        map-size = refl;
+      };
+      scratch-room = omega arith;
+    }
+
+answered : (call embeddings theFirst (lent 8) .says ≡ found) ⊎ (call embeddings theFirst (lent 8) .says ≡ nothing)
+answered = demand-1 .search embeddings theFirst (lent 8) .answered-exactly .1 enough
+
+-- Seven are not: question 6 is the earliest that fails, and both buffers stay as they are.
+short : refusalOf embeddings theFirst (lent 7) ≡ some (no 6 [])
+unfolding lent two range elements at sum count find firstOf earlier lists product grid isElement associates badCell badTriple searchRefusal scratchSize after image-lists transformationOrder transformation numberOf transformationProduct transformationCells orElse flatMap
+short = refl
+
+short-refused : call embeddings theFirst (lent 7) .says ≡ refused (no 6 [])
+short-refused = refused-exactly embeddings (lent 7) theFirst (no 6 []) .1 short
+
+short-earliest : EarliestNo (searchQuestions (swap .order) (swap .cells) (two .order) (two .cells) 2 7) (no 6 [])
+unfolding lent
+short-earliest = demand-1 .search embeddings theFirst (lent 7) .refused-exactly (no 6 []) .0 short-refused
+
+short-unchanged : (call embeddings theFirst (lent 7) .map ≡ 0 ∷ 0 ∷ []) × (call embeddings theFirst (lent 7) .scratch ≡ replicate 7 9)
+unfolding lent
+short-unchanged = demand-1 .search-refused embeddings theFirst (lent 7) (no 6 []) short-refused
