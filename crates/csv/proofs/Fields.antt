@@ -1,7 +1,7 @@
 -- The field of digits at a place of a text, and questions 22 to 25.
 -- Assumes nothing.
 use mathlib.Core.Path.{_≡_, refl, ap}
-use mathlib.Core.Bool.{Bool, true, false, _&&_, not, and-false}
+use mathlib.Core.Bool.{Bool, true, false, not, and-false}
 use mathlib.Core.List.{List, [], _∷_, flatMap}
 use mathlib.Core.Option.{none, some, orElse}
 use Prim.Native.Nat.{ℕ, suc, _+_, _-_, _*_, _^_, _≤_, _<_}
@@ -15,7 +15,6 @@ use borrow.Author.Tests.{leb-true, leb-false, le-leb, lt-leb, eqb-false, ne-eqb,
 use Rattle.semigroups.specs.Tables.{isElement}
 use Rattle.semigroups.specs.Lists.{firstOf}
 use Rattle.semigroups.specs.Questions.{no}
-use Rattle.semigroups.proofs.Booleans.{and-left, and-right}
 use Rattle.semigroups.proofs.Lists.{is-element}
 use Rattle.semigroups.proofs.Questions.{ask-passed, all-passed, first-append, both-passed}
 use Rattle.csv.specs.Decimals.{isDigit, digits, value}

@@ -1,6 +1,6 @@
 -- The questions about a file in the code's order: those about loading, then the table's four, of which a loaded table passes 1 and 2.
 -- Assumes nothing.
-use mathlib.Core.Path.{_≡_, refl, ap, ap₂, sym, _∙_, subst₂}
+use mathlib.Core.Path.{_≡_, ap, ap₂, sym, _∙_, subst₂}
 use mathlib.Core.List.{List, [], _∷_}
 use mathlib.Core.Option.{Option, none, some}
 use Prim.Native.Nat.{ℕ, _*_, _≤_}
