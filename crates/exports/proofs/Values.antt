@@ -7,7 +7,7 @@ use Prim.Native.Nat.{ℕ, suc, _+_, _-_, _≤_, _<_}
 use native.Mathlib.Omega.{arith}
 use native.Mathlib.Numerals.{add-one}
 use lib.ListN.{length, getD, take, drop, set, replicate, length-append, length-replicate}
-use lib.Seq.{take-at, take-suc, take-length, length-take-le, set-append-seam}
+use lib.Seq.{take-at, take-suc, length-take-le, set-append-seam}
 use Rattle.semigroups.specs.Questions.{Refusal, naming}
 use Rattle.tables.specs.Answers.{sideOf, refusalNumbers, numbersNaming, Brief}
 use Rattle.tables.specs.declared.Refusal.{Refusal as Numbers}
