@@ -1,6 +1,6 @@
 -- One call of the search over a partial map: what is left of it, turn by turn. Assumes nothing.
-use mathlib.Core.Path.{_≡_, sym, ap, ap₂, _∙_}
-use mathlib.Core.Bool.{Bool, true, false, cond, not, _&&_}
+use mathlib.Core.Path.{_≡_, refl, sym, ap, ap₂, _∙_}
+use mathlib.Core.Bool.{Bool, true, false, cond, not, _&&_, false≢true}
 use mathlib.Core.Option.{Option, none, some}
 use mathlib.Core.List.{List, [], _∷_, _++_}
 use Prim.Native.Nat.{ℕ, suc, _+_, _-_, _*_, _≤_, _<_}
@@ -16,11 +16,9 @@ use Rattle.semigroups.specs.Scratch.{scratchSize, marked}
 use Rattle.semigroups.specs.Search.{passes, search}
 use Rattle.semigroups.proofs.Booleans.{and-left, and-right}
 use Rattle.backtrack.specs.declared.Partial.{Partial}
-use Rattle.backtrack.specs.declared.Tested.{Tested}
-use Rattle.backtrack.specs.Marks.{allows, newFits}
-use Rattle.backtrack.specs.State.{prefix, Holds, Reached, foundMap, asked}
-use Rattle.backtrack.proofs.Placing.{prefix-length, used-image}
-use Rattle.backtrack.proofs.Noting.{marks-refuse, pairs-refuse, both-allow}
+use Rattle.backtrack.specs.declared.Found.{Found}
+use Rattle.backtrack.specs.State.{prefix, Holds, Reached, foundIn, asked}
+use Rattle.backtrack.proofs.Placing.{prefix-length, image-padded, used-image}
 use Rattle.backtrack.proofs.Steps.{lowest, leftFrom, whole, begin, end, isOpen, shut, fails, back, hit, still}
 
 -- Nothing placed.
@@ -36,6 +34,12 @@ start s m t n scratch after tight p e H space bound =
       bound = bound;
       same = λ _. rw e;
     }
+
+-- What a search answers says whether there is a map.
+pub none-found : (o : Option (List ℕ)) → foundIn o .ok ≡ false → o ≡ none
+unfolding foundIn
+none-found none e = refl
+none-found (some f) e = absurd (false≢true (sym e))
 
 -- What a call is to answer, and what is left of it from x on.
 abbrev pub Called : Product → ℕ → Product → ℕ → List ℕ → List ℕ → Bool → Partial → Option (List ℕ)
@@ -54,14 +58,23 @@ module _ (s : Product) (m : ℕ) (t : Product) (n : ℕ) (scratch after : List �
   same : tight ≡ true → take (length (prefix p)) after ≡ prefix p
   same e = ap (λ (k : ℕ). take k after) long ∙ Q .same e
 
-  -- All elements placed.
-  pub done : m ≤ p .len → cond (not tight) (some (prefix p)) none ≡ Whole
+  -- All elements placed: the map is found unless it is the bound itself.
+  done : m ≤ p .len → cond (not tight) (some (prefix p)) none ≡ Whole
   done h =
       let w = Q .within in
       let b = Q .bound in
       let l = long in
       let e : 0 ≡ m - p .len = omega arith in
       whole s t (marked n scratch) n after (prefix p) tight same (omega arith) ∙ ap (λ (d : ℕ). search s t (marked n scratch) (asked tight after) n d (prefix p)) e
+
+  pub done-bound : m ≤ p .len → tight ≡ true → none ≡ Whole
+  done-bound h e = ap {B = Option (List ℕ)} (λ (b : Bool). cond (not b) (some (prefix p)) none) (sym e) ∙ done h
+
+  pub done-found : m ≤ p .len → tight ≡ false → record { ok = true; image = p .image } ≡ foundIn Whole
+  unfolding foundIn
+  done-found h e =
+      ap {B = Found} (λ (l : List ℕ). record { ok = true; image = l }) (image-padded n (p .image) (p .used) (p .len) (Q .holds .placing))
+      ∙ ap foundIn (ap {B = Option (List ℕ)} (λ (b : Bool). cond (not b) (some (prefix p)) none) (sym e) ∙ done h)
 
   module _ (room : p .len < m) where
     short : length (prefix p) < length after
@@ -93,6 +106,21 @@ pub record Turn (s : Product) (m : ℕ) (t : Product) (n : ℕ) (scratch after :
   pub element : Element n x
   pub opened : o ≡ (leb low x && (eqb (getD (p .used) x 0) 0 && marked n scratch (p .len + 1) x))
 
+-- What is told of x placed, which gives r, and tested, which gives b and hands q back.
+pub record Verdict (s t : Product) (p : Partial) (x : ℕ) (r q : Partial) (b : Bool) : Type 0 where
+  pub longer : prefix r ≡ prefix p ++ x ∷ []
+  pub one-more : r .len ≡ p .len + 1
+  pub says : b ≡ passes s t (prefix r)
+  pub same-images : q .image ≡ r .image
+  pub same-length : q .len ≡ r .len
+
+-- What was placed before x passes still.
+pub handed-passes : (s t : Product) (p q : Partial) → q .len ≡ p .len + 1 → take (p .len) (q .image) ≡ prefix p → passes s t (prefix p) ≡ true → passes s t (take (q .len - 1) (q .image)) ≡ true
+handed-passes s t p q el ep e = let k : q .len - 1 ≡ p .len = omega arith in rw (k, ep) e
+
+pub verdict : {s t : Product} {p : Partial} {x : ℕ} {r q : Partial} {b : Bool} → Verdict s t p x r q b → b ≡ passes s t (prefix p ++ x ∷ [])
+verdict {s} {t} v = v .says ∙ ap (passes s t) (v .longer)
+
 module _ {s : Product} {m : ℕ} {t : Product} {n : ℕ} {scratch after : List ℕ} {tight : Bool} {p : Partial} {low x : ℕ} {o : Bool} (T : Turn s m t n scratch after tight p low x o) where
   abbrev longer : List ℕ
   longer = prefix p ++ x ∷ []
@@ -120,7 +148,7 @@ module _ {s : Product} {m : ℕ} {t : Product} {n : ℕ} {scratch after : List �
   pub skip : o ≡ false → Onward
   skip h e = e ∙ shut s t (marked n scratch) n after (prefix p) tight (same s m t n scratch after tight p (T .reached)) (m - (p .len + 1)) (short s m t n scratch after tight p (T .reached) (T .room)) x (T .element .0) (sym open-is ∙ h) (T .element .1)
 
-  refuse : passes s t longer ≡ false → Onward
+  pub refuse : passes s t longer ≡ false → Onward
   refuse h e = e ∙ fails s t (marked n scratch) n after (prefix p) tight (same s m t n scratch after tight p (T .reached)) (m - (p .len + 1)) (short s m t n scratch after tight p (T .reached) (T .room)) x (T .element .0) h (T .element .1)
 
   module _ (h : o ≡ true) where
@@ -130,19 +158,17 @@ module _ {s : Product} {m : ℕ} {t : Product} {n : ℕ} {scratch after : List �
         let mark = marked n scratch (p .len + 1) x in
         not-true (member x (prefix p)) (sym used-here ∙ and-left test mark (and-right (leb low x) (test && mark) (sym (T .opened) ∙ h)))
 
-    -- What the marks say of x, and then its pairs.
-    module _ (a : Bool) (ea : a ≡ (allows (getD (p .forced) (p .len + 1) 0) x && allows (getD (p .owner) x 0) (p .len + 1))) where
-      pub unsettled : a ≡ false → Onward
-      unsettled e = refuse (marks-refuse m s n t (T .closed) p (T .reached .holds) (T .room) x (T .orders .0) (T .reached .passed) (omega arith) unused (sym ea ∙ e))
+    -- The test said whether the list passes, and it did.
+    module _ (r q : Partial) (b : Bool) (v : Verdict s t p x r q b) (passed : b ≡ true) where
+      pass : passes s t longer ≡ true
+      pass = sym (verdict v) ∙ passed
 
-      module _ (b : Bool) (eb : b ≡ newFits s t longer) where
-        pub unfit : b ≡ false → Onward
-        unfit e = refuse (pairs-refuse m s n t (T .closed) p (T .reached .holds) (T .room) x (T .orders .0) (T .reached .passed) (omega arith) unused (sym eb ∙ e))
+      eq : prefix q ≡ longer
+      eq = ap₂ take (v .same-length) (v .same-images) ∙ v .longer
 
-        pub passing : a ≡ true → b ≡ true → passes s t longer ≡ true
-        passing e f = both-allow m s n t (T .closed) p (T .reached .holds) (T .room) x (T .orders .0) (T .reached .passed) (omega arith) unused (sym ea ∙ e) (sym eb ∙ f)
+      len : q .len ≡ p .len + 1
+      len = v .same-length ∙ v .one-more
 
-    module _ (pass : passes s t longer ≡ true) (q : Partial) (eq : prefix q ≡ longer) (len : q .len ≡ p .len + 1) where
       -- The call for the next element.
       abbrev Inner : Option (List ℕ)
       Inner = Called s m t n scratch after (eqb x low) q
@@ -166,12 +192,15 @@ module _ {s : Product} {m : ℕ} {t : Product} {n : ℕ} {scratch after : List �
                 ∙ still s t (marked n scratch) n after (prefix p) tight (same s m t n scratch after tight p (T .reached)) (m - (p .len + 1)) (short s m t n scratch after tight p (T .reached) (T .room)) x (T .element .0) (ap (eqb x) (sym low-here) ∙ w) ∙ sym eq;
           }
 
-      pub fail : (r : Tested) → foundMap r ≡ Inner → r .ok ≡ false → Onward
-      fail r a f e =
+      pub fail : foundIn Inner .ok ≡ false → Onward
+      fail f e =
           e ∙ back s t (marked n scratch) n after (prefix p) tight (same s m t n scratch after tight p (T .reached)) (m - (p .len + 1)) (short s m t n scratch after tight p (T .reached) (T .room)) x (T .element .0) (sym open-is ∙ h) pass
-          (sym inner ∙ sym a ∙ ap {B = Option (List ℕ)} (λ (b : Bool). cond b (some (prefix (r .map))) none) f) (T .element .1)
+          (sym inner ∙ none-found Inner f) (T .element .1)
 
-      pub found : (r : Tested) → foundMap r ≡ Inner → r .ok ≡ true → Called s m t n scratch after tight p ≡ Rest s m t n scratch after tight p x → foundMap r ≡ Called s m t n scratch after tight p
-      found r a f e =
-          let some-map : foundMap r ≡ some (prefix (r .map)) = ap {B = Option (List ℕ)} (λ (b : Bool). cond b (some (prefix (r .map))) none) f in
-          some-map ∙ sym (e ∙ hit s t (marked n scratch) n after (prefix p) tight (same s m t n scratch after tight p (T .reached)) (m - (p .len + 1)) (short s m t n scratch after tight p (T .reached) (T .room)) x (T .element .0) (sym open-is ∙ h) pass (prefix (r .map)) (sym inner ∙ sym a ∙ some-map) (T .element .1))
+      pub found : foundIn Inner .ok ≡ true → Called s m t n scratch after tight p ≡ Rest s m t n scratch after tight p x → Inner ≡ Called s m t n scratch after tight p
+      unfolding foundIn
+      found f e = go Inner refl f
+        where
+          go : (o : Option (List ℕ)) → Inner ≡ o → foundIn o .ok ≡ true → o ≡ Called s m t n scratch after tight p
+          go none q w = absurd (false≢true w)
+          go (some l) q w = sym (e ∙ hit s t (marked n scratch) n after (prefix p) tight (same s m t n scratch after tight p (T .reached)) (m - (p .len + 1)) (short s m t n scratch after tight p (T .reached) (T .room)) x (T .element .0) (sym open-is ∙ h) pass l (sym inner ∙ q) (T .element .1))

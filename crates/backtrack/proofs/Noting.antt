@@ -1,19 +1,19 @@
 -- The marks as pairs are noted and an element is placed, and what they decide of the next image. Assumes nothing.
 use mathlib.Core.Path.{_≡_, sym, ap, ap₂, subst, _∙_}
-use mathlib.Core.Bool.{Bool, true, false, _&&_, and-true, and-false, and-assoc}
+use mathlib.Core.Bool.{Bool, true, false, _&&_, and-true, and-assoc}
 use mathlib.Core.List.{List, [], _∷_, _++_}
 use Prim.Native.Nat.{ℕ, zero, suc, _+_, _-_, _≤_, _<_}
 use native.Mathlib.Numerals.{add-one}
 use native.Mathlib.Omega.{arith}
 use lib.ListN.{length, getD, take, length-set, replicate, length-replicate, getD-replicate}
+use lib.Seq.{length-take-le}
 use Rattle.semigroups.specs.Lists.{range, elements, at, all, member}
 use Rattle.semigroups.specs.Tables.{Product, Element, Closed}
 use Rattle.semigroups.specs.Search.{passes}
-use Rattle.semigroups.proofs.Booleans.{both}
 use Rattle.backtrack.specs.Marks.{allows, merge, noted, imageProduct, asks, agreeOn, cross, newFits, Reads}
-use Rattle.backtrack.specs.State.{prefix, Placing, Tracks, Holds}
+use Rattle.backtrack.specs.State.{prefix, Placing, Tracks}
 use Rattle.backtrack.specs.declared.Partial.{Partial}
-use Rattle.backtrack.proofs.Placing.{prefix-length, prefix-at, image-element}
+use Rattle.backtrack.proofs.Placing.{prefix-at, image-element, newest-prefix}
 use Rattle.backtrack.proofs.Marks.{note-reads, each-more, agreeOn-more, agreeOn-forced, agreeOn-owner, settle}
 
 -- ---- the pairs of the newest element
@@ -139,42 +139,46 @@ module _ (m : ℕ) (s : Product) (n : ℕ) (t : Product) (source : Closed m s) (
       let last : suc (len - 1) ≡ len = omega arith in
       subst (λ (k : ℕ). Tracks s t f k 0 forced owner) last (all-noted s t f (len - 1) forced owner (subst (λ (k : ℕ). Tracks s t f (len - 1) k forced owner) (let z : i - 1 ≡ suc (len - 1) = omega arith in z) W))
 
--- ---- a partial map
+-- ---- what is placed, and x as the next image
 
-module _ (m : ℕ) (s : Product) (n : ℕ) (t : Product) (closed : Closed m s) (p : Partial) (H : Holds s n t p) (room : p .len < m) (x : ℕ) where
-  long : length (prefix p) ≡ p .len
-  long = prefix-length n (p .image) (p .used) (p .len) (H .placing)
-
-  tracked : Tracks s t (prefix p) (length (prefix p)) 0 (p .forced) (p .owner)
-  tracked = subst (λ (k : ℕ). Tracks s t (prefix p) k 0 (p .forced) (p .owner)) (sym long) (H .tracks)
-
-  short : length (prefix p) < m
-  short = let l = long in omega arith
-
+module _ (m : ℕ) (s t : Product) (closed : Closed m s) (f : List ℕ) (len : ℕ) (long : length f ≡ len) (room : len < m) (x : ℕ) (forced owner : List ℕ) (W : Tracks s t f len 0 forced owner) where
   abbrev g : List ℕ
-  g = prefix p ++ x ∷ []
+  g = f ++ x ∷ []
 
   abbrev allowed : Bool
-  allowed = allows (getD (p .forced) (p .len + 1) 0) x && allows (getD (p .owner) x 0) (p .len + 1)
+  allowed = allows (getD forced (len + 1) 0) x && allows (getD owner x 0) (len + 1)
+
+  tracked : Tracks s t f (length f) 0 forced owner
+  tracked = subst (λ (k : ℕ). Tracks s t f k 0 forced owner) (sym long) W
+
+  -- With x placed, no pair of it is noted yet.
+  pub next-tracks : Tracks s t g len 0 forced owner
+  next-tracks = subst (λ (k : ℕ). Tracks s t g k 0 forced owner) long (placed-tracks m s t closed f x (omega arith) forced owner tracked)
 
   -- The marks and the new pairs decide whether x passes as the next image.
-  module _ (hm : m ≤ 120) (pass : passes s t (prefix p) ≡ true) (hx : Element 120 x) (fresh : member x (prefix p) ≡ false) where
+  module _ (hm : m ≤ 120) (pass : passes s t f ≡ true) (hx : Element 120 x) (fresh : member x f ≡ false) where
     decided : passes s t g ≡ (allowed && newFits s t g)
     decided =
-        decides m s t closed (prefix p) x short hm (p .forced) (p .owner) tracked pass hx fresh
-        ∙ ap (λ (k : ℕ). (allows (getD (p .forced) (k + 1) 0) x && allows (getD (p .owner) x 0) (k + 1)) && newFits s t g) long
+        decides m s t closed f x (omega arith) hm forced owner tracked pass hx fresh
+        ∙ ap (λ (k : ℕ). (allows (getD forced (k + 1) 0) x && allows (getD owner x 0) (k + 1)) && newFits s t g) long
 
     pub marks-refuse : allowed ≡ false → passes s t g ≡ false
     marks-refuse e = decided ∙ ap (λ (b : Bool). b && newFits s t g) e
 
-    pub pairs-refuse : newFits s t g ≡ false → passes s t g ≡ false
-    pairs-refuse e = decided ∙ ap (λ (b : Bool). allowed && b) e ∙ and-false allowed
+    pub marks-allow : allowed ≡ true → passes s t g ≡ newFits s t g
+    marks-allow e = decided ∙ ap (λ (b : Bool). b && newFits s t g) e
 
-    pub both-allow : allowed ≡ true → newFits s t g ≡ true → passes s t g ≡ true
-    both-allow e h = decided ∙ both allowed (newFits s t g) e h
+-- The newest element placed, and no pair of it noted yet.
+pub newest-tracks : (m : ℕ) (s : Product) (n : ℕ) (t : Product) → Closed m s → (image used : List ℕ) (len : ℕ) → Placing n image used len → Element m len → (forced owner : List ℕ)
+    → Tracks s t (take (len - 1) image) (len - 1) 0 forced owner → Tracks s t (take len image) (len - 1) 0 forced owner
+newest-tracks m s n t closed image used len P h forced owner W =
+    let l = P .long in
+    let k = P .fit in
+    let x = getD image (len - 1) 0 in
+    subst (λ (f : List ℕ). Tracks s t f (len - 1) 0 forced owner) (newest-prefix n image used len P (h .0))
+    (next-tracks m s t closed (take (len - 1) image) (len - 1) (length-take-le (len - 1) image (omega arith)) (omega arith) x forced owner W)
 
-  -- With x placed, no pair of it is noted yet.
-  pub placed-next : (q : Partial) → prefix q ≡ prefix p ++ x ∷ [] → q .len ≡ p .len + 1 → q .forced ≡ p .forced → q .owner ≡ p .owner → Tracks s t (prefix q) (q .len - 1) 0 (q .forced) (q .owner)
-  placed-next q ep el ef eo =
-      let k : length (prefix p) ≡ q .len - 1 = (let l = long in omega arith) in
-      rw (ep, ef, eo) (subst (λ (i : ℕ). Tracks s t (prefix p ++ x ∷ []) i 0 (p .forced) (p .owner)) k (placed-tracks m s t closed (prefix p) x short (p .forced) (p .owner) tracked))
+-- The marks as a map is handed on with one more image.
+pub handed-on : (s t : Product) (p q : Partial) → q .len ≡ p .len + 1 → take (p .len) (q .image) ≡ prefix p → q .forced ≡ p .forced → q .owner ≡ p .owner
+    → Tracks s t (prefix p) (p .len) 0 (p .forced) (p .owner) → Tracks s t (take (q .len - 1) (q .image)) (q .len - 1) 0 (q .forced) (q .owner)
+handed-on s t p q el ep ef eo W = let e : q .len - 1 ≡ p .len = omega arith in rw (e, ep, ef, eo) W

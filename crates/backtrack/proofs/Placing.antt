@@ -9,14 +9,14 @@ use native.Mathlib.Numerals.{add-one}
 use native.Mathlib.Omega.{arith}
 use borrow.Author.Tests.{le-leb, lt-leb, eqb-true, eqb-false, eq-eqb, ne-eqb}
 use lib.Dec.{eqb}
-use lib.ListN.{length, getD, take, set, length-set, replicate, length-replicate, getD-replicate}
-use lib.Seq.{length-take-le, getD-take, take-suc, take-suc-set, getD-set-same, getD-set-other}
+use lib.ListN.{length, getD, take, drop, set, length-set, take-append-drop, replicate, length-replicate, getD-replicate}
+use lib.Seq.{length-take-le, getD-take, take-suc, take-suc-set, take-set-le, drop-set-lt, drop-drop, getD-set-same, getD-set-other}
 use Rattle.semigroups.specs.Lists.{at, member}
 use Rattle.semigroups.specs.Tables.{Product, Element}
 use Rattle.semigroups.specs.Search.{fits}
-use Rattle.semigroups.proofs.Lists.{at-front, at-seam, length-snoc}
+use Rattle.semigroups.proofs.Lists.{at-front, at-seam, length-snoc, unmember}
 use Rattle.semigroups.proofs.Search.{placed-none, placed-more}
-use Rattle.semigroups.proofs.NoRepeats.{place-mem}
+use Rattle.semigroups.proofs.NoRepeats.{place-mem, mem-place, sorted-places}
 use Rattle.backtrack.specs.State.{Placing, Trial}
 use Rattle.backtrack.proofs.Marks.{member-snoc}
 
@@ -40,11 +40,23 @@ module _ (n : ℕ) (image used : List ℕ) (len : ℕ) (P : Placing n image used
   pub used-image : (x : ℕ) → x ≤ 120 → eqb (getD used x 0) 0 ≡ not (member x (take len image))
   used-image x h = ap (λ (v : ℕ). eqb v 0) (P .uses x h) ∙ unused (member x (take len image))
 
+  -- All of the images, as what is placed and zeros.
+  pub image-padded : image ≡ take len image ++ replicate (120 - length (take len image)) 0
+  image-padded = sym (take-append-drop len image) ∙ ap (λ (l : List ℕ). take len image ++ l) (P .padded ∙ ap (λ (k : ℕ). replicate (120 - k) 0) (sym prefix-length))
+
   -- ---- one more image
 
   module _ (x : ℕ) (hx : Element n x) (hn : n ≤ 120) (room : len < 120) (fresh : member x (take len image) ≡ false) where
     pub more-prefix : take (len + 1) (set image len x) ≡ take len image ++ x ∷ []
     more-prefix = let l = P .long in ap (λ (k : ℕ). take k (set image len x)) (add-one len) ∙ take-suc-set image len x (omega arith)
+
+    pub more-before : take len (set image len x) ≡ take len image
+    more-before = take-set-le len image len x (omega arith)
+
+    more-padded : drop (len + 1) (set image len x) ≡ replicate (120 - (len + 1)) 0
+    more-padded =
+        drop-set-lt (len + 1) image len x (omega arith) ∙ sym (drop-drop 1 len image) ∙ ap (drop 1) (P .padded)
+        ∙ ap (λ (k : ℕ). drop 1 (replicate k 0)) (let e : 120 - len ≡ suc (120 - (len + 1)) = omega arith in e)
 
     more-uses : (y : ℕ) → y ≤ 120 → getD (set used x 1) y 0 ≡ cond (member y (take len image) || eqb y x) 1 0
     more-uses y hy =
@@ -62,6 +74,7 @@ module _ (n : ℕ) (image used : List ℕ) (len : ℕ) (P : Placing n image used
           long = length-set image len x ∙ P .long;
           wide = length-set used x 1 ∙ P .wide;
           fit = omega arith;
+          padded = more-padded;
           placed = rw more-prefix (placed-more n (take len image) x (P .placed) hx fresh);
           uses = λ y hy. rw (more-prefix, member-snoc y (take len image) x) (more-uses y hy);
         }
@@ -90,6 +103,9 @@ module _ (n : ℕ) (image used : List ℕ) (len x : ℕ) (X : Trial n image used
 
   room : len ≤ length image
   room = let l = X .long in let r = X .room in omega arith
+
+  pub trial-length : length f ≡ len
+  trial-length = length-take-le len image room
 
   pub next-element : (a : ℕ) → Element (len + 1) a → Element n (at g a)
   next-element a h =
@@ -137,6 +153,19 @@ module _ (n : ℕ) (image used : List ℕ) (len : ℕ) (P : Placing n image used
         let h = P .fit in
         sym (ap (λ (k : ℕ). take k image) (let e : len ≡ suc (len - 1) = omega arith in e) ∙ take-suc image (len - 1) 0 (omega arith))
 
+    pub newest-fresh : member x (take (len - 1) image) ≡ false
+    newest-fresh =
+        let l = P .long in
+        let h = P .fit in
+        let before : length (take (len - 1) image) ≡ len - 1 = length-take-le (len - 1) image (omega arith) in
+        let all = prefix-length n image used len P in
+        unmember x (take (len - 1) image) (λ k.
+        let w = mem-place 0 (take (len - 1) image) k in
+        let i = w .0 in
+        let below = w .1 in
+        sorted-places (λ (a b : ℕ). a ≡ b → ⊥) 0 (take len image) (P .placed .apart) i (len - 1) (omega arith) (omega arith)
+        (getD-take len image i 0 (omega arith) ∙ sym (getD-take (len - 1) image i 0 (omega arith)) ∙ w .2 ∙ sym (getD-take len image (len - 1) 0 (omega arith))))
+
     earlier-used : (y : ℕ) → (y ≡ x → ⊥) → member y (take len image) ≡ member y (take (len - 1) image)
     earlier-used y e = ap (member y) (sym newest-prefix) ∙ member-snoc y (take (len - 1) image) x ∙ ap (λ (b : Bool). member y (take (len - 1) image) || b) (ne-eqb y x e) ∙ or-false (member y (take (len - 1) image))
 
@@ -161,6 +190,7 @@ no-placing n =
       long = length-replicate {A = ℕ} 120 0;
       wide = length-replicate {A = ℕ} 121 0;
       fit = omega arith;
+      padded = refl;
       placed = placed-none n;
       uses = λ y hy. getD-replicate 121 y 0 0 (omega arith);
     }

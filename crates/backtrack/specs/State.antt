@@ -1,12 +1,11 @@
 -- What the contracts of the search say of its state, a partial map, and of what a search answers.
--- Past its length a partial map's images are undecided, and nothing asks for them.
 -- Assumes nothing.
 use mathlib.Core.Path.{_≡_}
 use mathlib.Core.Bool.{Bool, true, false, cond, _&&_}
 use mathlib.Core.Option.{Option, none, some}
-use mathlib.Core.List.{List}
-use Prim.Native.Nat.{ℕ, suc, _≤_, _<_}
-use lib.ListN.{length, getD, take}
+use mathlib.Core.List.{List, _++_}
+use Prim.Native.Nat.{ℕ, suc, _-_, _≤_, _<_}
+use lib.ListN.{length, getD, take, drop, replicate}
 use Rattle.semigroups.specs.Lists.{elements, at, all, member}
 use Rattle.semigroups.specs.Tables.{Product, Element}
 use Rattle.semigroups.specs.Scratch.{scratchSize}
@@ -14,17 +13,18 @@ use Rattle.semigroups.specs.Maps.{Ask, first, next}
 use Rattle.semigroups.specs.Search.{passes, Placed}
 use Rattle.backtrack.specs.Marks.{imageProduct, asks, agreeOn, cross, Reads}
 use Rattle.backtrack.specs.declared.Partial.{Partial}
-use Rattle.backtrack.specs.declared.Tested.{Tested}
+use Rattle.backtrack.specs.declared.Found.{Found}
 
 -- The list placed so far.
 abbrev pub prefix : Partial → List ℕ
 prefix p = take (p .len) (p .image)
 
--- The images of the first `len` elements, and which target elements they use.
+-- The images of the first `len` elements, zeros behind them, and which target elements they use.
 pub record Placing (n : ℕ) (image used : List ℕ) (len : ℕ) : Type 0 where
   pub long : length image ≡ 120
   pub wide : length used ≡ 121
   pub fit : len ≤ 120
+  pub padded : drop len image ≡ replicate (120 - len) 0
   pub placed : Placed n (take len image)
   pub uses : (y : ℕ) → y ≤ 120 → getD used y 0 ≡ cond (member y (take len image)) 1 0
 
@@ -49,9 +49,10 @@ pub record Holds (s : Product) (n : ℕ) (t : Product) (p : Partial) : Type 0 wh
   pub placing : Placing n (p .image) (p .used) (p .len)
   pub tracks : Tracks s t (prefix p) (p .len) 0 (p .forced) (p .owner)
 
--- The map that a search found.
-abbrev pub foundMap : Tested → Option (List ℕ)
-foundMap r = cond (r .ok) (some (prefix (r .map))) none
+-- What a search answers: the map's images, zeros behind them; zeros alone where there is none.
+unfoldable pub foundIn : Option (List ℕ) → Found
+foundIn (some f) = record { ok = true; image = f ++ replicate (120 - length f) 0 }
+foundIn none = record { ok = false; image = replicate 120 0 }
 
 -- The search is bound by a list as long as what is placed equals its beginning.
 abbrev pub asked : Bool → List ℕ → Ask

@@ -4,6 +4,7 @@
 ghost use mathlib.Core.Path.{_≡_};
 ghost use mathlib.Core.Bool.{true, false, _&&_};
 ghost use mathlib.Core.List.{[], _∷_, _++_};
+ghost use mathlib.Core.Option.{none};
 ghost use Prim.Native.Nat.{ℕ, _+_, _-_, _≤_, _<_};
 ghost use lib.Dec.{eqb, leb};
 ghost use lib.ListN.{length, getD, take};
@@ -12,7 +13,7 @@ ghost use Rattle.semigroups.specs.Tables.{Product, product, Element, Filled};
 ghost use Rattle.semigroups.specs.Scratch.{scratchSize, marked};
 ghost use Rattle.semigroups.specs.Search.{fits, passes, search};
 ghost use Rattle.backtrack.specs.Marks.{allows, noted, imageProduct, newFits};
-ghost use Rattle.backtrack.specs.State.{prefix, Placing, Trial, Tracks, Holds, Reached, foundMap, asked};
+ghost use Rattle.backtrack.specs.State.{prefix, Placing, Trial, Tracks, Holds, Reached, foundIn, asked};
 
 // The map placed so far. Element i's image is image[i - 1]; used[y] is 1 where y is an image. The marks: forced[c] is the target product that the
 // pairs placed ask of source element c, owner[y] the source element that they reserve target element y for.
@@ -24,10 +25,16 @@ pub struct Partial {
     pub len: usize,
 }
 
-// Whether a test or a search succeeded, and the map as it then stands.
+// Whether the list placed passes, and the map handed back.
 pub struct Tested {
     pub ok: bool,
     pub map: Partial,
+}
+
+// Whether a search found a map, and its images, zeros behind them; zeros alone where there is none.
+pub struct Found {
+    pub ok: bool,
+    pub image: [u8; 120],
 }
 
 // Whether a mark allows the value y.
@@ -162,6 +169,30 @@ fn settled<'a>(forced: &'a [u8; 121], owner: &'a [u8; 121], next: usize, x: usiz
     allowed(owner[x], next)
 }
 
+// Whether the list placed passes with x as the image of the next element: by the marks and by its new pairs.
+fn passes_with<'a>(
+    source: &[u8],
+    m: usize,
+    target: &[u8],
+    n: usize,
+    image: &'a [u8; 120],
+    used: &'a [u8; 121],
+    forced: &'a [u8; 121],
+    owner: &'a [u8; 121],
+    len: usize,
+    x: usize,
+) -> bool
+    requires { ⌜ Filled m (now source) × Filled n (now target) ⌝ }
+    requires { ⌜ Trial n (now image) (now used) len x × (len < m) × (member x (take len (now image)) ≡ false) ⌝ }
+    requires { ⌜ Tracks (product m (now source)) (product n (now target)) (take len (now image)) len 0 (now forced) (now owner) × (passes (product m (now source)) (product n (now target)) (take len (now image)) ≡ true) ⌝ }
+    ensures answer { λ r. ⌜ r ≡ passes (product m (now (source .entry))) (product n (now (target .entry))) (take len (now (image .entry)) ++ x ∷ []) ⌝ }
+{
+    if !settled(forced, owner, len + 1, x) {
+        return false;
+    }
+    new_fits(source, m, target, n, image, used, len, x)
+}
+
 // Whether x is `low` or more, unused, and a candidate for element i.
 fn open(used: &[u8; 121], scratch: &[u8], n: usize, i: usize, low: usize, x: usize) -> bool
     requires { ⌜ Element 120 i × Element n x × (n ≤ 120) ⌝ }
@@ -197,7 +228,7 @@ impl Partial {
         requires { ⌜ Placing n (self .image) (self .used) (self .len) ⌝ }
         requires { ⌜ Element n x × (n ≤ 120) × (self .len < 120) × (member x (prefix self) ≡ false) ⌝ }
         ensures placing { λ r. ⌜ Placing n (r .image) (r .used) (r .len) ⌝ }
-        ensures more { λ r. ⌜ (prefix r ≡ prefix self ++ x ∷ []) × (r .len ≡ self .len + 1) ⌝ }
+        ensures more { λ r. ⌜ (prefix r ≡ prefix self ++ x ∷ []) × (take (self .len) (r .image) ≡ prefix self) × (r .len ≡ self .len + 1) ⌝ }
         ensures marks { λ r. ⌜ (r .forced ≡ self .forced) × (r .owner ≡ self .owner) ⌝ }
     {
         let at = self.len;
@@ -208,34 +239,34 @@ impl Partial {
         p
     }
 
-    // Whether the pairs of the newest element fit.
+    // Whether the list placed passes, where it does without its newest element. The pairs of that element are noted in the marks.
     fn test(self, source: &[u8], m: usize, target: &[u8], n: usize) -> Tested
         requires { ⌜ Filled m (now source) × Filled n (now target) ⌝ }
         requires { ⌜ Placing n (self .image) (self .used) (self .len) × Element m (self .len) ⌝ }
-        ensures answer { λ r. ⌜ r .ok ≡ newFits (product m (now (source .entry))) (product n (now (target .entry))) (prefix self) ⌝ }
-        ensures same { λ r. ⌜ r .map ≡ self ⌝ }
-    {
-        let before = self.len - 1;
-        let x = self.image[before] as usize;
-        Tested {
-            ok: new_fits(source, m, target, n, &self.image, &self.used, before, x),
-            map: self,
-        }
-    }
-
-    // The map with the pairs of its newest element noted in the marks.
-    fn with_marks(self, source: &[u8], m: usize, target: &[u8], n: usize) -> Self
-        requires { ⌜ Filled m (now source) × Filled n (now target) ⌝ }
-        requires { ⌜ Placing n (self .image) (self .used) (self .len) × Element m (self .len) ⌝ }
-        requires { ⌜ Tracks (product m (now source)) (product n (now target)) (prefix self) (self .len - 1) 0 (self .forced) (self .owner) ⌝ }
-        ensures holds { λ r. ⌜ Holds (product m (now (source .entry))) n (product n (now (target .entry))) r ⌝ }
-        ensures same { λ r. ⌜ (prefix r ≡ prefix self) × (r .len ≡ self .len) ⌝ }
+        requires { ⌜ Tracks (product m (now source)) (product n (now target)) (take (self .len - 1) (self .image)) (self .len - 1) 0 (self .forced) (self .owner) × (passes (product m (now source)) (product n (now target)) (take (self .len - 1) (self .image)) ≡ true) ⌝ }
+        ensures answer { λ r. ⌜ r .ok ≡ passes (product m (now (source .entry))) (product n (now (target .entry))) (prefix self) ⌝ }
+        ensures holds { λ r. ⌜ Holds (product m (now (source .entry))) n (product n (now (target .entry))) (r .map) ⌝ }
+        ensures same { λ r. ⌜ (r .map .image ≡ self .image) × (r .map .len ≡ self .len) ⌝ }
     {
         let len = self.len;
         let image = self.image;
         let used = self.used;
         let mut forced = self.forced;
         let mut owner = self.owner;
+        let before = len - 1;
+        let x = image[before] as usize;
+        let ok = passes_with(
+            source,
+            m,
+            target,
+            n,
+            &image,
+            &used,
+            &forced,
+            &owner,
+            before,
+            x,
+        );
         let mut j: usize = 1;
         while j <= len {
             note_pair(
@@ -262,41 +293,24 @@ impl Partial {
             );
             j += 1;
         }
-        Partial {
+        let map = Partial {
             image,
             used,
             forced,
             owner,
             len,
-        }
+        };
+        Tested { ok, map }
     }
+}
 
-    // x tried as the image of the next element.
-    fn tried(self, source: &[u8], m: usize, target: &[u8], n: usize, x: usize) -> Tested
-        requires { ⌜ Filled m (now source) × Filled n (now target) ⌝ }
-        requires { ⌜ Holds (product m (now source)) n (product n (now target)) self × (passes (product m (now source)) (product n (now target)) (prefix self) ≡ true) ⌝ }
-        requires { ⌜ Element n x × (self .len < m) × (member x (prefix self) ≡ false) ⌝ }
-        ensures answer { λ r. ⌜ r .ok ≡ passes (product m (now (source .entry))) (product n (now (target .entry))) (prefix self ++ x ∷ []) ⌝ }
-        ensures more { λ r. ⌜ (r .ok ≡ true → Holds (product m (now (source .entry))) n (product n (now (target .entry))) (r .map) × (prefix (r .map) ≡ prefix self ++ x ∷ []) × (r .map .len ≡ self .len + 1)) ⌝ }
-    {
-        if !settled(&self.forced, &self.owner, self.len + 1, x) {
-            return Tested {
-                ok: false,
-                map: self,
-            };
-        }
-        let tested = self.place(n, x).test(source, m, target, n);
-        if !tested.ok {
-            return Tested {
-                ok: false,
-                map: self,
-            };
-        }
-        let placed = tested.map;
-        Tested {
-            ok: true,
-            map: placed.with_marks(source, m, target, n),
-        }
+// No map found.
+fn nothing() -> Found
+    ensures answer { λ r. ⌜ r ≡ foundIn none ⌝ }
+{
+    Found {
+        ok: false,
+        image: [0u8; 120],
     }
 }
 
@@ -310,25 +324,38 @@ fn extend(
     after: &[u8],
     tight: bool,
     p: Partial,
-) -> Tested
+) -> Found
     requires { ⌜ Filled m (now source) × Filled n (now target) ⌝ }
     requires { ⌜ Reached (product m (now source)) m (product n (now target)) n (now scratch) (now after) tight p ⌝ }
-    ensures answer { λ r. ⌜ foundMap r ≡ search (product m (now (source .entry))) (product n (now (target .entry))) (marked n (now (scratch .entry))) (asked tight (now (after .entry))) n (m - p .len) (prefix p) ⌝ }
-    ensures whole { λ r. ⌜ (r .ok ≡ true → (length (r .map .image) ≡ 120) × (r .map .len ≡ m)) ⌝ }
+    ensures answer { λ r. ⌜ r ≡ foundIn (search (product m (now (source .entry))) (product n (now (target .entry))) (marked n (now (scratch .entry))) (asked tight (now (after .entry))) n (m - p .len) (prefix p)) ⌝ }
 {
     let at = p.len;
     if m <= at {
-        return Tested { ok: !tight, map: p };
+        if tight {
+            return nothing();
+        }
+        let image = p.image;
+        return Found { ok: true, image };
     }
     let low: usize = if tight { after[at] as usize } else { 0 };
     let mut x: usize = 1;
     while x <= n {
         if open(&p.used, scratch, n, at + 1, low, x) {
-            // Looked at by reference, so an image that does not fit costs no copy of the map.
-            if settled(&p.forced, &p.owner, at + 1, x) {
-                if new_fits(source, m, target, n, &p.image, &p.used, at, x) {
-                    // x fits, so `tried` says ok.
-                    let q = p.tried(source, m, target, n, x);
+            // A look by reference first, so that an image that does not fit costs no copy of the map. The test decides.
+            if passes_with(
+                source,
+                m,
+                target,
+                n,
+                &p.image,
+                &p.used,
+                &p.forced,
+                &p.owner,
+                at,
+                x,
+            ) {
+                let q = p.place(n, x).test(source, m, target, n);
+                if q.ok {
                     let r = extend(source, m, target, n, scratch, after, x == low, q.map);
                     if r.ok {
                         return r;
@@ -338,7 +365,7 @@ fn extend(
         }
         x += 1;
     }
-    Tested { ok: false, map: p }
+    nothing()
 }
 
 // The earliest map of the marked candidates, or with `next` the earliest that is later than `after`.
@@ -350,11 +377,10 @@ pub fn find(
     scratch: &[u8],
     after: &[u8],
     next: bool,
-) -> Tested
+) -> Found
     requires { ⌜ Filled m (now source) × Filled n (now target) ⌝ }
     requires { ⌜ (scratchSize m n ≤ length (now scratch)) × (length (now after) ≡ m) ⌝ }
-    ensures answer { λ r. ⌜ foundMap r ≡ search (product m (now (source .entry))) (product n (now (target .entry))) (marked n (now (scratch .entry))) (asked next (now (after .entry))) n m [] ⌝ }
-    ensures whole { λ r. ⌜ (r .ok ≡ true → (length (r .map .image) ≡ 120) × (r .map .len ≡ m)) ⌝ }
+    ensures answer { λ r. ⌜ r ≡ foundIn (search (product m (now (source .entry))) (product n (now (target .entry))) (marked n (now (scratch .entry))) (asked next (now (after .entry))) n m []) ⌝ }
 {
     extend(source, m, target, n, scratch, after, next, Partial::new())
 }

@@ -1,11 +1,13 @@
 -- The questions of a search in the code's order, and what the marked search finds. Assumes nothing.
 use mathlib.Core.Path.{_≡_, refl, sym, ap, ap₂, _∙_, subst}
-use mathlib.Core.Bool.{Bool, true, false}
+use mathlib.Core.Bool.{Bool, true, false, false≢true}
 use mathlib.Core.List.{List, [], _∷_}
 use mathlib.Core.Option.{Option, none, some, orElse}
-use Prim.Native.Nat.{ℕ, _≤_, _<_}
+use Prim.Native.Nat.{ℕ, _-_, _≤_, _<_}
 use borrow.Author.Tests.{leb-false, eqb-true, eqb-false, le-leb, lt-leb, eq-eqb, ne-eqb}
 use lib.Dec.{eqb, leb}
+use lib.ListN.{length, take, replicate}
+use lib.Seq.{take-at}
 use Rattle.semigroups.specs.Lists.{at, find, firstOf}
 use Rattle.semigroups.specs.Tables.{Product, product, Element, Closed}
 use Rattle.semigroups.specs.Scratch.{scratchSize, marked, scratchAfter}
@@ -14,12 +16,13 @@ use Rattle.semigroups.specs.Maps.{Embedding, Kind, embeddings, isomorphisms, ma
 use Rattle.semigroups.specs.Candidates.{candidate}
 use Rattle.semigroups.specs.Search.{search as searched}
 use Rattle.semigroups.proofs.Questions.{failed-before, passed-before}
-use Rattle.semigroups.proofs.Maps.{no-embedding, no-isomorphism, one-order}
+use Rattle.semigroups.proofs.Maps.{map-embeds, earliest-found, no-embedding, no-isomorphism, one-order}
 use Rattle.semigroups.proofs.Candidates.{index-period-sound, profile-sound, marked-candidate}
 use Rattle.semigroups.proofs.Search.{search-earliest}
 use Rattle.semigroups.specs.Walks.{found, nothing}
-use Rattle.backtrack.specs.declared.Tested.{Tested}
-use Rattle.backtrack.specs.State.{foundMap, asked}
+use Rattle.backtrack.specs.declared.Found.{Found}
+use Rattle.backtrack.specs.State.{foundIn, asked}
+use Rattle.backtrack.proofs.Extending.{none-found}
 use Rattle.search.specs.Calls.{Lent, Request, askOf, answerOf, scratchOf, answered}
 use Rattle.search.specs.Answers.{requestOf, orderFits}
 
@@ -105,12 +108,28 @@ module _ (kind : Kind) (later : Bool) (l : Lent) (source : Closed (l .m) (produc
   answer-unfit e = unfit kind (l .m) (product (l .m) (l .source)) (l .n) (product (l .n) (l .target)) e (askOf request (l .map))
 
   -- Else the map that the marked search finds is the map asked for.
-  pub answer-found : orderFits kind (l .m) (l .n) ≡ true → (scratch : List ℕ) → scratch ≡ scratchOf kind request l → (r : Tested)
-      → foundMap r ≡ searched (product (l .m) (l .source)) (product (l .n) (l .target)) (marked (l .n) scratch) (asked later (l .map)) (l .n) (l .m) []
-      → foundMap r ≡ answerOf kind request l
-  answer-found e scratch es r a =
-      a ∙ ap₂ (λ (b : List ℕ) (q : Ask). searched (product (l .m) (l .source)) (product (l .n) (l .target)) (marked (l .n) b) q (l .n) (l .m) []) es (asked-request later (l .map))
-      ∙ finds kind (l .m) (product (l .m) (l .source)) (l .n) (product (l .n) (l .target)) source target (l .scratch) e (askOf request (l .map))
+  module _ (fits : orderFits kind (l .m) (l .n) ≡ true) (scratch : List ℕ) (filled : scratch ≡ scratchOf kind request l) (r : Found)
+      (finding : r ≡ foundIn (searched (product (l .m) (l .source)) (product (l .n) (l .target)) (marked (l .n) scratch) (asked later (l .map)) (l .n) (l .m) [])) where
+    answer-found : r ≡ foundIn (answerOf kind request l)
+    answer-found =
+        finding
+        ∙ ap foundIn (ap₂ (λ (b : List ℕ) (q : Ask). searched (product (l .m) (l .source)) (product (l .n) (l .target)) (marked (l .n) b) q (l .n) (l .m) []) filled (asked-request later (l .map))
+        ∙ finds kind (l .m) (product (l .m) (l .source)) (l .n) (product (l .n) (l .target)) source target (l .scratch) fits (askOf request (l .map)))
+
+    pub answer-none : r .ok ≡ false → answerOf kind request l ≡ none
+    answer-none e = none-found (answerOf kind request l) (ap (λ (f : Found). f .ok) (sym answer-found) ∙ e)
+
+    pub answer-some : r .ok ≡ true → answerOf kind request l ≡ some (take (l .m) (r .image))
+    unfolding foundIn
+    answer-some e = go (answerOf kind request l) refl
+      where
+        go : (o : Option (List ℕ)) → answerOf kind request l ≡ o → o ≡ some (take (l .m) (r .image))
+        go none q = absurd (false≢true (ap (λ (f : Found). f .ok) (sym (answer-found ∙ ap foundIn q)) ∙ e))
+        go (some f) q =
+            let s = product (l .m) (l .source) in
+            let t = product (l .n) (l .target) in
+            let long = map-embeds (l .m) s (l .n) t f kind (earliest-found kind (l .m) s (l .n) t (askOf request (l .map)) f q .has .0) .homomorphism .size in
+            ap some (sym (ap (λ (h : Found). take (l .m) (h .image)) (answer-found ∙ ap foundIn q) ∙ take-at f (replicate (120 - length f) 0) (l .m) long))
 
 -- ---- what is said and left
 

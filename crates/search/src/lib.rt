@@ -87,8 +87,7 @@ fn answer(
     if !result.ok {
         return SearchAnswer::Nothing;
     }
-    let found = result.map;
-    let image = found.image;
+    let image = result.image;
     write_map(map, &image, m);
     SearchAnswer::Found
 }

@@ -1,26 +1,31 @@
 -- `extend` meets its contract. The measure is what is left to place. The loop's invariant: the answer of the call is what is left of it
 -- from x on. Assumes nothing.
-use mathlib.Core.Path.{_≡_, subst, _∙_}
+use mathlib.Core.Path.{_≡_, sym, ap, subst, _∙_}
 use mathlib.Core.Logic.{⊎-elim}
-use mathlib.Core.Bool.{false≢true}
 use Prim.Native.Nat.{_+_, _-_, _≤_, ℕ, _<_}
 use native.Mathlib.Omega.{arith}
+use borrow.Author.Needs.{needs}
 use borrow.Fn.Kinds.{In}
 use borrow.Fn.PlainCycle.{Measures, is, falls, and}
 use Rattle.semigroups.specs.Tables.{product}
+use Rattle.semigroups.specs.Search.{passes}
 use Rattle.semigroups.proofs.Tables.{product-element}
+use Rattle.backtrack.specs.State.{foundIn}
+use Rattle.backtrack.specs.declared.Found.{Found}
 use Rattle.backtrack.proofs.Placing.{as-trial}
+use Rattle.backtrack.proofs.Noting.{handed-on}
 use Rattle.backtrack.proofs.Steps.{lowest}
-use Rattle.backtrack.proofs.Extending.{Called, Rest, Turn, done, begins, ends, row-marked, unused, skip, unsettled, unfit, passing, onward, fail, found}
+use Rattle.backtrack.proofs.Extending.{Called, Rest, Turn, Verdict, verdict, done-bound, done-found, begins, ends, row-marked, unused, skip, refuse, handed-passes, onward, fail, found}
 use Rattle.backtrack.proofs.+extend.{statement}
 use Rattle.backtrack.proofs.+extend.Tie.{close}
 use Rattle.backtrack.proofs.extend.Reads as extend
 use Rattle.backtrack.proofs.extend.Kinds as extend-kinds
 use Rattle.backtrack.proofs.+extend.Lts-extend as extend-lts
-use Rattle.backtrack.proofs.Partial.tried.Reads as tried-reads
-use Rattle.backtrack.proofs.new_fits.Reads as new-fits-reads
+use Rattle.backtrack.proofs.Partial.place.Reads as place-reads
+use Rattle.backtrack.proofs.Partial.test.Reads as test-reads
+use Rattle.backtrack.proofs.nothing.Reads as nothing-reads
 use Rattle.backtrack.proofs.open.Reads as open-reads
-use Rattle.backtrack.proofs.settled.Reads as settled-reads
+use Rattle.backtrack.proofs.passes_with.Reads as passes-with-reads
 
 abbrev μ-extend : Measures 4 extend-kinds.ps ℕ
 μ-extend κs a = a .1 .0 - a .1 .1 .1 .1 .1 .1 .1 .0 .len
@@ -41,7 +46,7 @@ extend-μ-loop source m target n scratch after tight p at low x₀ x = n + 1 - x
 -- What the calls ask and tell.
 abbrev calls : ℕ → extend-lts.Claims
 calls t =
-    (open-reads.Asked, open-reads.Learnt, settled-reads.Asked, settled-reads.Learnt, new-fits-reads.Asked, new-fits-reads.Learnt, tried-reads.Asked, tried-reads.Learnt, extend-below t, extend.Post)
+    (nothing-reads.Asked, nothing-reads.Learnt, open-reads.Asked, open-reads.Learnt, passes-with-reads.Asked, passes-with-reads.Learnt, place-reads.Asked, place-reads.Learnt, test-reads.Asked, test-reads.Learnt, extend-below t, extend.Post)
 
 abbrev Start : ℕ → Type 0
 Start t = extend-lts.Start (calls t) (extend-at t) extend.Post extend-Inv-loop extend-μ-loop
@@ -54,7 +59,7 @@ start t k = k .before .before .before .before .before .before .before .before .b
 
 -- The turn, once `open` has answered.
 turn : (t : ℕ) (k : Opened t) → let a = start t k .args in
-    Turn (product (a .m) (a .source .now)) (a .m) (product (a .n) (a .target .now)) (a .n) (a .scratch .now) (a .after .now) (a .tight) (a .t8) (k .before .before .before .before .before .if2 .low) (k .before .before .before .before .loop .x) (k .«open» .result)
+    Turn (product (a .m) (a .source .now)) (a .m) (product (a .n) (a .target .now)) (a .n) (a .scratch .now) (a .after .now) (a .tight) (a .t8) (k .before .before .before .before .before .if3 .low) (k .before .before .before .before .loop .x) (k .«open» .result)
 turn t k =
     let z = start t k in
     let source = z .pre .1 .0 .0 in
@@ -69,16 +74,41 @@ turn t k =
       opened = k .«open» .ensures;
     }
 
+abbrev Tested : ℕ → Type 0
+Tested t = extend-lts.After-test (calls t) (extend-at t) extend.Post extend-Inv-loop extend-μ-loop
+
+-- What the test says, once it has answered.
+tested : (t : ℕ) (k : Tested t) → let a = start t (k .before .before .before .before .before .before .before .before .before .before) .args in
+    Verdict (product (a .m) (a .source .now)) (product (a .n) (a .target .now)) (a .t8) (k .before .before .before .before .before .before .before .before .before .before .before .before .before .before .loop .x) (k .before .place .result) (k .test .result .map) (k .test .result .ok)
+tested t k =
+    let more = k .before .place .ensures .1 .0 in
+    let test = k .test .ensures in
+    record {
+      longer = more .0;
+      one-more = more .2;
+      says = test .0;
+      same-images = test .1 .1 .0;
+      same-length = test .1 .1 .1;
+    }
+
+extend-nothing-requires : (t : ℕ) → extend-lts.Need-nothing-requires (calls t) (extend-at t) extend.Post extend-Inv-loop extend-μ-loop
+extend-nothing-requires t c κs = search needs
+
 extend-returns : (t : ℕ) → extend-lts.Need-returns (calls t) (extend-at t) extend.Post extend-Inv-loop extend-μ-loop
 extend-returns t c =
-    let z = c .before .before .before .before .before in
+    let z = c .before .before .before .before .before .before .before in
     let a = z .args in
     let s = product (a .m) (a .source .now) in
     let r = product (a .n) (a .target .now) in
-    let q = z .pre .1 .1 in
-    let w = q .within in
-    let e = c .if1 .taken in
-    (done s (a .m) r (a .n) (a .scratch .now) (a .after .now) (a .tight) (a .t8) q e, λ _. (q .holds .placing .long, omega arith))
+    c .nothing .ensures ∙ ap foundIn (done-bound s (a .m) r (a .n) (a .scratch .now) (a .after .now) (a .tight) (a .t8) (z .pre .1 .1) (c .before .before .if1 .taken) (c .before .if2 .taken))
+
+extend-returns-2 : (t : ℕ) → extend-lts.Need-returns-2 (calls t) (extend-at t) extend.Post extend-Inv-loop extend-μ-loop
+extend-returns-2 t c =
+    let z = c .before .before .before .before .before .before .before in
+    let a = z .args in
+    let s = product (a .m) (a .source .now) in
+    let r = product (a .n) (a .target .now) in
+    done-found s (a .m) r (a .n) (a .scratch .now) (a .after .now) (a .tight) (a .t8) (z .pre .1 .1) (c .before .before .if1 .taken) (c .before .if2 .left)
 
 extend-shared-slice-read-low : (t : ℕ) → extend-lts.Need-shared-slice-read-low (calls t) (extend-at t) extend.Post extend-Inv-loop extend-μ-loop
 extend-shared-slice-read-low t c = let b = c .before .before .before .before .before .before .before .pre .1 .1 .bound in let e = c .before .before .if1 .left in omega arith
@@ -92,7 +122,7 @@ extend-loop-holds t c =
     let a = z .args in
     let s = product (a .m) (a .source .now) in
     let r = product (a .n) (a .target .now) in
-    (omega arith, omega arith, ⊎-elim (λ w. w .2 ∙ rw (w .0 .taken)) (λ w. w .1 ∙ rw (w .0 .left)) (c .if2 .came), begins s (a .m) r (a .n) (a .scratch .now) (a .after .now) (a .tight) (a .t8) (z .pre .1 .1) (c .before .if1 .left))
+    (omega arith, omega arith, ⊎-elim (λ w. w .2 ∙ rw (w .0 .taken)) (λ w. w .1 ∙ rw (w .0 .left)) (c .if3 .came), begins s (a .m) r (a .n) (a .scratch .now) (a .after .now) (a .tight) (a .t8) (z .pre .1 .1) (c .before .if1 .left))
 
 extend-add-open : (t : ℕ) → extend-lts.Need-add-open (calls t) (extend-at t) extend.Post extend-Inv-loop extend-μ-loop
 extend-add-open t c = let m = c .before .before .before .before .before .before .before .before .before .before .pre .1 .0 .0 .order in let e = c .before .before .before .before .before .if1 .left in omega arith
@@ -109,53 +139,56 @@ extend-open-requires t c κs =
     let test = c .before .before .loop-test .taken in
     ((omega arith, (c .before .before .before .loop .inv .0, omega arith), n .1), row-marked s (a .m) r (a .n) (a .scratch .now) (a .after .now) (a .tight) (a .t8) (z .pre .1 .1) e)
 
-extend-add-settled : (t : ℕ) → extend-lts.Need-add-settled (calls t) (extend-at t) extend.Post extend-Inv-loop extend-μ-loop
-extend-add-settled t c = let T = turn t (c .before .before .before .before) in omega arith
-
-extend-settled-requires : (t : ℕ) → extend-lts.Need-settled-requires (calls t) (extend-at t) extend.Post extend-Inv-loop extend-μ-loop
-extend-settled-requires t c κs = let T = turn t (c .before .before .before .before) in (omega arith, omega arith)
-
-extend-new-fits-requires : (t : ℕ) → extend-lts.Need-new-fits-requires (calls t) (extend-at t) extend.Post extend-Inv-loop extend-μ-loop
-extend-new-fits-requires t c κs =
-    let k = c .before .before .before .before .before .before .before .before .before in
+extend-passes-with-requires : (t : ℕ) → extend-lts.Need-passes-with-requires (calls t) (extend-at t) extend.Post extend-Inv-loop extend-μ-loop
+extend-passes-with-requires t c κs =
+    let k = c .before .before .before .before .before .before in
     let a = start t k .args in
     let p = a .t8 in
     let T = turn t k in
-    (start t k .pre .1 .0, (as-trial (a .n) (p .image) (p .used) (p .len) (T .reached .holds .placing) (k .before .before .before .before .loop .x) (T .element) (omega arith), T .room))
+    let holds = T .reached .holds in
+    (start t k .pre .1 .0, ((as-trial (a .n) (p .image) (p .used) (p .len) (holds .placing) (k .before .before .before .before .loop .x) (T .element) (omega arith), T .room, unused T (c .before .before .before .before .before .if4 .taken)), (holds .tracks, T .reached .passed)))
 
-extend-tried-requires : (t : ℕ) → extend-lts.Need-tried-requires (calls t) (extend-at t) extend.Post extend-Inv-loop extend-μ-loop
-extend-tried-requires t c κs =
-    let k = c .before .before .before .before .before .before .before .before .before .before .before in
+extend-place-requires : (t : ℕ) → extend-lts.Need-place-requires (calls t) (extend-at t) extend.Post extend-Inv-loop extend-μ-loop
+extend-place-requires t c κs =
+    let T = turn t (c .before .before .before .before .before .before .before .before) in
+    let room = T .room in
+    let orders = T .orders in
+    (T .reached .holds .placing, (T .element, orders .1, omega arith, unused T (c .before .before .before .before .before .before .before .if4 .taken)))
+
+extend-test-requires : (t : ℕ) → extend-lts.Need-test-requires (calls t) (extend-at t) extend.Post extend-Inv-loop extend-μ-loop
+extend-test-requires t c κs =
+    let k = c .before .before .before .before .before .before .before .before .before in
+    let z = start t k in
+    let a = z .args in
+    let s = product (a .m) (a .source .now) in
+    let r = product (a .n) (a .target .now) in
     let T = turn t k in
-    (start t k .pre .1 .0, ((T .reached .holds, T .reached .passed), (T .element, T .room, unused T (c .before .before .before .before .before .before .before .before .before .before .if3 .taken))))
+    let room = T .room in
+    let place = c .place in
+    let more = place .ensures .1 .0 in
+    let len = more .2 in
+    let marks = place .ensures .1 .1 in
+    (z .pre .1 .0, ((place .ensures .0, omega arith), (handed-on s r (a .t8) (place .result) (more .2) (more .1) (marks .0) (marks .1) (T .reached .holds .tracks), handed-passes s r (a .t8) (place .result) (more .2) (more .1) (T .reached .passed))))
 
 extend-extend-requires : (t : ℕ) → extend-lts.Need-extend-requires (calls t) (extend-at t) extend.Post extend-Inv-loop extend-μ-loop
 extend-extend-requires t c κs =
-    let k = c .before .before .before .before .before .before .before .before .before .before .before .before in
+    let w = c .before in
+    let k = w .before .before .before .before .before .before .before .before .before .before in
     let z = start t k in
     let T = turn t k in
     let room = T .room in
-    let open? = c .before .before .before .before .before .before .before .before .before .before .before .if3 .taken in
-    let g = c .before .before .before .before .before .before .before .settled in
-    let f = c .before .before .new-fits in
-    let pass = passing T open? (g .result) (g .ensures) (f .result) (f .ensures) (c .before .before .before .before .before .before .if4 .taken) (c .before .if5 .taken) in
-    let w = c .tried in
-    let v = w .ensures .1 (w .ensures .0 ∙ pass) in
-    let len = v .2 in
-    (subst (λ (j : ℕ). z .args .m - w .result .map .len < j) (z .pre .0) (omega arith), (z .pre .1 .0, onward T open? pass (w .result .map) (v .1) (v .2) (v .0)))
+    let v = tested t w in
+    let one = v .one-more in
+    let same = v .same-length in
+    (subst (λ (j : ℕ). z .args .m - w .test .result .map .len < j) (z .pre .0) (omega arith), (z .pre .1 .0, onward T (w .before .before .before .before .before .before .before .before .before .if4 .taken) (w .before .place .result) (w .test .result .map) (w .test .result .ok) v (c .if6 .taken) (w .test .ensures .1 .0)))
 
-extend-returns-2 : (t : ℕ) → extend-lts.Need-returns-2 (calls t) (extend-at t) extend.Post extend-Inv-loop extend-μ-loop
-extend-returns-2 t c =
-    let k = c .before .before .before .before .before .before .before .before .before .before .before .before .before .before in
+extend-returns-3 : (t : ℕ) → extend-lts.Need-returns-3 (calls t) (extend-at t) extend.Post extend-Inv-loop extend-μ-loop
+extend-returns-3 t c =
+    let w = c .before .before .before in
+    let k = w .before .before .before .before .before .before .before .before .before .before in
     let T = turn t k in
-    let open? = c .before .before .before .before .before .before .before .before .before .before .before .before .before .if3 .taken in
-    let g = c .before .before .before .before .before .before .before .before .before .settled in
-    let f = c .before .before .before .before .new-fits in
-    let pass = passing T open? (g .result) (g .ensures) (f .result) (f .ensures) (c .before .before .before .before .before .before .before .before .if4 .taken) (c .before .before .before .if5 .taken) in
-    let w = c .before .before .tried in
-    let v = w .ensures .1 (w .ensures .0 ∙ pass) in
     let i = c .before .extend in
-    (found T open? pass (w .result .map) (v .1) (v .2) (i .result) (i .ensures .0) (c .if6 .taken) (k .before .before .before .before .loop .inv .3), i .ensures .1)
+    i .ensures ∙ ap foundIn (found T (w .before .before .before .before .before .before .before .before .before .if4 .taken) (w .before .place .result) (w .test .result .map) (w .test .result .ok) (tested t w) (c .before .before .if6 .taken) (ap (λ (f : Found). f .ok) (sym (i .ensures)) ∙ c .if7 .taken) (k .before .before .before .before .loop .inv .3))
 
 extend-add-x : (t : ℕ) → extend-lts.Need-add-x (calls t) (extend-at t) extend.Post extend-Inv-loop extend-μ-loop
 extend-add-x t c = let n = c .before .before .before .before .before .before .before .before .before .before .before .before .pre .1 .0 .1 .order in let t = c .before .before .before .before .loop-test .taken in omega arith
@@ -174,25 +207,29 @@ extend-loop-again t c =
       i .2,
       ⊎-elim
           (λ w.
-          let pass = passing T (w .0 .taken) (w .4 .result) (w .4 .ensures) (w .9 .result) (w .9 .ensures) (w .5 .taken) (w .10 .taken) in
-          let v = w .11 .ensures .1 (w .11 .ensures .0 ∙ pass) in
-          fail T (w .0 .taken) pass (w .11 .result .map) (v .1) (v .2) (w .12 .result) (w .12 .ensures .0) (w .13 .left) (i .3))
+          let more = w .8 .ensures .1 .0 in
+          let test = w .9 .ensures in
+          let v : Verdict _ _ _ _ (w .8 .result) (w .9 .result .map) (w .9 .result .ok) = record { longer = more .0; one-more = more .2; says = test .0; same-images = test .1 .1 .0; same-length = test .1 .1 .1 } in
+          fail T (w .0 .taken) (w .8 .result) (w .9 .result .map) (w .9 .result .ok) v (w .10 .taken) (ap (λ (f : Found). f .ok) (sym (w .11 .ensures)) ∙ w .12 .left) (i .3))
           (⊎-elim
-          (λ w. unfit T (w .0 .taken) (w .4 .result) (w .4 .ensures) (w .9 .result) (w .9 .ensures) (w .10 .left) (i .3))
+          (λ w. refuse T (ap (passes _ _) (sym (w .8 .ensures .1 .0 .0)) ∙ sym (w .9 .ensures .0) ∙ w .10 .left) (i .3))
           (⊎-elim
-          (λ w. unsettled T (w .0 .taken) (w .4 .result) (w .4 .ensures) (w .5 .left) (i .3))
+          (λ w. refuse T (sym (w .6 .ensures) ∙ w .7 .left) (i .3))
           (λ w. skip T (w .left) (i .3))))
-          (c .if3 .came),
+          (c .if4 .came),
     )
 
-extend-returns-3 : (t : ℕ) → extend-lts.Need-returns-3 (calls t) (extend-at t) extend.Post extend-Inv-loop extend-μ-loop
-extend-returns-3 t c =
-    let z = c .before .before .before .before .before .before .before .before in
+extend-nothing-requires-2 : (t : ℕ) → extend-lts.Need-nothing-requires-2 (calls t) (extend-at t) extend.Post extend-Inv-loop extend-μ-loop
+extend-nothing-requires-2 t c κs = search needs
+
+extend-returns-4 : (t : ℕ) → extend-lts.Need-returns-4 (calls t) (extend-at t) extend.Post extend-Inv-loop extend-μ-loop
+extend-returns-4 t c =
+    let z = c .before .before .before .before .before .before .before .before .before in
     let a = z .args in
     let s = product (a .m) (a .source .now) in
     let r = product (a .n) (a .target .now) in
-    let l = c .before .loop in
-    (ends s (a .m) r (a .n) (a .scratch .now) (a .after .now) (a .tight) (a .t8) (z .pre .1 .1) (c .before .before .before .if1 .left) (l .x) (c .loop-test .left) (l .inv .3), λ q. absurd (false≢true q))
+    let l = c .before .before .loop in
+    c .nothing2 .ensures ∙ ap foundIn (ends s (a .m) r (a .n) (a .scratch .now) (a .after .now) (a .tight) (a .t8) (z .pre .1 .1) (c .before .before .before .before .if1 .left) (l .x) (c .before .loop-test .left) (l .inv .3))
 
 pub +extend-spec : {M : Type 1} → statement M
 +extend-spec = close μ-extend λ t. extend-lts.spec (calls t)
@@ -200,19 +237,21 @@ pub +extend-spec : {M : Type 1} → statement M
     extend.Post
     extend-Inv-loop
     extend-μ-loop
+    (extend-nothing-requires t)
     (extend-returns t)
+    (extend-returns-2 t)
     (extend-shared-slice-read-low t)
     (extend-cast-low t)
     (extend-loop-holds t)
     (extend-add-open t)
     (extend-open-requires t)
-    (extend-add-settled t)
-    (extend-settled-requires t)
-    (extend-new-fits-requires t)
-    (extend-tried-requires t)
+    (extend-passes-with-requires t)
+    (extend-place-requires t)
+    (extend-test-requires t)
     (extend-extend-requires t)
-    (extend-returns-2 t)
+    (extend-returns-3 t)
     (extend-add-x t)
     (extend-loop-less t)
     (extend-loop-again t)
-    (extend-returns-3 t)
+    (extend-nothing-requires-2 t)
+    (extend-returns-4 t)
