@@ -6,14 +6,14 @@ use Prim.Native.Nat.{ℕ, zero, suc, _+_, _-_, _≤_, _<_}
 use native.Mathlib.Numerals.{add-one}
 use native.Mathlib.Omega.{arith}
 use lib.ListN.{length, getD, take, length-set, replicate, length-replicate, getD-replicate}
-use lib.Seq.{length-take-le}
+use lib.Seq.{length-take-le, getD-take}
 use Rattle.semigroups.specs.Lists.{range, elements, at, all, member}
 use Rattle.semigroups.specs.Tables.{Product, Element, Closed}
 use Rattle.semigroups.specs.Search.{passes}
 use Rattle.backtrack.specs.Marks.{allows, merge, noted, imageProduct, asks, agreeOn, cross, newFits, Reads}
 use Rattle.backtrack.specs.State.{prefix, Placing, Tracks}
 use Rattle.backtrack.specs.declared.Partial.{Partial}
-use Rattle.backtrack.proofs.Placing.{prefix-at, image-element, newest-prefix}
+use Rattle.backtrack.proofs.Placing.{newest-prefix}
 use Rattle.backtrack.proofs.Marks.{note-reads, each-more, agreeOn-more, agreeOn-forced, agreeOn-owner, settle}
 
 -- ---- the pairs of the newest element
@@ -103,20 +103,23 @@ module _ (m : ℕ) (s t : Product) (closed : Closed m s) (f : List ℕ) (x : ℕ
 -- ---- one turn of the loop that notes the pairs of the newest element
 
 module _ (m : ℕ) (s : Product) (n : ℕ) (t : Product) (source : Closed m s) (target : Closed n t) (hm : m ≤ 120) (hn : n ≤ 120)
-    (image used : List ℕ) (len : ℕ) (P : Placing n image used len) (fit : len ≤ m) (j : ℕ) (hj : Element len j) where
+    (image : List ℕ) (len : ℕ) (images : (a : ℕ) → Element len a → Element n (at image a)) (fit : len ≤ m) (j : ℕ) (hj : Element len j) where
   abbrev f : List ℕ
   f = take len image
 
-  seen : (a b : ℕ) → Element len a → Element len b → imageProduct t image a b ≡ imageProduct t f a b
+  seen-at : (a : ℕ) → Element len a → at image a ≡ at f a
   unfolding at
-  seen a b ha hb = sym (ap₂ t (prefix-at n image used len P a ha) (prefix-at n image used len P b hb))
+  seen-at a h = sym (getD-take len image (a - 1) 0 (omega arith))
+
+  seen : (a b : ℕ) → Element len a → Element len b → imageProduct t image a b ≡ imageProduct t f a b
+  seen a b ha hb = ap₂ t (seen-at a ha) (seen-at b hb)
 
   source-small : (a b : ℕ) → Element len a → Element len b → Element 120 (s a b)
   source-small a b ha hb = let e = source a b (omega arith) (omega arith) in omega arith
 
   target-small : (a b : ℕ) → Element len a → Element len b → Element 120 (imageProduct t f a b)
   target-small a b ha hb =
-      let e = target (at f a) (at f b) (subst (Element n) (sym (prefix-at n image used len P a ha)) (image-element n image used len P a ha)) (subst (Element n) (sym (prefix-at n image used len P b hb)) (image-element n image used len P b hb)) in
+      let e = target (at f a) (at f b) (subst (Element n) (seen-at a ha) (images a ha)) (subst (Element n) (seen-at b hb) (images b hb)) in
       omega arith
 
   pub turn : (forced owner forced₁ owner₁ forced₂ owner₂ : List ℕ) → Tracks s t f (len - 1) (j - 1) forced owner

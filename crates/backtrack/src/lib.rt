@@ -85,6 +85,30 @@ fn note_pair(
     note(owner, z, c);
 }
 
+// The pairs of the newest element are noted.
+fn note_newest(
+    source: &[u8],
+    m: usize,
+    target: &[u8],
+    n: usize,
+    image: &[u8; 120],
+    forced: &mut [u8; 121],
+    owner: &mut [u8; 121],
+    len: usize,
+)
+    requires { ⌜ Filled m (now source) × Filled n (now target) ⌝ }
+    requires { ⌜ Element m len × ((a : ℕ) → Element len a → Element n (at (now image) a)) ⌝ }
+    requires { ⌜ Tracks (product m (now source)) (product n (now target)) (take len (now image)) (len - 1) 0 (now forced) (now owner) ⌝ }
+    ensures marks { λ _. ⌜ Tracks (product m (now (source .entry))) (product n (now (target .entry))) (take len (now (image .entry))) len 0 (now (forced .exit)) (now (owner .exit)) ⌝ }
+{
+    let mut j: usize = 1;
+    while j <= len {
+        note_pair(source, m, target, n, image, forced, owner, j, len);
+        note_pair(source, m, target, n, image, forced, owner, len, j);
+        j += 1;
+    }
+}
+
 // The image of element a, where x is that of the next element.
 fn image_of(image: &[u8; 120], len: usize, x: usize, a: usize) -> usize
     requires { ⌜ (length (now image) ≡ 120) × (len < 120) × Element (len + 1) a ⌝ }
@@ -267,32 +291,7 @@ impl Partial {
             before,
             x,
         );
-        let mut j: usize = 1;
-        while j <= len {
-            note_pair(
-                source,
-                m,
-                target,
-                n,
-                &image,
-                &mut forced,
-                &mut owner,
-                j,
-                len,
-            );
-            note_pair(
-                source,
-                m,
-                target,
-                n,
-                &image,
-                &mut forced,
-                &mut owner,
-                len,
-                j,
-            );
-            j += 1;
-        }
+        note_newest(source, m, target, n, &image, &mut forced, &mut owner, len);
         let map = Partial {
             image,
             used,

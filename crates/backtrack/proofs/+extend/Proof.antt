@@ -15,7 +15,7 @@ use Rattle.backtrack.specs.declared.Found.{Found}
 use Rattle.backtrack.proofs.Placing.{as-trial}
 use Rattle.backtrack.proofs.Noting.{handed-on}
 use Rattle.backtrack.proofs.Steps.{lowest}
-use Rattle.backtrack.proofs.Extending.{Called, Rest, Turn, Verdict, verdict, done-bound, done-found, begins, ends, row-marked, unused, skip, refuse, handed-passes, onward, fail, found}
+use Rattle.backtrack.proofs.Extending.{Called, Rest, Turn, Verdict, done-bound, done-found, begins, ends, row-marked, unused, skip, refuse, handed-passes, onward, fail, found}
 use Rattle.backtrack.proofs.+extend.{statement}
 use Rattle.backtrack.proofs.+extend.Tie.{close}
 use Rattle.backtrack.proofs.extend.Reads as extend
