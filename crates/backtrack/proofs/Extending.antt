@@ -17,13 +17,13 @@ use Rattle.semigroups.specs.Search.{passes, search}
 use Rattle.semigroups.proofs.Booleans.{and-left, and-right}
 use Rattle.backtrack.specs.declared.Partial.{Partial}
 use Rattle.backtrack.specs.declared.Found.{Found}
-use Rattle.backtrack.specs.State.{prefix, Holds, Reached, foundIn, asked}
+use Rattle.backtrack.specs.State.{prefix, Holds, Ready, foundIn, bounded}
 use Rattle.backtrack.proofs.Placing.{prefix-length, image-padded, used-image}
 use Rattle.backtrack.proofs.Steps.{lowest, leftFrom, whole, begin, end, isOpen, shut, fails, back, hit, still}
 
 -- Nothing placed.
 pub start : (s : Product) (m : ℕ) (t : Product) (n : ℕ) (scratch after : List ℕ) (tight : Bool) (p : Partial) → p .len ≡ 0 → Holds s n t p → scratchSize m n ≤ length scratch → length after ≡ m
-    → Reached s m t n scratch after tight p
+    → Ready s m t n scratch after tight p
 unfolding passes all elements range
 start s m t n scratch after tight p e H space bound =
     record {
@@ -43,12 +43,12 @@ none-found (some f) e = absurd (false≢true (sym e))
 
 -- What a call is to answer, and what is left of it from x on.
 abbrev pub Called : Product → ℕ → Product → ℕ → List ℕ → List ℕ → Bool → Partial → Option (List ℕ)
-Called s m t n scratch after tight p = search s t (marked n scratch) (asked tight after) n (m - p .len) (prefix p)
+Called s m t n scratch after tight p = search s t (marked n scratch) (bounded tight after) n (m - p .len) (prefix p)
 
 abbrev pub Rest : Product → ℕ → Product → ℕ → List ℕ → List ℕ → Bool → Partial → ℕ → Option (List ℕ)
-Rest s m t n scratch after tight p x = leftFrom s t (marked n scratch) (asked tight after) n (m - (p .len + 1)) (prefix p) x
+Rest s m t n scratch after tight p x = leftFrom s t (marked n scratch) (bounded tight after) n (m - (p .len + 1)) (prefix p) x
 
-module _ (s : Product) (m : ℕ) (t : Product) (n : ℕ) (scratch after : List ℕ) (tight : Bool) (p : Partial) (Q : Reached s m t n scratch after tight p) where
+module _ (s : Product) (m : ℕ) (t : Product) (n : ℕ) (scratch after : List ℕ) (tight : Bool) (p : Partial) (Q : Ready s m t n scratch after tight p) where
   abbrev Whole : Option (List ℕ)
   Whole = Called s m t n scratch after tight p
 
@@ -65,7 +65,7 @@ module _ (s : Product) (m : ℕ) (t : Product) (n : ℕ) (scratch after : List �
       let b = Q .bound in
       let l = long in
       let e : 0 ≡ m - p .len = omega arith in
-      whole s t (marked n scratch) n after (prefix p) tight same (omega arith) ∙ ap (λ (d : ℕ). search s t (marked n scratch) (asked tight after) n d (prefix p)) e
+      whole s t (marked n scratch) n after (prefix p) tight same (omega arith) ∙ ap (λ (d : ℕ). search s t (marked n scratch) (bounded tight after) n d (prefix p)) e
 
   pub done-bound : m ≤ p .len → tight ≡ true → none ≡ Whole
   done-bound h e = ap {B = Option (List ℕ)} (λ (b : Bool). cond (not b) (some (prefix p)) none) (sym e) ∙ done h
@@ -85,7 +85,7 @@ module _ (s : Product) (m : ℕ) (t : Product) (n : ℕ) (scratch after : List �
 
     pub begins : Whole ≡ Left 1
     begins =
-        ap (λ (d : ℕ). search s t (marked n scratch) (asked tight after) n d (prefix p)) (let e : m - p .len ≡ suc (m - (p .len + 1)) = omega arith in e)
+        ap (λ (d : ℕ). search s t (marked n scratch) (bounded tight after) n d (prefix p)) (let e : m - p .len ≡ suc (m - (p .len + 1)) = omega arith in e)
         ∙ begin s t (marked n scratch) n after (prefix p) tight same (m - (p .len + 1)) short
 
     pub ends : (x : ℕ) → n < x → Whole ≡ Left x → none ≡ Whole
@@ -98,7 +98,7 @@ module _ (s : Product) (m : ℕ) (t : Product) (n : ℕ) (scratch after : List �
 
 -- One turn of the loop: x is looked at, and o says whether it is open.
 pub record Turn (s : Product) (m : ℕ) (t : Product) (n : ℕ) (scratch after : List ℕ) (tight : Bool) (p : Partial) (low x : ℕ) (o : Bool) : Type 0 where
-  pub reached : Reached s m t n scratch after tight p
+  pub ready : Ready s m t n scratch after tight p
   pub closed : Closed m s
   pub orders : (m ≤ 120) × (n ≤ 120)
   pub room : p .len < m
@@ -127,29 +127,29 @@ module _ {s : Product} {m : ℕ} {t : Product} {n : ℕ} {scratch after : List �
 
   -- What the code tests is whether x is open.
   abbrev Open : Bool
-  Open = isOpen s t (marked n scratch) n after (prefix p) tight (same s m t n scratch after tight p (T .reached)) (m - (p .len + 1)) (short s m t n scratch after tight p (T .reached) (T .room)) x (T .element .0)
+  Open = isOpen s t (marked n scratch) n after (prefix p) tight (same s m t n scratch after tight p (T .ready)) (m - (p .len + 1)) (short s m t n scratch after tight p (T .ready) (T .room)) x (T .element .0)
 
   low-here : low ≡ lowest tight after (length (prefix p))
-  low-here = T .bound ∙ ap (lowest tight after) (sym (long s m t n scratch after tight p (T .reached)))
+  low-here = T .bound ∙ ap (lowest tight after) (sym (long s m t n scratch after tight p (T .ready)))
 
   used-here : eqb (getD (p .used) x 0) 0 ≡ not (member x (prefix p))
-  used-here = used-image n (p .image) (p .used) (p .len) (T .reached .holds .placing) x (omega arith)
+  used-here = used-image n (p .image) (p .used) (p .len) (T .ready .holds .placing) x (omega arith)
 
   open-is : o ≡ Open
   open-is =
       T .opened
       ∙ ap₂ _&&_ (ap (λ (k : ℕ). leb k x) low-here)
-      (ap₂ _&&_ used-here (ap (λ (k : ℕ). marked n scratch k x) (add-one (p .len) ∙ ap suc (sym (long s m t n scratch after tight p (T .reached))))))
+      (ap₂ _&&_ used-here (ap (λ (k : ℕ). marked n scratch k x) (add-one (p .len) ∙ ap suc (sym (long s m t n scratch after tight p (T .ready))))))
 
   -- What is left from x on is the answer: it is what is left from x + 1 on.
   abbrev Onward : Type 0
   Onward = Called s m t n scratch after tight p ≡ Rest s m t n scratch after tight p x → Called s m t n scratch after tight p ≡ Rest s m t n scratch after tight p (x + 1)
 
   pub skip : o ≡ false → Onward
-  skip h e = e ∙ shut s t (marked n scratch) n after (prefix p) tight (same s m t n scratch after tight p (T .reached)) (m - (p .len + 1)) (short s m t n scratch after tight p (T .reached) (T .room)) x (T .element .0) (sym open-is ∙ h) (T .element .1)
+  skip h e = e ∙ shut s t (marked n scratch) n after (prefix p) tight (same s m t n scratch after tight p (T .ready)) (m - (p .len + 1)) (short s m t n scratch after tight p (T .ready) (T .room)) x (T .element .0) (sym open-is ∙ h) (T .element .1)
 
   pub refuse : passes s t longer ≡ false → Onward
-  refuse h e = e ∙ fails s t (marked n scratch) n after (prefix p) tight (same s m t n scratch after tight p (T .reached)) (m - (p .len + 1)) (short s m t n scratch after tight p (T .reached) (T .room)) x (T .element .0) h (T .element .1)
+  refuse h e = e ∙ fails s t (marked n scratch) n after (prefix p) tight (same s m t n scratch after tight p (T .ready)) (m - (p .len + 1)) (short s m t n scratch after tight p (T .ready) (T .room)) x (T .element .0) h (T .element .1)
 
   module _ (h : o ≡ true) where
     pub unused : member x (prefix p) ≡ false
@@ -173,28 +173,28 @@ module _ {s : Product} {m : ℕ} {t : Product} {n : ℕ} {scratch after : List �
       abbrev Inner : Option (List ℕ)
       Inner = Called s m t n scratch after (eqb x low) q
 
-      inner : Inner ≡ search s t (marked n scratch) (asked (eqb x (lowest tight after (length (prefix p)))) after) n (m - (p .len + 1)) longer
+      inner : Inner ≡ search s t (marked n scratch) (bounded (eqb x (lowest tight after (length (prefix p)))) after) n (m - (p .len + 1)) longer
       inner =
-          ap (λ (k : ℕ). search s t (marked n scratch) (asked (eqb x k) after) n (m - q .len) (prefix q)) low-here
-          ∙ ap₂ (λ (d : ℕ) (l : List ℕ). search s t (marked n scratch) (asked (eqb x (lowest tight after (length (prefix p)))) after) n d l) (let e : m - q .len ≡ m - (p .len + 1) = omega arith in e) eq
+          ap (λ (k : ℕ). search s t (marked n scratch) (bounded (eqb x k) after) n (m - q .len) (prefix q)) low-here
+          ∙ ap₂ (λ (d : ℕ) (l : List ℕ). search s t (marked n scratch) (bounded (eqb x (lowest tight after (length (prefix p)))) after) n d l) (let e : m - q .len ≡ m - (p .len + 1) = omega arith in e) eq
 
-      pub onward : Holds s n t q → Reached s m t n scratch after (eqb x low) q
+      pub onward : Holds s n t q → Ready s m t n scratch after (eqb x low) q
       onward H =
           let room = T .room in
           record {
             holds = H;
             within = omega arith;
             passed = ap (passes s t) eq ∙ pass;
-            space = T .reached .space;
-            bound = T .reached .bound;
+            space = T .ready .space;
+            bound = T .ready .bound;
             same = λ w.
-                ap (λ (k : ℕ). take k after) (len ∙ add-one (p .len) ∙ ap suc (sym (long s m t n scratch after tight p (T .reached))))
-                ∙ still s t (marked n scratch) n after (prefix p) tight (same s m t n scratch after tight p (T .reached)) (m - (p .len + 1)) (short s m t n scratch after tight p (T .reached) (T .room)) x (T .element .0) (ap (eqb x) (sym low-here) ∙ w) ∙ sym eq;
+                ap (λ (k : ℕ). take k after) (len ∙ add-one (p .len) ∙ ap suc (sym (long s m t n scratch after tight p (T .ready))))
+                ∙ still s t (marked n scratch) n after (prefix p) tight (same s m t n scratch after tight p (T .ready)) (m - (p .len + 1)) (short s m t n scratch after tight p (T .ready) (T .room)) x (T .element .0) (ap (eqb x) (sym low-here) ∙ w) ∙ sym eq;
           }
 
       pub fail : foundIn Inner .ok ≡ false → Onward
       fail f e =
-          e ∙ back s t (marked n scratch) n after (prefix p) tight (same s m t n scratch after tight p (T .reached)) (m - (p .len + 1)) (short s m t n scratch after tight p (T .reached) (T .room)) x (T .element .0) (sym open-is ∙ h) pass
+          e ∙ back s t (marked n scratch) n after (prefix p) tight (same s m t n scratch after tight p (T .ready)) (m - (p .len + 1)) (short s m t n scratch after tight p (T .ready) (T .room)) x (T .element .0) (sym open-is ∙ h) pass
           (sym inner ∙ none-found Inner f) (T .element .1)
 
       pub found : foundIn Inner .ok ≡ true → Called s m t n scratch after tight p ≡ Rest s m t n scratch after tight p x → Inner ≡ Called s m t n scratch after tight p
@@ -203,4 +203,4 @@ module _ {s : Product} {m : ℕ} {t : Product} {n : ℕ} {scratch after : List �
         where
           go : (o : Option (List ℕ)) → Inner ≡ o → foundIn o .ok ≡ true → o ≡ Called s m t n scratch after tight p
           go none q w = absurd (false≢true w)
-          go (some l) q w = sym (e ∙ hit s t (marked n scratch) n after (prefix p) tight (same s m t n scratch after tight p (T .reached)) (m - (p .len + 1)) (short s m t n scratch after tight p (T .reached) (T .room)) x (T .element .0) (sym open-is ∙ h) pass l (sym inner ∙ q) (T .element .1))
+          go (some l) q w = sym (e ∙ hit s t (marked n scratch) n after (prefix p) tight (same s m t n scratch after tight p (T .ready)) (m - (p .len + 1)) (short s m t n scratch after tight p (T .ready) (T .room)) x (T .element .0) (sym open-is ∙ h) pass l (sym inner ∙ q) (T .element .1))

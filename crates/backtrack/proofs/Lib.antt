@@ -1,4 +1,4 @@
-pub mod Marks
+pub mod Constraints
 pub mod Placing
 pub mod Noting
 pub mod Steps

@@ -1,4 +1,4 @@
--- The marks as pairs are noted and an element is placed, and what they decide of the next image. Assumes nothing.
+-- The constraints as pairs are noted and an element is placed, and what they decide of the next image. Assumes nothing.
 use mathlib.Core.Path.{_≡_, sym, ap, ap₂, subst, _∙_}
 use mathlib.Core.Bool.{Bool, true, false, _&&_, and-true, and-assoc}
 use mathlib.Core.List.{List, [], _∷_, _++_}
@@ -6,30 +6,30 @@ use Prim.Native.Nat.{ℕ, zero, suc, _+_, _-_, _≤_, _<_}
 use native.Mathlib.Numerals.{add-one}
 use native.Mathlib.Omega.{arith}
 use lib.ListN.{length, getD, take, length-set, replicate, length-replicate, getD-replicate}
-use lib.Seq.{length-take-le}
+use lib.Seq.{length-take-le, getD-take}
 use Rattle.semigroups.specs.Lists.{range, elements, at, all, member}
 use Rattle.semigroups.specs.Tables.{Product, Element, Closed}
 use Rattle.semigroups.specs.Search.{passes}
-use Rattle.backtrack.specs.Marks.{allows, merge, noted, imageProduct, asks, agreeOn, cross, newFits, Reads}
+use Rattle.backtrack.specs.Constraints.{allows, merge, noted, imageProduct, asks, agreeOn, cross, newFits, Reads}
 use Rattle.backtrack.specs.State.{prefix, Placing, Tracks}
 use Rattle.backtrack.specs.declared.Partial.{Partial}
-use Rattle.backtrack.proofs.Placing.{prefix-at, image-element, newest-prefix}
-use Rattle.backtrack.proofs.Marks.{note-reads, each-more, agreeOn-more, agreeOn-forced, agreeOn-owner, settle}
+use Rattle.backtrack.proofs.Placing.{newest-prefix}
+use Rattle.backtrack.proofs.Constraints.{note-reads, each-more, agreeOn-more, agreeOn-forced, agreeOn-owner, settle}
 
 -- ---- the pairs of the newest element
 
--- What marks say of the pairs of the first k elements and the first j pairs with the next.
+-- What constraints say of the pairs of the first k elements and the first j pairs with the next.
 abbrev said : Product → Product → ℕ → ℕ → ℕ → ℕ → Bool
 said u v k j c y = agreeOn u v k c y && all (λ i. cross (asks u v c y) (suc k) i) (elements j)
 
--- One array of marks, after both pairs of elements j + 1 and k + 1.
-both-noted : (u v : Product) (k j : ℕ) (marks : List ℕ) → length marks ≡ 121 → Element 120 (u (suc j) (suc k)) → Element 120 (v (suc j) (suc k)) → Element 120 (u (suc k) (suc j)) → Element 120 (v (suc k) (suc j))
-    → Reads marks (said u v k j)
-    → Reads (noted (noted marks (u (suc j) (suc k)) (v (suc j) (suc k))) (u (suc k) (suc j)) (v (suc k) (suc j))) (said u v k (suc j))
-both-noted u v k j marks l hu hv gu gv R c y hc hy =
-    let once = note-reads marks (said u v k j) (u (suc j) (suc k)) (v (suc j) (suc k)) l hu hv R in
-    let twice = note-reads (noted marks (u (suc j) (suc k)) (v (suc j) (suc k))) (λ c y. said u v k j c y && asks u v c y (suc j) (suc k)) (u (suc k) (suc j)) (v (suc k) (suc j))
-    (length-set marks (u (suc j) (suc k)) (merge (getD marks (u (suc j) (suc k)) 0) (v (suc j) (suc k))) ∙ l) gu gv once in
+-- One array of constraints, after both pairs of elements j + 1 and k + 1.
+both-noted : (u v : Product) (k j : ℕ) (constraints : List ℕ) → length constraints ≡ 121 → Element 120 (u (suc j) (suc k)) → Element 120 (v (suc j) (suc k)) → Element 120 (u (suc k) (suc j)) → Element 120 (v (suc k) (suc j))
+    → Reads constraints (said u v k j)
+    → Reads (noted (noted constraints (u (suc j) (suc k)) (v (suc j) (suc k))) (u (suc k) (suc j)) (v (suc k) (suc j))) (said u v k (suc j))
+both-noted u v k j constraints l hu hv gu gv R c y hc hy =
+    let once = note-reads constraints (said u v k j) (u (suc j) (suc k)) (v (suc j) (suc k)) l hu hv R in
+    let twice = note-reads (noted constraints (u (suc j) (suc k)) (v (suc j) (suc k))) (λ c y. said u v k j c y && asks u v c y (suc j) (suc k)) (u (suc k) (suc j)) (v (suc k) (suc j))
+    (length-set constraints (u (suc j) (suc k)) (merge (getD constraints (u (suc j) (suc k)) 0) (v (suc j) (suc k))) ∙ l) gu gv once in
     let A = agreeOn u v k c y in
     let J = all (λ i. cross (asks u v c y) (suc k) i) (elements j) in
     let P = asks u v c y (suc j) (suc k) in
@@ -50,7 +50,7 @@ module _ (s t : Product) (f : List ℕ) (k : ℕ) where
       record {
         long = simp length-set (W .long);
         wide = simp length-set (W .wide);
-        asked = both-noted s v k j forced (W .long) a b c d (W .asked);
+        required = both-noted s v k j forced (W .long) a b c d (W .required);
         reserved = both-noted v s k j owner (W .wide) b a d c (W .reserved);
       }
 
@@ -61,7 +61,7 @@ module _ (s t : Product) (f : List ℕ) (k : ℕ) where
       record {
         long = W .long;
         wide = W .wide;
-        asked = λ c y hc hy. W .asked c y hc hy ∙ sym (and-true (agreeOn s v (suc k) c y) ∙ agreeOn-more s v k c y);
+        required = λ c y hc hy. W .required c y hc hy ∙ sym (and-true (agreeOn s v (suc k) c y) ∙ agreeOn-more s v k c y);
         reserved = λ c y hc hy. W .reserved c y hc hy ∙ sym (and-true (agreeOn v s (suc k) c y) ∙ agreeOn-more v s k c y);
       }
 
@@ -72,7 +72,7 @@ nothing-noted s t =
     record {
       long = length-replicate {A = ℕ} 121 0;
       wide = length-replicate {A = ℕ} 121 0;
-      asked = λ c y hc hy. ap (λ (w : ℕ). allows w y) (getD-replicate 121 c 0 0 (omega arith));
+      required = λ c y hc hy. ap (λ (w : ℕ). allows w y) (getD-replicate 121 c 0 0 (omega arith));
       reserved = λ c y hc hy. ap (λ (w : ℕ). allows w y) (getD-replicate 121 c 0 0 (omega arith));
     }
 
@@ -84,17 +84,17 @@ module _ (m : ℕ) (s t : Product) (closed : Closed m s) (f : List ℕ) (x : ℕ
       record {
         long = W .long;
         wide = W .wide;
-        asked = λ c y hc hy. W .asked c y hc hy ∙ ap (λ (b : Bool). b && true) (agreeOn-forced m s t closed f x short c y);
+        required = λ c y hc hy. W .required c y hc hy ∙ ap (λ (b : Bool). b && true) (agreeOn-forced m s t closed f x short c y);
         reserved = λ c y hc hy. W .reserved c y hc hy ∙ ap (λ (b : Bool). b && true) (agreeOn-owner m s t closed f x short c y);
       }
 
-  -- What the marks say of x as the next image, with the new pairs, is whether the list passes.
+  -- What the constraints say of x as the next image, with the new pairs, is whether the list passes.
   pub decides : m ≤ 120 → (forced owner : List ℕ) → Tracks s t f (length f) 0 forced owner → passes s t f ≡ true → Element 120 x → member x f ≡ false
       → passes s t (f ++ x ∷ []) ≡ ((allows (getD forced (length f + 1) 0) x && allows (getD owner x 0) (length f + 1)) && newFits s t (f ++ x ∷ []))
   unfolding all elements range
   decides hm forced owner W pass hx fresh =
       let k = length f in
-      let F = W .asked (k + 1) x (omega arith) hx ∙ and-true (agreeOn s (imageProduct t f) k (k + 1) x) in
+      let F = W .required (k + 1) x (omega arith) hx ∙ and-true (agreeOn s (imageProduct t f) k (k + 1) x) in
       let O = W .reserved x (k + 1) hx (omega arith) ∙ and-true (agreeOn (imageProduct t f) s k x (k + 1)) in
       settle m s t closed f x short pass fresh
       ∙ ap (λ (b : Bool). b && newFits s t (f ++ x ∷ []))
@@ -103,20 +103,23 @@ module _ (m : ℕ) (s t : Product) (closed : Closed m s) (f : List ℕ) (x : ℕ
 -- ---- one turn of the loop that notes the pairs of the newest element
 
 module _ (m : ℕ) (s : Product) (n : ℕ) (t : Product) (source : Closed m s) (target : Closed n t) (hm : m ≤ 120) (hn : n ≤ 120)
-    (image used : List ℕ) (len : ℕ) (P : Placing n image used len) (fit : len ≤ m) (j : ℕ) (hj : Element len j) where
+    (image : List ℕ) (len : ℕ) (images : (a : ℕ) → Element len a → Element n (at image a)) (fit : len ≤ m) (j : ℕ) (hj : Element len j) where
   abbrev f : List ℕ
   f = take len image
 
-  seen : (a b : ℕ) → Element len a → Element len b → imageProduct t image a b ≡ imageProduct t f a b
+  seen-at : (a : ℕ) → Element len a → at image a ≡ at f a
   unfolding at
-  seen a b ha hb = sym (ap₂ t (prefix-at n image used len P a ha) (prefix-at n image used len P b hb))
+  seen-at a h = sym (getD-take len image (a - 1) 0 (omega arith))
+
+  seen : (a b : ℕ) → Element len a → Element len b → imageProduct t image a b ≡ imageProduct t f a b
+  seen a b ha hb = ap₂ t (seen-at a ha) (seen-at b hb)
 
   source-small : (a b : ℕ) → Element len a → Element len b → Element 120 (s a b)
   source-small a b ha hb = let e = source a b (omega arith) (omega arith) in omega arith
 
   target-small : (a b : ℕ) → Element len a → Element len b → Element 120 (imageProduct t f a b)
   target-small a b ha hb =
-      let e = target (at f a) (at f b) (subst (Element n) (sym (prefix-at n image used len P a ha)) (image-element n image used len P a ha)) (subst (Element n) (sym (prefix-at n image used len P b hb)) (image-element n image used len P b hb)) in
+      let e = target (at f a) (at f b) (subst (Element n) (seen-at a ha) (images a ha)) (subst (Element n) (seen-at b hb) (images b hb)) in
       omega arith
 
   pub turn : (forced owner forced₁ owner₁ forced₂ owner₂ : List ℕ) → Tracks s t f (len - 1) (j - 1) forced owner
@@ -155,18 +158,18 @@ module _ (m : ℕ) (s t : Product) (closed : Closed m s) (f : List ℕ) (len : �
   pub next-tracks : Tracks s t g len 0 forced owner
   next-tracks = subst (λ (k : ℕ). Tracks s t g k 0 forced owner) long (placed-tracks m s t closed f x (omega arith) forced owner tracked)
 
-  -- The marks and the new pairs decide whether x passes as the next image.
+  -- The constraints and the new pairs decide whether x passes as the next image.
   module _ (hm : m ≤ 120) (pass : passes s t f ≡ true) (hx : Element 120 x) (fresh : member x f ≡ false) where
     decided : passes s t g ≡ (allowed && newFits s t g)
     decided =
         decides m s t closed f x (omega arith) hm forced owner tracked pass hx fresh
         ∙ ap (λ (k : ℕ). (allows (getD forced (k + 1) 0) x && allows (getD owner x 0) (k + 1)) && newFits s t g) long
 
-    pub marks-refuse : allowed ≡ false → passes s t g ≡ false
-    marks-refuse e = decided ∙ ap (λ (b : Bool). b && newFits s t g) e
+    pub constraints-refuse : allowed ≡ false → passes s t g ≡ false
+    constraints-refuse e = decided ∙ ap (λ (b : Bool). b && newFits s t g) e
 
-    pub marks-allow : allowed ≡ true → passes s t g ≡ newFits s t g
-    marks-allow e = decided ∙ ap (λ (b : Bool). b && newFits s t g) e
+    pub constraints-allow : allowed ≡ true → passes s t g ≡ newFits s t g
+    constraints-allow e = decided ∙ ap (λ (b : Bool). b && newFits s t g) e
 
 -- The newest element placed, and no pair of it noted yet.
 pub newest-tracks : (m : ℕ) (s : Product) (n : ℕ) (t : Product) → Closed m s → (image used : List ℕ) (len : ℕ) → Placing n image used len → Element m len → (forced owner : List ℕ)
@@ -178,7 +181,7 @@ newest-tracks m s n t closed image used len P h forced owner W =
     subst (λ (f : List ℕ). Tracks s t f (len - 1) 0 forced owner) (newest-prefix n image used len P (h .0))
     (next-tracks m s t closed (take (len - 1) image) (len - 1) (length-take-le (len - 1) image (omega arith)) (omega arith) x forced owner W)
 
--- The marks as a map is handed on with one more image.
+-- The constraints as a map is handed on with one more image.
 pub handed-on : (s t : Product) (p q : Partial) → q .len ≡ p .len + 1 → take (p .len) (q .image) ≡ prefix p → q .forced ≡ p .forced → q .owner ≡ p .owner
     → Tracks s t (prefix p) (p .len) 0 (p .forced) (p .owner) → Tracks s t (take (q .len - 1) (q .image)) (q .len - 1) 0 (q .forced) (q .owner)
 handed-on s t p q el ep ef eo W = let e : q .len - 1 ≡ p .len = omega arith in rw (e, ep, ef, eo) W

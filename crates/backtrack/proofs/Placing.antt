@@ -18,7 +18,7 @@ use Rattle.semigroups.proofs.Lists.{at-front, at-seam, length-snoc, unmember}
 use Rattle.semigroups.proofs.Search.{placed-none, placed-more}
 use Rattle.semigroups.proofs.NoRepeats.{place-mem, mem-place, sorted-places}
 use Rattle.backtrack.specs.State.{Placing, Trial}
-use Rattle.backtrack.proofs.Marks.{member-snoc}
+use Rattle.backtrack.proofs.Constraints.{member-snoc}
 
 unused : (b : Bool) → eqb (cond b 1 0) 0 ≡ not b
 unused true = refl

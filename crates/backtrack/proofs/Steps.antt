@@ -18,7 +18,7 @@ use Rattle.semigroups.specs.Search.{notBefore, passes, admits, search}
 use Rattle.semigroups.proofs.Booleans.{both, and-left, trichotomy}
 use Rattle.semigroups.proofs.ListOrder.{earlier-skip, earlier-above, earlier-head, earlier-tail, earlier-irreflexive}
 use Rattle.semigroups.proofs.Completions.{firstFrom, first-start, first-skip, first-hit, first-end, firstOf-same}
-use Rattle.backtrack.specs.State.{asked}
+use Rattle.backtrack.specs.State.{bounded}
 
 -- The smallest next entry that is not too early.
 abbrev pub lowest : Bool → List ℕ → ℕ → ℕ
@@ -65,11 +65,11 @@ module _ (s t : Product) (candidate : ℕ → ℕ → Bool) (n : ℕ) where
 
   module _ (after p : List ℕ) (tight : Bool) (same : tight ≡ true → take (length p) after ≡ p) where
     -- A whole list: it is found unless it is the bound itself.
-    pub whole : length after ≡ length p → cond (not tight) (some p) none ≡ search s t candidate (asked tight after) n 0 p
+    pub whole : length after ≡ length p → cond (not tight) (some p) none ≡ search s t candidate (bounded tight after) n 0 p
     unfolding search
     whole l = go tight refl
       where
-        go : (b : Bool) → tight ≡ b → cond (not b) (some p) none ≡ cond (beyond (asked b after) p) (some p) none
+        go : (b : Bool) → tight ≡ b → cond (not b) (some p) none ≡ cond (beyond (bounded b after) p) (some p) none
         go false e = refl
         go true e =
             let eq : after ≡ p = sym (take-all (length p) after (omega arith)) ∙ same e in
@@ -77,12 +77,12 @@ module _ (s t : Product) (candidate : ℕ → ℕ → Bool) (n : ℕ) where
 
     module _ (d : ℕ) (room : length p < length after) where
       abbrev here : ℕ → Option (List ℕ)
-      here = answerAt s t candidate (asked tight after) n d p
+      here = answerAt s t candidate (bounded tight after) n d p
 
       abbrev left : ℕ → Option (List ℕ)
-      left = leftFrom s t candidate (asked tight after) n d p
+      left = leftFrom s t candidate (bounded tight after) n d p
 
-      pub begin : search s t candidate (asked tight after) n (suc d) p ≡ left 1
+      pub begin : search s t candidate (bounded tight after) n (suc d) p ≡ left 1
       unfolding search leftFrom
       begin = first-start here n
 
@@ -109,10 +109,10 @@ module _ (s t : Product) (candidate : ℕ → ℕ → Bool) (n : ℕ) where
             go (inr (inr h)) = ap (λ (b : Bool). not b) (earlier-above x [] y rest h) ∙ sym (le-leb y x (omega arith))
 
         -- x is late enough exactly where it is no smaller than the bound's entry.
-        late : notBefore (asked tight after) (p ++ x ∷ []) ≡ leb low x
+        late : notBefore (bounded tight after) (p ++ x ∷ []) ≡ leb low x
         late = go tight refl
           where
-            go : (b : Bool) → tight ≡ b → notBefore (asked b after) (p ++ x ∷ []) ≡ leb (lowest b after (length p)) x
+            go : (b : Bool) → tight ≡ b → notBefore (bounded b after) (p ++ x ∷ []) ≡ leb (lowest b after (length p)) x
             go false e = sym (le-leb 0 x (omega arith))
             go true e = ap (λ (b : Bool). not b) (seen e) ∙ not-early (getD after (length p) 0) (drop (suc (length p)) after)
 
@@ -120,15 +120,15 @@ module _ (s t : Product) (candidate : ℕ → ℕ → Bool) (n : ℕ) where
         abbrev pub isOpen : Bool
         isOpen = leb low x && (not (member x p) && candidate (suc (length p)) x)
 
-        admitted : admits s t candidate (asked tight after) p x ≡ (isOpen && passes s t (p ++ x ∷ []))
+        admitted : admits s t candidate (bounded tight after) p x ≡ (isOpen && passes s t (p ++ x ∷ []))
         unfolding admits
         admitted =
             ap (λ (b : Bool). candidate (suc (length p)) x && (not (member x p) && (passes s t (p ++ x ∷ []) && b))) late
             ∙ regroup (candidate (suc (length p)) x) (not (member x p)) (passes s t (p ++ x ∷ [])) (leb low x)
 
-        skipped : admits s t candidate (asked tight after) p x ≡ false → x ≤ n → left x ≡ left (x + 1)
+        skipped : admits s t candidate (bounded tight after) p x ≡ false → x ≤ n → left x ≡ left (x + 1)
         unfolding leftFrom
-        skipped e h = first-skip here n x h (ap {B = Option (List ℕ)} (λ (b : Bool). cond b (search s t candidate (asked tight after) n d (p ++ x ∷ [])) none) e)
+        skipped e h = first-skip here n x h (ap {B = Option (List ℕ)} (λ (b : Bool). cond b (search s t candidate (bounded tight after) n d (p ++ x ∷ [])) none) e)
 
         -- An image that is not open, or does not pass, is passed over.
         pub shut : isOpen ≡ false → x ≤ n → left x ≡ left (x + 1)
@@ -138,32 +138,32 @@ module _ (s t : Product) (candidate : ℕ → ℕ → Bool) (n : ℕ) where
         fails e h = skipped (admitted ∙ ap (λ (b : Bool). isOpen && b) e ∙ and-false isOpen) h
 
         -- The search behind x is bound on only where x is the bound's own entry.
-        narrowed : low ≤ x → search s t candidate (asked tight after) n d (p ++ x ∷ []) ≡ search s t candidate (asked (eqb x low) after) n d (p ++ x ∷ [])
+        narrowed : low ≤ x → search s t candidate (bounded tight after) n d (p ++ x ∷ []) ≡ search s t candidate (bounded (eqb x low) after) n d (p ++ x ∷ [])
         narrowed h = go tight refl h
           where
-            behind : tight ≡ true → (b : Bool) → eqb x (getD after (length p) 0) ≡ b → getD after (length p) 0 ≤ x → search s t candidate (next after) n d (p ++ x ∷ []) ≡ search s t candidate (asked b after) n d (p ++ x ∷ [])
+            behind : tight ≡ true → (b : Bool) → eqb x (getD after (length p) 0) ≡ b → getD after (length p) 0 ≤ x → search s t candidate (next after) n d (p ++ x ∷ []) ≡ search s t candidate (bounded b after) n d (p ++ x ∷ [])
             behind e true q g = refl
             behind e false q g =
                 let ne = eqb-false x (getD after (length p) 0) q in
                 ap (λ (a : List ℕ). search s t candidate (next a) n d (p ++ x ∷ [])) (split e) ∙ loose p (getD after (length p) 0) (drop (suc (length p)) after) x (omega arith) d []
 
-            go : (b : Bool) → tight ≡ b → lowest b after (length p) ≤ x → search s t candidate (asked b after) n d (p ++ x ∷ []) ≡ search s t candidate (asked (eqb x (lowest b after (length p))) after) n d (p ++ x ∷ [])
-            go false e g = ap (λ (b : Bool). search s t candidate (asked b after) n d (p ++ x ∷ [])) (sym (ne-eqb x 0 (λ q. let z : ⊥ = omega arith in z)))
+            go : (b : Bool) → tight ≡ b → lowest b after (length p) ≤ x → search s t candidate (bounded b after) n d (p ++ x ∷ []) ≡ search s t candidate (bounded (eqb x (lowest b after (length p))) after) n d (p ++ x ∷ [])
+            go false e g = ap (λ (b : Bool). search s t candidate (bounded b after) n d (p ++ x ∷ [])) (sym (ne-eqb x 0 (λ q. let z : ⊥ = omega arith in z)))
             go true e g = behind e (eqb x (getD after (length p) 0)) refl g
 
         module _ (open? : isOpen ≡ true) (pass : passes s t (p ++ x ∷ []) ≡ true) where
           -- The answer at x is that of the call for the next element.
-          answer : here x ≡ search s t candidate (asked (eqb x low) after) n d (p ++ x ∷ [])
+          answer : here x ≡ search s t candidate (bounded (eqb x low) after) n d (p ++ x ∷ [])
           answer =
-              ap {B = Option (List ℕ)} (λ (b : Bool). cond b (search s t candidate (asked tight after) n d (p ++ x ∷ [])) none) (admitted ∙ both isOpen (passes s t (p ++ x ∷ [])) open? pass)
+              ap {B = Option (List ℕ)} (λ (b : Bool). cond b (search s t candidate (bounded tight after) n d (p ++ x ∷ [])) none) (admitted ∙ both isOpen (passes s t (p ++ x ∷ [])) open? pass)
               ∙ narrowed (leb-true low x (and-left (leb low x) (not (member x p) && candidate (suc (length p)) x) open?))
 
           -- Nothing behind x: it is passed over.
-          pub back : search s t candidate (asked (eqb x low) after) n d (p ++ x ∷ []) ≡ none → x ≤ n → left x ≡ left (x + 1)
+          pub back : search s t candidate (bounded (eqb x low) after) n d (p ++ x ∷ []) ≡ none → x ≤ n → left x ≡ left (x + 1)
           unfolding leftFrom
           back e h = first-skip here n x h (answer ∙ e)
 
-          pub hit : (f : List ℕ) → search s t candidate (asked (eqb x low) after) n d (p ++ x ∷ []) ≡ some f → x ≤ n → left x ≡ some f
+          pub hit : (f : List ℕ) → search s t candidate (bounded (eqb x low) after) n d (p ++ x ∷ []) ≡ some f → x ≤ n → left x ≡ some f
           unfolding leftFrom
           hit f e h = first-hit here n x f h (answer ∙ e)
 

@@ -11,7 +11,7 @@ use Rattle.semigroups.specs.Tables.{Product, Element}
 use Rattle.semigroups.specs.Scratch.{scratchSize}
 use Rattle.semigroups.specs.Maps.{Ask, first, next}
 use Rattle.semigroups.specs.Search.{passes, Placed}
-use Rattle.backtrack.specs.Marks.{imageProduct, asks, agreeOn, cross, Reads}
+use Rattle.backtrack.specs.Constraints.{imageProduct, asks, agreeOn, cross, Reads}
 use Rattle.backtrack.specs.declared.Partial.{Partial}
 use Rattle.backtrack.specs.declared.Found.{Found}
 
@@ -37,11 +37,11 @@ pub record Trial (n : ℕ) (image used : List ℕ) (len x : ℕ) : Type 0 where
   pub element : Element n x
   pub uses : (y : ℕ) → y ≤ 120 → (y ≡ x → ⊥) → getD used y 0 ≡ cond (member y (take len image)) 1 0
 
--- The marks say what the pairs of the first k elements ask, and the first j of the pairs with element k + 1.
+-- The constraints say what the pairs of the first k elements ask, and the first j of the pairs with element k + 1.
 pub record Tracks (s t : Product) (f : List ℕ) (k j : ℕ) (forced owner : List ℕ) : Type 0 where
   pub long : length forced ≡ 121
   pub wide : length owner ≡ 121
-  pub asked : Reads forced (λ c y. agreeOn s (imageProduct t f) k c y && all (λ i. cross (asks s (imageProduct t f) c y) (suc k) i) (elements j))
+  pub required : Reads forced (λ c y. agreeOn s (imageProduct t f) k c y && all (λ i. cross (asks s (imageProduct t f) c y) (suc k) i) (elements j))
   pub reserved : Reads owner (λ y c. agreeOn (imageProduct t f) s k y c && all (λ i. cross (asks (imageProduct t f) s y c) (suc k) i) (elements j))
 
 -- A partial map says of its list what it should.
@@ -55,12 +55,12 @@ foundIn (some f) = record { ok = true; image = f ++ replicate (120 - length f) 0
 foundIn none = record { ok = false; image = replicate 120 0 }
 
 -- The search is bound by a list as long as what is placed equals its beginning.
-abbrev pub asked : Bool → List ℕ → Ask
-asked true after = next after
-asked false after = first
+abbrev pub bounded : Bool → List ℕ → Ask
+bounded true after = next after
+bounded false after = first
 
 -- What holds where the search goes on from a partial map.
-pub record Reached (s : Product) (m : ℕ) (t : Product) (n : ℕ) (scratch after : List ℕ) (tight : Bool) (p : Partial) : Type 0 where
+pub record Ready (s : Product) (m : ℕ) (t : Product) (n : ℕ) (scratch after : List ℕ) (tight : Bool) (p : Partial) : Type 0 where
   pub holds : Holds s n t p
   pub within : p .len ≤ m
   pub passed : passes s t (prefix p) ≡ true

@@ -1,6 +1,6 @@
 // The backtrack search of arXiv 1603.06204, section 3, over two tables and the candidates marked in a scratch buffer. A call for element i + 1 stands
 // inside that for element i, and returning means going back. A placing is tested by the products of the new element alone: what the pairs placed
-// before ask of it stands in marks.
+// before ask of it stands in constraints.
 ghost use mathlib.Core.Path.{_≡_};
 ghost use mathlib.Core.Bool.{true, false, _&&_};
 ghost use mathlib.Core.List.{[], _∷_, _++_};
@@ -12,10 +12,10 @@ ghost use Rattle.semigroups.specs.Lists.{at, member};
 ghost use Rattle.semigroups.specs.Tables.{Product, product, Element, Filled};
 ghost use Rattle.semigroups.specs.Scratch.{scratchSize, marked};
 ghost use Rattle.semigroups.specs.Search.{fits, passes, search};
-ghost use Rattle.backtrack.specs.Marks.{allows, noted, imageProduct, newFits};
-ghost use Rattle.backtrack.specs.State.{prefix, Placing, Trial, Tracks, Holds, Reached, foundIn, asked};
+ghost use Rattle.backtrack.specs.Constraints.{allows, noted, imageProduct, newFits};
+ghost use Rattle.backtrack.specs.State.{prefix, Placing, Trial, Tracks, Holds, Ready, foundIn, bounded};
 
-// The map placed so far. Element i's image is image[i - 1]; used[y] is 1 where y is an image. The marks: forced[c] is the target product that the
+// The map placed so far. Element i's image is image[i - 1]; used[y] is 1 where y is an image. The constraints: forced[c] is the target product that the
 // pairs placed ask of source element c, owner[y] the source element that they reserve target element y for.
 pub struct Partial {
     pub image: [u8; 120],
@@ -37,25 +37,25 @@ pub struct Found {
     pub image: [u8; 120],
 }
 
-// Whether a mark allows the value y.
-fn allowed(mark: u8, y: usize) -> bool
-    ensures answer { λ r. ⌜ r ≡ allows mark y ⌝ }
+// Whether a constraint allows the value y.
+fn allowed(constraint: u8, y: usize) -> bool
+    ensures answer { λ r. ⌜ r ≡ allows constraint y ⌝ }
 {
-    if mark == 0 {
+    if constraint == 0 {
         return true;
     }
-    mark as usize == y
+    constraint as usize == y
 }
 
 // The value y is asked at this place too.
-fn note(marks: &mut [u8; 121], place: usize, y: usize)
+fn note(constraints: &mut [u8; 121], place: usize, y: usize)
     requires { ⌜ (place ≤ 120) × (y ≤ 120) ⌝ }
-    ensures marks { λ _. ⌜ now (marks .exit) ≡ noted (now (marks .entry)) place y ⌝ }
+    ensures constraints { λ _. ⌜ now (constraints .exit) ≡ noted (now (constraints .entry)) place y ⌝ }
 {
-    if allowed(marks[place], y) {
-        marks[place] = y as u8;
+    if allowed(constraints[place], y) {
+        constraints[place] = y as u8;
     } else {
-        marks[place] = 255;
+        constraints[place] = 255;
     }
 }
 
@@ -83,6 +83,30 @@ fn note_pair(
     let z = tables::times(target, n, x, y);
     note(forced, c, z);
     note(owner, z, c);
+}
+
+// The pairs of the newest element are noted.
+fn note_newest(
+    source: &[u8],
+    m: usize,
+    target: &[u8],
+    n: usize,
+    image: &[u8; 120],
+    forced: &mut [u8; 121],
+    owner: &mut [u8; 121],
+    len: usize,
+)
+    requires { ⌜ Filled m (now source) × Filled n (now target) ⌝ }
+    requires { ⌜ Element m len × ((a : ℕ) → Element len a → Element n (at (now image) a)) ⌝ }
+    requires { ⌜ Tracks (product m (now source)) (product n (now target)) (take len (now image)) (len - 1) 0 (now forced) (now owner) ⌝ }
+    ensures constraints { λ _. ⌜ Tracks (product m (now (source .entry))) (product n (now (target .entry))) (take len (now (image .entry))) len 0 (now (forced .exit)) (now (owner .exit)) ⌝ }
+{
+    let mut j: usize = 1;
+    while j <= len {
+        note_pair(source, m, target, n, image, forced, owner, j, len);
+        note_pair(source, m, target, n, image, forced, owner, len, j);
+        j += 1;
+    }
 }
 
 // The image of element a, where x is that of the next element.
@@ -158,7 +182,7 @@ fn new_fits<'a>(
     true
 }
 
-// Whether the marks allow x as the image of element `next`.
+// Whether the constraints allow x as the image of element `next`.
 fn settled<'a>(forced: &'a [u8; 121], owner: &'a [u8; 121], next: usize, x: usize) -> bool
     requires { ⌜ (next ≤ 120) × (x ≤ 120) ⌝ }
     ensures answer { λ r. ⌜ r ≡ (allows (getD (now (forced .entry)) next 0) x && allows (getD (now (owner .entry)) x 0) next) ⌝ }
@@ -169,7 +193,7 @@ fn settled<'a>(forced: &'a [u8; 121], owner: &'a [u8; 121], next: usize, x: usiz
     allowed(owner[x], next)
 }
 
-// Whether the list placed passes with x as the image of the next element: by the marks and by its new pairs.
+// Whether the list placed passes with x as the image of the next element: by the constraints and by its new pairs.
 fn passes_with<'a>(
     source: &[u8],
     m: usize,
@@ -223,13 +247,13 @@ impl Partial {
         }
     }
 
-    // The map with x as the image of the next element; the marks stay.
+    // The map with x as the image of the next element; the constraints stay.
     fn place(self, n: usize, x: usize) -> Self
         requires { ⌜ Placing n (self .image) (self .used) (self .len) ⌝ }
         requires { ⌜ Element n x × (n ≤ 120) × (self .len < 120) × (member x (prefix self) ≡ false) ⌝ }
         ensures placing { λ r. ⌜ Placing n (r .image) (r .used) (r .len) ⌝ }
         ensures more { λ r. ⌜ (prefix r ≡ prefix self ++ x ∷ []) × (take (self .len) (r .image) ≡ prefix self) × (r .len ≡ self .len + 1) ⌝ }
-        ensures marks { λ r. ⌜ (r .forced ≡ self .forced) × (r .owner ≡ self .owner) ⌝ }
+        ensures constraints { λ r. ⌜ (r .forced ≡ self .forced) × (r .owner ≡ self .owner) ⌝ }
     {
         let at = self.len;
         let mut p = self;
@@ -239,7 +263,7 @@ impl Partial {
         p
     }
 
-    // Whether the list placed passes, where it does without its newest element. The pairs of that element are noted in the marks.
+    // Whether the list placed passes, where it does without its newest element. The pairs of that element are noted in the constraints.
     fn test(self, source: &[u8], m: usize, target: &[u8], n: usize) -> Tested
         requires { ⌜ Filled m (now source) × Filled n (now target) ⌝ }
         requires { ⌜ Placing n (self .image) (self .used) (self .len) × Element m (self .len) ⌝ }
@@ -267,32 +291,7 @@ impl Partial {
             before,
             x,
         );
-        let mut j: usize = 1;
-        while j <= len {
-            note_pair(
-                source,
-                m,
-                target,
-                n,
-                &image,
-                &mut forced,
-                &mut owner,
-                j,
-                len,
-            );
-            note_pair(
-                source,
-                m,
-                target,
-                n,
-                &image,
-                &mut forced,
-                &mut owner,
-                len,
-                j,
-            );
-            j += 1;
-        }
+        note_newest(source, m, target, n, &image, &mut forced, &mut owner, len);
         let map = Partial {
             image,
             used,
@@ -326,8 +325,8 @@ fn extend(
     p: Partial,
 ) -> Found
     requires { ⌜ Filled m (now source) × Filled n (now target) ⌝ }
-    requires { ⌜ Reached (product m (now source)) m (product n (now target)) n (now scratch) (now after) tight p ⌝ }
-    ensures answer { λ r. ⌜ r ≡ foundIn (search (product m (now (source .entry))) (product n (now (target .entry))) (marked n (now (scratch .entry))) (asked tight (now (after .entry))) n (m - p .len) (prefix p)) ⌝ }
+    requires { ⌜ Ready (product m (now source)) m (product n (now target)) n (now scratch) (now after) tight p ⌝ }
+    ensures answer { λ r. ⌜ r ≡ foundIn (search (product m (now (source .entry))) (product n (now (target .entry))) (marked n (now (scratch .entry))) (bounded tight (now (after .entry))) n (m - p .len) (prefix p)) ⌝ }
 {
     let at = p.len;
     if m <= at {
@@ -380,7 +379,7 @@ pub fn find(
 ) -> Found
     requires { ⌜ Filled m (now source) × Filled n (now target) ⌝ }
     requires { ⌜ (scratchSize m n ≤ length (now scratch)) × (length (now after) ≡ m) ⌝ }
-    ensures answer { λ r. ⌜ r ≡ foundIn (search (product m (now (source .entry))) (product n (now (target .entry))) (marked n (now (scratch .entry))) (asked next (now (after .entry))) n m []) ⌝ }
+    ensures answer { λ r. ⌜ r ≡ foundIn (search (product m (now (source .entry))) (product n (now (target .entry))) (marked n (now (scratch .entry))) (bounded next (now (after .entry))) n m []) ⌝ }
 {
     extend(source, m, target, n, scratch, after, next, Partial::new())
 }

@@ -21,7 +21,7 @@ use Rattle.semigroups.proofs.Candidates.{index-period-sound, profile-sound, mar
 use Rattle.semigroups.proofs.Search.{search-earliest}
 use Rattle.semigroups.specs.Walks.{found, nothing}
 use Rattle.backtrack.specs.declared.Found.{Found}
-use Rattle.backtrack.specs.State.{foundIn, asked}
+use Rattle.backtrack.specs.State.{foundIn, bounded}
 use Rattle.backtrack.proofs.Extending.{none-found}
 use Rattle.search.specs.Calls.{Lent, Request, askOf, answerOf, scratchOf, answered}
 use Rattle.search.specs.Answers.{requestOf, orderFits}
@@ -95,9 +95,9 @@ finds isomorphisms m s n t source target scratch e ask =
 -- ---- a call behind its questions
 
 -- What is asked of the search is what is asked of the call.
-asked-request : (later : Bool) (bytes : List ℕ) → asked later bytes ≡ askOf (requestOf later) bytes
-asked-request true bytes = refl
-asked-request false bytes = refl
+bounded-request : (later : Bool) (bytes : List ℕ) → bounded later bytes ≡ askOf (requestOf later) bytes
+bounded-request true bytes = refl
+bounded-request false bytes = refl
 
 module _ (kind : Kind) (later : Bool) (l : Lent) (source : Closed (l .m) (product (l .m) (l .source))) (target : Closed (l .n) (product (l .n) (l .target))) where
   abbrev request : Request
@@ -109,11 +109,11 @@ module _ (kind : Kind) (later : Bool) (l : Lent) (source : Closed (l .m) (produc
 
   -- Else the map that the marked search finds is the map asked for.
   module _ (fits : orderFits kind (l .m) (l .n) ≡ true) (scratch : List ℕ) (filled : scratch ≡ scratchOf kind request l) (r : Found)
-      (finding : r ≡ foundIn (searched (product (l .m) (l .source)) (product (l .n) (l .target)) (marked (l .n) scratch) (asked later (l .map)) (l .n) (l .m) [])) where
+      (finding : r ≡ foundIn (searched (product (l .m) (l .source)) (product (l .n) (l .target)) (marked (l .n) scratch) (bounded later (l .map)) (l .n) (l .m) [])) where
     answer-found : r ≡ foundIn (answerOf kind request l)
     answer-found =
         finding
-        ∙ ap foundIn (ap₂ (λ (b : List ℕ) (q : Ask). searched (product (l .m) (l .source)) (product (l .n) (l .target)) (marked (l .n) b) q (l .n) (l .m) []) filled (asked-request later (l .map))
+        ∙ ap foundIn (ap₂ (λ (b : List ℕ) (q : Ask). searched (product (l .m) (l .source)) (product (l .n) (l .target)) (marked (l .n) b) q (l .n) (l .m) []) filled (bounded-request later (l .map))
         ∙ finds kind (l .m) (product (l .m) (l .source)) (l .n) (product (l .n) (l .target)) source target (l .scratch) fits (askOf request (l .map)))
 
     pub answer-none : r .ok ≡ false → answerOf kind request l ≡ none

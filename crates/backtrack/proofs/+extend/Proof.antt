@@ -15,7 +15,7 @@ use Rattle.backtrack.specs.declared.Found.{Found}
 use Rattle.backtrack.proofs.Placing.{as-trial}
 use Rattle.backtrack.proofs.Noting.{handed-on}
 use Rattle.backtrack.proofs.Steps.{lowest}
-use Rattle.backtrack.proofs.Extending.{Called, Rest, Turn, Verdict, verdict, done-bound, done-found, begins, ends, row-marked, unused, skip, refuse, handed-passes, onward, fail, found}
+use Rattle.backtrack.proofs.Extending.{Called, Rest, Turn, Verdict, done-bound, done-found, begins, ends, row-marked, unused, skip, refuse, handed-passes, onward, fail, found}
 use Rattle.backtrack.proofs.+extend.{statement}
 use Rattle.backtrack.proofs.+extend.Tie.{close}
 use Rattle.backtrack.proofs.extend.Reads as extend
@@ -65,7 +65,7 @@ turn t k =
     let source = z .pre .1 .0 .0 in
     let test = k .before .before .before .loop-test .taken in
     record {
-      reached = z .pre .1 .1;
+      ready = z .pre .1 .1;
       closed = product-element (z .args .m) (z .args .source .now) (source .size) (source .in-range);
       orders = (source .order .1, z .pre .1 .0 .1 .order .1);
       room = k .before .before .before .before .before .before .if1 .left;
@@ -145,15 +145,15 @@ extend-passes-with-requires t c κs =
     let a = start t k .args in
     let p = a .t8 in
     let T = turn t k in
-    let holds = T .reached .holds in
-    (start t k .pre .1 .0, ((as-trial (a .n) (p .image) (p .used) (p .len) (holds .placing) (k .before .before .before .before .loop .x) (T .element) (omega arith), T .room, unused T (c .before .before .before .before .before .if4 .taken)), (holds .tracks, T .reached .passed)))
+    let holds = T .ready .holds in
+    (start t k .pre .1 .0, ((as-trial (a .n) (p .image) (p .used) (p .len) (holds .placing) (k .before .before .before .before .loop .x) (T .element) (omega arith), T .room, unused T (c .before .before .before .before .before .if4 .taken)), (holds .tracks, T .ready .passed)))
 
 extend-place-requires : (t : ℕ) → extend-lts.Need-place-requires (calls t) (extend-at t) extend.Post extend-Inv-loop extend-μ-loop
 extend-place-requires t c κs =
     let T = turn t (c .before .before .before .before .before .before .before .before) in
     let room = T .room in
     let orders = T .orders in
-    (T .reached .holds .placing, (T .element, orders .1, omega arith, unused T (c .before .before .before .before .before .before .before .if4 .taken)))
+    (T .ready .holds .placing, (T .element, orders .1, omega arith, unused T (c .before .before .before .before .before .before .before .if4 .taken)))
 
 extend-test-requires : (t : ℕ) → extend-lts.Need-test-requires (calls t) (extend-at t) extend.Post extend-Inv-loop extend-μ-loop
 extend-test-requires t c κs =
@@ -167,8 +167,8 @@ extend-test-requires t c κs =
     let place = c .place in
     let more = place .ensures .1 .0 in
     let len = more .2 in
-    let marks = place .ensures .1 .1 in
-    (z .pre .1 .0, ((place .ensures .0, omega arith), (handed-on s r (a .t8) (place .result) (more .2) (more .1) (marks .0) (marks .1) (T .reached .holds .tracks), handed-passes s r (a .t8) (place .result) (more .2) (more .1) (T .reached .passed))))
+    let constraints = place .ensures .1 .1 in
+    (z .pre .1 .0, ((place .ensures .0, omega arith), (handed-on s r (a .t8) (place .result) (more .2) (more .1) (constraints .0) (constraints .1) (T .ready .holds .tracks), handed-passes s r (a .t8) (place .result) (more .2) (more .1) (T .ready .passed))))
 
 extend-extend-requires : (t : ℕ) → extend-lts.Need-extend-requires (calls t) (extend-at t) extend.Post extend-Inv-loop extend-μ-loop
 extend-extend-requires t c κs =

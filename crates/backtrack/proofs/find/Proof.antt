@@ -7,7 +7,7 @@ use lib.ListN.{take}
 use Rattle.semigroups.specs.Tables.{product}
 use Rattle.semigroups.specs.Scratch.{marked}
 use Rattle.semigroups.specs.Search.{search as searched}
-use Rattle.backtrack.specs.State.{foundIn, asked}
+use Rattle.backtrack.specs.State.{foundIn, bounded}
 use Rattle.backtrack.proofs.Extending.{start}
 use Rattle.backtrack.proofs.find.Statement.{statement}
 use Rattle.backtrack.proofs.find.Tie as tie
@@ -31,7 +31,7 @@ returns c =
     let t = product (a .n) (a .target .now) in
     let p = c .before .new .result in
     let len = c .before .new .ensures .0 in
-    c .extend .ensures ∙ ap foundIn (ap₂ (searched s t (marked (a .n) (a .scratch .now)) (asked (a .next) (a .after .now)) (a .n)) (let e : a .m - p .len ≡ a .m = omega arith in e) (ap (λ (k : ℕ). take k (p .image)) len))
+    c .extend .ensures ∙ ap foundIn (ap₂ (searched s t (marked (a .n) (a .scratch .now)) (bounded (a .next) (a .after .now)) (a .n)) (let e : a .m - p .len ≡ a .m = omega arith in e) (ap (λ (k : ℕ). take k (p .image)) len))
 
 pub find-spec : {M : Type 1} → statement M
 find-spec = tie.close (tie.spec new-requires extend-requires returns)

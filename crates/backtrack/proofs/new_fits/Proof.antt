@@ -12,8 +12,8 @@ use Rattle.semigroups.specs.Lists.{elements, all}
 use Rattle.semigroups.specs.Tables.{product}
 use Rattle.semigroups.specs.Search.{fits}
 use Rattle.semigroups.proofs.Completions.{allFrom, all-start, all-end}
-use Rattle.backtrack.specs.Marks.{cross, newFits}
-use Rattle.backtrack.proofs.Marks.{first-fails, second-fails, both-fit}
+use Rattle.backtrack.specs.Constraints.{cross, newFits}
+use Rattle.backtrack.proofs.Constraints.{first-fails, second-fails, both-fit}
 use Rattle.backtrack.proofs.Placing.{next-length}
 use Rattle.backtrack.proofs.new_fits.Statement.{statement}
 use Rattle.backtrack.proofs.new_fits.Tie as tie

@@ -1,4 +1,4 @@
--- `note` meets its contract: the mark at the place is merged with y, the others stay. Assumes nothing.
+-- `note` meets its contract: the constraint at the place is merged with y, the others stay. Assumes nothing.
 use mathlib.Core.Path.{sym, ap, _∙_}
 use mathlib.Core.Bool.{Bool, cond}
 use borrow.Author.Needs.{needs}
@@ -12,20 +12,20 @@ element-copy-out-allowed c = search needs
 allowed-requires : tie.Need-allowed-requires
 allowed-requires c κs = search needs
 
-cast-marks : tie.Need-cast-marks
-cast-marks c = search needs
+cast-constraints : tie.Need-cast-constraints
+cast-constraints c = search needs
 
-element-write-marks : tie.Need-element-write-marks
-element-write-marks c = search needs
+element-write-constraints : tie.Need-element-write-constraints
+element-write-constraints c = search needs
 
-element-write-marks-2 : tie.Need-element-write-marks-2
-element-write-marks-2 c = search needs
+element-write-constraints-2 : tie.Need-element-write-constraints-2
+element-write-constraints-2 c = search needs
 
 returns : tie.Need-returns
-returns c = let z = c .before .before .before in ap (λ (b : Bool). set (z .args .marks .now) (z .args .place) (cond b (z .args .y) 255)) (sym (sym (c .before .allowed .ensures) ∙ c .if1 .taken))
+returns c = let z = c .before .before .before in ap (λ (b : Bool). set (z .args .constraints .now) (z .args .place) (cond b (z .args .y) 255)) (sym (sym (c .before .allowed .ensures) ∙ c .if1 .taken))
 
 returns-2 : tie.Need-returns-2
-returns-2 c = let z = c .before .before .before in ap (λ (b : Bool). set (z .args .marks .now) (z .args .place) (cond b (z .args .y) 255)) (sym (sym (c .before .allowed .ensures) ∙ c .if1 .left))
+returns-2 c = let z = c .before .before .before in ap (λ (b : Bool). set (z .args .constraints .now) (z .args .place) (cond b (z .args .y) 255)) (sym (sym (c .before .allowed .ensures) ∙ c .if1 .left))
 
 pub note-spec : {M : Type 1} → statement M
 note-spec =
@@ -33,8 +33,8 @@ note-spec =
     (tie.spec
     element-copy-out-allowed
     allowed-requires
-    cast-marks
-    element-write-marks
-    element-write-marks-2
+    cast-constraints
+    element-write-constraints
+    element-write-constraints-2
     returns
     returns-2)

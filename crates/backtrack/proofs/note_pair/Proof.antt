@@ -1,9 +1,9 @@
--- `note_pair` meets its contract: it notes what two lookups give, in both arrays of marks. Assumes nothing.
+-- `note_pair` meets its contract: it notes what two lookups give, in both arrays of constraints. Assumes nothing.
 use mathlib.Core.Path.{ap₂, _∙_}
 use native.Mathlib.Omega.{arith}
 use borrow.Author.Needs.{needs}
 use Rattle.semigroups.specs.Lists.{at}
-use Rattle.backtrack.specs.Marks.{noted}
+use Rattle.backtrack.specs.Constraints.{noted}
 use Rattle.backtrack.proofs.note_pair.Statement.{statement}
 use Rattle.backtrack.proofs.note_pair.Tie as tie
 

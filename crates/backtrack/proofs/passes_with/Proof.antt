@@ -1,4 +1,4 @@
--- `passes_with` meets its contract: the marks and the new pairs decide whether the longer list passes. Assumes nothing.
+-- `passes_with` meets its contract: the constraints and the new pairs decide whether the longer list passes. Assumes nothing.
 use mathlib.Core.Path.{sym, _∙_}
 use native.Mathlib.Omega.{arith}
 use borrow.Author.Needs.{needs}
@@ -7,7 +7,7 @@ use lib.ListN.{take}
 use Rattle.semigroups.specs.Tables.{product}
 use Rattle.semigroups.proofs.Tables.{product-element}
 use Rattle.backtrack.proofs.Placing.{trial-length}
-use Rattle.backtrack.proofs.Noting.{marks-refuse, marks-allow}
+use Rattle.backtrack.proofs.Noting.{constraints-refuse, constraints-allow}
 use Rattle.backtrack.proofs.passes_with.Statement.{statement}
 use Rattle.backtrack.proofs.passes_with.Tie as tie
 
@@ -26,7 +26,7 @@ returns c =
     let x = trial .element in
     let n = z .pre .0 .1 .order in
     let g = c .before .settled in
-    sym (marks-refuse (a .m) (product (a .m) (a .source .now)) (product (a .n) (a .target .now)) (product-element (a .m) (a .source .now) (source .size) (source .in-range))
+    sym (constraints-refuse (a .m) (product (a .m) (a .source .now)) (product (a .n) (a .target .now)) (product-element (a .m) (a .source .now) (source .size) (source .in-range))
     (take (a .len) (a .image .now)) (a .len) (trial-length (a .n) (a .image .now) (a .used .now) (a .len) (a .x) trial) (z .pre .1 .0 .1) (a .x) (a .forced .now) (a .owner .now) (z .pre .1 .1 .0)
     (source .order .1) (z .pre .1 .1 .1) (omega arith) (z .pre .1 .0 .2) (sym (g .ensures) ∙ not-true (g .result) (c .if1 .taken)))
 
@@ -43,7 +43,7 @@ returns-2 c =
     let n = z .pre .0 .1 .order in
     let g = c .before .before .settled in
     c .new-fits .ensures
-    ∙ sym (marks-allow (a .m) (product (a .m) (a .source .now)) (product (a .n) (a .target .now)) (product-element (a .m) (a .source .now) (source .size) (source .in-range))
+    ∙ sym (constraints-allow (a .m) (product (a .m) (a .source .now)) (product (a .n) (a .target .now)) (product-element (a .m) (a .source .now) (source .size) (source .in-range))
     (take (a .len) (a .image .now)) (a .len) (trial-length (a .n) (a .image .now) (a .used .now) (a .len) (a .x) trial) (z .pre .1 .0 .1) (a .x) (a .forced .now) (a .owner .now) (z .pre .1 .1 .0)
     (source .order .1) (z .pre .1 .1 .1) (omega arith) (z .pre .1 .0 .2) (sym (g .ensures) ∙ not-false (g .result) (c .before .if1 .left)))
 

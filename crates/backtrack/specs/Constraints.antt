@@ -1,4 +1,4 @@
--- The marks by which a placing is tested through the products of the new element alone: for each source element the target product that the
+-- The constraints by which a placing is tested through the products of the new element alone: for each source element the target product that the
 -- pairs placed so far ask of it, and for each target element the source element that they reserve it for. Values are at most 120.
 -- Assumes nothing.
 use mathlib.Core.Path.{_≡_}
@@ -11,17 +11,17 @@ use Rattle.semigroups.specs.Lists.{elements, at, all}
 use Rattle.semigroups.specs.Tables.{Product, Element}
 use Rattle.semigroups.specs.Search.{fits}
 
--- A mark is 0 where nothing is asked, else the one value asked, or 255 where two values are. It allows y where no other value is asked.
+-- A constraint is 0 where nothing is asked, else the one value asked, or 255 where two values are. It allows y where no other value is asked.
 abbrev pub allows : ℕ → ℕ → Bool
-allows mark y = eqb mark 0 || eqb mark y
+allows constraint y = eqb constraint 0 || eqb constraint y
 
--- The mark after y is asked too.
+-- The constraint after y is asked too.
 abbrev pub merge : ℕ → ℕ → ℕ
-merge mark y = cond (allows mark y) y 255
+merge constraint y = cond (allows constraint y) y 255
 
--- The marks after y is asked at a place too.
+-- The constraints after y is asked at a place too.
 abbrev pub noted : List ℕ → ℕ → ℕ → List ℕ
-noted marks place y = set marks place (merge (getD marks place 0) y)
+noted constraints place y = set constraints place (merge (getD constraints place 0) y)
 
 -- The product of the images of a and b.
 abbrev pub imageProduct : Product → List ℕ → Product
@@ -43,6 +43,6 @@ cross p k j = p j k && p k j
 unfoldable pub newFits : Product → Product → List ℕ → Bool
 newFits s t p = all (λ j. cross (fits s t p) (length p) j) (elements (length p))
 
--- The marks say of each place c and value y what q says.
+-- The constraints say of each place c and value y what q says.
 abbrev pub Reads : List ℕ → (ℕ → ℕ → Bool) → Type 0
-Reads marks q = (c y : ℕ) → Element 120 c → Element 120 y → allows (getD marks c 0) y ≡ q c y
+Reads constraints q = (c y : ℕ) → Element 120 c → Element 120 y → allows (getD constraints c 0) y ≡ q c y

@@ -1,4 +1,4 @@
--- Marks and the pairs of the new element decide what all pairs decide. The idea: a pair placed before can fail now only where its product is the new
+-- Constraints and the pairs of the new element decide what all pairs decide. The idea: a pair placed before can fail now only where its product is the new
 -- element and its target product another one, or the other way round. Assumes nothing.
 use mathlib.Core.Path.{_≡_, refl, sym, ap, ap₂, subst, _∙_}
 use mathlib.Core.Logic.{_⊎_, inl, inr, ⊎-elim}
@@ -18,7 +18,7 @@ use Rattle.semigroups.proofs.Booleans.{clash, untrue, same-truth, both, and-lef
 use Rattle.semigroups.proofs.Lists.{each-at, each-of, pairs-at, pairs-of, at-front, at-seam, length-snoc, not-member}
 use Rattle.semigroups.proofs.NoRepeats.{place-mem}
 use Rattle.semigroups.proofs.Completions.{allFrom, all-step}
-use Rattle.backtrack.specs.Marks.{allows, merge, noted, imageProduct, asks, agreeOn, cross, newFits, Reads}
+use Rattle.backtrack.specs.Constraints.{allows, merge, noted, imageProduct, asks, agreeOn, cross, newFits, Reads}
 
 -- ---- one more value asked
 
@@ -34,20 +34,20 @@ merge-allows v y₀ y lo hi =
       ] refl)
     ] refl
 
--- Marks after one more pair, which asks y₀ of c₀.
-pub note-reads : (marks : List ℕ) (q : ℕ → ℕ → Bool) (c₀ y₀ : ℕ) → length marks ≡ 121 → Element 120 c₀ → Element 120 y₀ → Reads marks q
-    → Reads (noted marks c₀ y₀) (λ c y. q c y && (not (eqb c₀ c) || eqb y₀ y))
-note-reads marks q c₀ y₀ l hc hy R c y hc′ hy′ =
-    elim (eqb c₀ c) as (λ w. eqb c₀ c ≡ w → allows (getD (set marks c₀ (merge (getD marks c₀ 0) y₀)) c 0) y ≡ (q c y && (not w || eqb y₀ y))) [
+-- Constraints after one more pair, which asks y₀ of c₀.
+pub note-reads : (constraints : List ℕ) (q : ℕ → ℕ → Bool) (c₀ y₀ : ℕ) → length constraints ≡ 121 → Element 120 c₀ → Element 120 y₀ → Reads constraints q
+    → Reads (noted constraints c₀ y₀) (λ c y. q c y && (not (eqb c₀ c) || eqb y₀ y))
+note-reads constraints q c₀ y₀ l hc hy R c y hc′ hy′ =
+    elim (eqb c₀ c) as (λ w. eqb c₀ c ≡ w → allows (getD (set constraints c₀ (merge (getD constraints c₀ 0) y₀)) c 0) y ≡ (q c y && (not w || eqb y₀ y))) [
       | true ↦ (λ e.
           let h = eqb-true c₀ c e in
-          ap (λ (i : ℕ). allows (getD (set marks c₀ (merge (getD marks c₀ 0) y₀)) i 0) y) (sym h)
-          ∙ ap (λ (v : ℕ). allows v y) (getD-set-same marks c₀ (merge (getD marks c₀ 0) y₀) 0 (omega arith))
-          ∙ merge-allows (getD marks c₀ 0) y₀ y (hy .0) (hy′ .1)
+          ap (λ (i : ℕ). allows (getD (set constraints c₀ (merge (getD constraints c₀ 0) y₀)) i 0) y) (sym h)
+          ∙ ap (λ (v : ℕ). allows v y) (getD-set-same constraints c₀ (merge (getD constraints c₀ 0) y₀) 0 (omega arith))
+          ∙ merge-allows (getD constraints c₀ 0) y₀ y (hy .0) (hy′ .1)
           ∙ ap (λ (b : Bool). b && eqb y₀ y) (R c₀ y hc hy′ ∙ ap (λ (i : ℕ). q i y) h))
       | false ↦ (λ e.
           let ne = eqb-false c₀ c e in
-          ap (λ (v : ℕ). allows v y) (getD-set-other marks c₀ c (merge (getD marks c₀ 0) y₀) 0 (λ h. ne (sym h)))
+          ap (λ (v : ℕ). allows v y) (getD-set-other constraints c₀ c (merge (getD constraints c₀ 0) y₀) 0 (λ h. ne (sym h)))
           ∙ R c y hc′ hy′ ∙ sym (and-true (q c y)))
     ] refl
 
@@ -97,13 +97,13 @@ pub agreeOn-more : (u v : Product) (k c y : ℕ) → agreeOn u v (suc k) c y ≡
 unfolding agreeOn
 agreeOn-more u v k c y = square-more (asks u v c y) k
 
--- ---- the test by marks is the test of all pairs
+-- ---- the test by constraints is the test of all pairs
 
-asked : (u v c y : ℕ) → (not (eqb u c) || eqb v y) ≡ true → u ≡ c → v ≡ y
-asked u v c y e q = ⊎-elim (λ h. absurd (eqb-false u c (not-true (eqb u c) h) q)) (λ h. eqb-true v y h) (or-holds (not (eqb u c)) (eqb v y) e)
+required : (u v c y : ℕ) → (not (eqb u c) || eqb v y) ≡ true → u ≡ c → v ≡ y
+required u v c y e q = ⊎-elim (λ h. absurd (eqb-false u c (not-true (eqb u c) h) q)) (λ h. eqb-true v y h) (or-holds (not (eqb u c)) (eqb v y) e)
 
-asking : (u v c y : ℕ) → (u ≡ c → v ≡ y) → (not (eqb u c) || eqb v y) ≡ true
-asking u v c y h = elim (eqb u c) as (λ w. eqb u c ≡ w → (not w || eqb v y) ≡ true) [ true ↦ (λ e. eq-eqb v y (h (eqb-true u c e))) | false ↦ (λ _. refl) ] refl
+requiring : (u v c y : ℕ) → (u ≡ c → v ≡ y) → (not (eqb u c) || eqb v y) ≡ true
+requiring u v c y h = elim (eqb u c) as (λ w. eqb u c ≡ w → (not w || eqb v y) ≡ true) [ true ↦ (λ e. eq-eqb v y (h (eqb-true u c e))) | false ↦ (λ _. refl) ] refl
 
 pub member-snoc : (y : ℕ) (f : List ℕ) (x : ℕ) → member y (f ++ x ∷ []) ≡ (member y f || eqb y x)
 unfolding member
@@ -190,18 +190,18 @@ module _ (m : ℕ) (s t : Product) (closed : Closed m s) (f : List ℕ) (x : ℕ
                 rw (outside (omega arith), ne-eqb z x (λ e. let r = ow e in let y : ⊥ = omega arith in y)))
           ] refl
 
-    -- The pairs of f fit with x placed exactly where the marks allow x for the next element.
+    -- The pairs of f fit with x placed exactly where the constraints allow x for the next element.
     old-pairs : all (λ a. all (fits s t g a) (elements k)) (elements k) ≡ (agreeOn s (imageProduct t f) k (suc k) x && agreeOn (imageProduct t f) s k x (suc k))
     unfolding agreeOn
     old-pairs =
         same-truth (all (λ a. all (fits s t g a) (elements k)) (elements k)) (forced && owner)
         (λ h. both forced owner
-        (pairs-of k (asks s (imageProduct t f) (suc k) x) (λ a b ha hb. asking (s a b) (imageProduct t f a b) (suc k) x (forces a b ha hb (pairs-at k (fits s t g) h a b ha hb))))
-        (pairs-of k (asks (imageProduct t f) s x (suc k)) (λ a b ha hb. asking (imageProduct t f a b) (s a b) x (suc k) (owns a b ha hb (pairs-at k (fits s t g) h a b ha hb)))))
+        (pairs-of k (asks s (imageProduct t f) (suc k) x) (λ a b ha hb. requiring (s a b) (imageProduct t f a b) (suc k) x (forces a b ha hb (pairs-at k (fits s t g) h a b ha hb))))
+        (pairs-of k (asks (imageProduct t f) s x (suc k)) (λ a b ha hb. requiring (imageProduct t f a b) (s a b) x (suc k) (owns a b ha hb (pairs-at k (fits s t g) h a b ha hb)))))
         (λ h. pairs-of k (fits s t g) (λ a b ha hb.
         fits-now a b ha hb
-        (asked (s a b) (imageProduct t f a b) (suc k) x (pairs-at k (asks s (imageProduct t f) (suc k) x) (and-left forced owner h) a b ha hb))
-        (asked (imageProduct t f a b) (s a b) x (suc k) (pairs-at k (asks (imageProduct t f) s x (suc k)) (and-right forced owner h) a b ha hb))))
+        (required (s a b) (imageProduct t f a b) (suc k) x (pairs-at k (asks s (imageProduct t f) (suc k) x) (and-left forced owner h) a b ha hb))
+        (required (imageProduct t f a b) (s a b) x (suc k) (pairs-at k (asks (imageProduct t f) s x (suc k)) (and-right forced owner h) a b ha hb))))
       where
         forced : Bool
         forced = all (λ a. all (λ b. asks s (imageProduct t f) (suc k) x a b) (elements k)) (elements k)
@@ -209,7 +209,7 @@ module _ (m : ℕ) (s t : Product) (closed : Closed m s) (f : List ℕ) (x : ℕ
         owner : Bool
         owner = all (λ a. all (λ b. asks (imageProduct t f) s x (suc k) a b) (elements k)) (elements k)
 
-    -- The list with x passes where the marks allow x and the new pairs fit.
+    -- The list with x passes where the constraints allow x and the new pairs fit.
     pub settle : passes s t g ≡ (agreeOn s (imageProduct t f) k (suc k) x && agreeOn (imageProduct t f) s k x (suc k) && newFits s t g)
     unfolding passes newFits
     settle = rw (length-snoc f x) (square-more (fits s t g) k ∙ ap (λ (b : Bool). b && all (λ j. cross (fits s t g) (suc k) j) (elements (suc k))) old-pairs)
