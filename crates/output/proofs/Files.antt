@@ -71,12 +71,13 @@ module _ (t cells : List ℕ) where
 
 -- ---- an accepted file
 
+-- The table of order n that the text holds stands at the start of these cells.
 pub record Holds (t cells : List ℕ) (n : ℕ) : Type 0 where
   pub order : orderOf t ≡ n
   pub small : n ≤ 120
   pub room : n * n ≤ length cells
-  pub table : Accepted n (take (n * n) (cellsAfter t cells))
-  pub cells-are : take (n * n) (cellsAfter t cells) ≡ cellsOf t
+  pub table : Accepted n (take (n * n) cells)
+  pub cells-are : take (n * n) cells ≡ cellsOf t
 
 pub accepted-file : (t cells : List ℕ) (n : ℕ) → fileAnswer t cells ≡ gives n → fileRefusal t (length cells) ≡ none
 unfolding fileAnswer
@@ -86,9 +87,9 @@ pub refused-file : (t cells : List ℕ) (r : Refusal) → fileAnswer t cells ≡
 unfolding fileAnswer
 refused-file t cells r e = refusal-given (fileRefusal t (length cells)) (orderOf t) (sym e)
 
-pub holds : (t cells : List ℕ) (n : ℕ) → fileAnswer t cells ≡ gives n → Holds t cells n
+pub holds : (t cells : List ℕ) (n : ℕ) → fileAnswer t cells ≡ gives n → {after : List ℕ} → after ≡ cellsAfter t cells → length after ≡ length cells → Holds t after n
 unfolding fileAnswer loadAnswer
-holds t cells n e =
+holds t cells n e same kept =
     let p = not-refused (fileRefusal t (length cells)) (orderOf t) n e in
     let loads = refusal-none t (length cells) (p .0) in
     let given : givenUnless (loadRefusal t (length cells)) (orderOf t) ≡ gives n = rw loads (ap {B = Answer ℕ} gives (p .1)) in
@@ -96,10 +97,11 @@ holds t cells n e =
     let small = l .passes .order in
     let room = l .passes .room in
     let table = accepted (orderOf t) (cellsOf t) (sym (loaded-table t (length cells) loads) ∙ p .0) in
+    let front = ap (take (n * n)) same ∙ l .cells in
     record {
       order = p .1;
       small = rw (p .1) at small;
-      room = rw (p .1) at room;
-      table = subst₂ Accepted (p .1) (sym (l .cells)) table;
-      cells-are = l .cells;
+      room = rw (← kept) at (rw (p .1) at room);
+      table = subst₂ Accepted (p .1) (sym front) table;
+      cells-are = front;
     }

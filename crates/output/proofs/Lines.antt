@@ -8,7 +8,7 @@ use native.Mathlib.Omega.{arith}
 use lib.ListN.{length, drop, getD, set, length-append, drop-of-length-le}
 use lib.Seq.{sets, drop-cons}
 use Rattle.semigroups.specs.Lists.{range, elements, at}
-use Rattle.semigroups.specs.Questions.{Refusal, no, naming}
+use Rattle.semigroups.specs.Questions.{Refusal}
 use Rattle.csv.specs.Decimals.{numeral}
 use Rattle.csv.specs.Records.{recordText, lineText, rowsText}
 use Rattle.semigroups.specs.Calls.{refused, overwritten}
@@ -94,28 +94,6 @@ pair-written before start i x q₁ e₁ q₂ e₂ q₃ e₃ =
     let all = write-last w₃ refl in
     (all .1, all .0)
 
--- The record of a refusal that names no side: its second field is empty.
-sideless : (number : ℕ) → lineText (refusedRecord (no number [])) ≡ (refusedWord ++ 44 ∷ []) ++ ((44 ∷ numeral number) ++ 13 ∷ 10 ∷ [])
-unfolding refusedRecord
-sideless number = three-fields refusedWord [] (numeral number)
-
-pub sideless-short : (number : ℕ) → length (lineText (refusedRecord (no number []))) ≤ 14
-sideless-short number = omega (arith, ap length (sideless number) ∙ length-append (refusedWord ++ 44 ∷ []) ((44 ∷ numeral number) ++ 13 ∷ 10 ∷ []), length-append (44 ∷ numeral number) (13 ∷ 10 ∷ []), digits-few number)
-
-pub sideless-written : (before : List ℕ) (number : ℕ) {o₁ o₂ o₃ : List ℕ} {p₁ p₂ p₃ : ℕ}
-    → p₁ ≡ length (refusedWord ++ 44 ∷ []) → o₁ ≡ sets before 0 (refusedWord ++ 44 ∷ [])
-    → p₂ ≡ p₁ + length (44 ∷ numeral number) → o₂ ≡ sets o₁ p₁ (44 ∷ numeral number)
-    → p₃ ≡ p₂ + 2 → o₃ ≡ sets o₂ p₂ (13 ∷ 10 ∷ [])
-    → (p₃ ≡ length (lineText (refusedRecord (no number [])))) × (o₃ ≡ sets before 0 (lineText (refusedRecord (no number []))))
-sideless-written before number q₁ e₁ q₂ e₂ q₃ e₃ =
-    let whole = lineText (refusedRecord (no number [])) in
-    let z : 0 + length (refusedWord ++ 44 ∷ []) ≡ length (refusedWord ++ 44 ∷ []) = omega arith in
-    let w₁ = written (write-first before 0 whole) (refusedWord ++ 44 ∷ []) ((44 ∷ numeral number) ++ 13 ∷ 10 ∷ []) (sideless number) e₁ (q₁ ∙ sym z) in
-    let w₂ = written w₁ (44 ∷ numeral number) (13 ∷ 10 ∷ []) refl e₂ q₂ in
-    let w₃ = written w₂ (13 ∷ 10 ∷ []) [] refl e₃ q₃ in
-    let all = write-last w₃ refl in
-    (let r = all .1 in omega arith, all .0)
-
 -- ---- a record for each element
 
 module _ (m : ℕ) (f : List ℕ) where
@@ -174,10 +152,6 @@ pub record Written (before : List ℕ) (rs : List (List (List ℕ))) (p : ℕ) (
   pub size : p ≡ length (rowsText rs)
   pub text : out ≡ overwritten (rowsText rs) before
 
--- What is written lies within the buffer.
-pub written-within : (rs : List (List (List ℕ))) (before : List ℕ) {p : ℕ} {out : List ℕ} → p ≡ length (rowsText rs) → out ≡ overwritten (rowsText rs) before → p ≤ length out
-written-within rs before q e = omega (arith, ap length e ∙ length-append (rowsText rs) (drop (length (rowsText rs)) before))
-
 -- One record.
 pub one-written : (before : List ℕ) (r : List (List ℕ)) (rs : List (List (List ℕ))) → rs ≡ r ∷ [] → length (lineText r) ≤ 17 → 1095 ≤ length before
     → {p : ℕ} {out : List ℕ} → p ≡ length (lineText r) → out ≡ sets before 0 (lineText r) → Written before rs p out
@@ -198,8 +172,8 @@ found-text m n f = refl
 pub found-short : (m n : ℕ) (f : List ℕ) → m ≤ 120 → length (rowsText (foundRecords m n f)) ≤ 1095
 found-short m n f h = omega (arith, simp length-append at (ap length (found-text m n f)), first-short foundWord m n, pairs-short m f)
 
-pub refused-record : (side a b : ℕ) (r : Refusal) → a ≡ side → b ≡ r .number → refusedRecords (naming side r) ≡ firstRecord refusedWord a b ∷ []
-unfolding refusedRecords refusedRecord firstRecord
+refused-record : (side a b : ℕ) (r : Refusal) → a ≡ side → b ≡ r .number → refusedRecords side r ≡ firstRecord refusedWord a b ∷ []
+unfolding refusedRecords refusedRecord
 refused-record side a b r ea eb = rw (ea, eb)
 
 -- A file that is accepted has no record, and one that is refused has one.

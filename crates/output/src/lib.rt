@@ -1,21 +1,20 @@
-// What the program says of two files, as RFC 4180 text: a record that begins with found, none or refused, and after found a record for each
-// source element. `judge` asks the questions about a file; `put_refusal` and `put_answer` write the text.
+// The program `recue`, from the bytes of its two files to the bytes that it prints: RFC 4180 text, a record that begins with found, none or
+// refused, and after found a record for each source element.
 ghost use mathlib.Core.Path.{_≡_};
 ghost use mathlib.Core.List.{_∷_, []};
 ghost use Prim.Native.Nat.{_+_, _*_, _≤_, _<_};
 ghost use lib.ListN.{length};
 ghost use lib.Seq.{sets};
-ghost use Rattle.semigroups.specs.Questions.{no};
-ghost use Rattle.semigroups.specs.Maps.{embeddings};
+ghost use Rattle.semigroups.specs.Tables.{Accepted};
 ghost use Rattle.csv.specs.Decimals.{numeral};
 ghost use Rattle.csv.specs.Records.{lineText, rowsText};
 ghost use Rattle.semigroups.specs.Calls.{overwritten};
 ghost use Rattle.csv.specs.Calls.{cellsAfter};
 ghost use Rattle.tables.specs.Answers.{sideNumber, faultRefusal as tableRefusal};
 ghost use Rattle.text.specs.Answers.{faultRefusal as textRefusal};
-ghost use Rattle.search.specs.Calls.{theFirst, lend, call};
-ghost use Rattle.output.specs.Records.{firstRecord, pairRecords, foundRecords, refusedRecord, searchRecords, fileRecords};
+ghost use Rattle.output.specs.Records.{firstRecord, pairRecords, foundRecords, fileRecords};
 ghost use Rattle.output.specs.Files.{fileAnswer};
+ghost use Rattle.output.specs.Program.{answerRecords, recueOutput};
 ghost use Rattle.output.specs.Answers.{verdictAnswer};
 use search::SearchAnswer;
 use tables::Fault;
@@ -33,8 +32,9 @@ pub enum FileVerdict {
     Table(Fault),
 }
 
-// Loads the table that `text` holds into `cells`, as `text::load` does, and asks questions 3 and 4 of it.
-pub fn judge(text: &[u8], cells: &mut [u8]) -> FileVerdict
+// Loads the table that `text` holds into `cells`, as `text::load` does; then asks questions 3 and 4 of it, as `tables::check` does. A table that is
+// refused by 3 or 4 has been loaded.
+pub fn load_then_check(text: &[u8], cells: &mut [u8]) -> FileVerdict
     ensures answer { λ r. ⌜ verdictAnswer r ≡ fileAnswer (now (text .entry)) (now (cells .entry)) ⌝ }
     ensures cells { λ _. ⌜ now (cells .exit) ≡ cellsAfter (now (text .entry)) (now (cells .entry)) ⌝ }
 {
@@ -180,20 +180,8 @@ fn put_found(out: &mut [u8], n: usize, map: &[u8]) -> usize
     put_pairs(out, at, map)
 }
 
-// Writes the record of a refusal that names no side to the start of `out`. Answers its length.
-fn put_sideless(out: &mut [u8], number: usize) -> usize
-    requires small { ⌜ number < 1000 ⌝ }
-    requires room { ⌜ 14 ≤ length (now out) ⌝ }
-    ensures answer { λ r. ⌜ r ≡ length (lineText (refusedRecord (no number []))) ⌝ }
-    ensures out { λ _. ⌜ now (out .exit) ≡ sets (now (out .entry)) 0 (lineText (refusedRecord (no number []))) ⌝ }
-{
-    let mut at = put_bytes(out, b"refused,");
-    at = put_field(out, at, number);
-    put_break(out, at)
-}
-
 // Writes the record of a refused file to the start of `out` and answers its length; an accepted file has none.
-pub fn put_refusal(out: &mut [u8; 1095], side: Side, verdict: FileVerdict) -> usize
+fn put_refusal(out: &mut [u8; 1095], side: Side, verdict: FileVerdict) -> usize
     ensures answer { λ r. ⌜ r ≡ length (rowsText (fileRecords (sideNumber side) (verdictAnswer verdict))) ⌝ }
     ensures out { λ _. ⌜ now (out .exit) ≡ overwritten (rowsText (fileRecords (sideNumber side) (verdictAnswer verdict))) (now (out .entry)) ⌝ }
 {
@@ -214,33 +202,45 @@ pub fn put_refusal(out: &mut [u8; 1095], side: Side, verdict: FileVerdict) -> us
     }
 }
 
-// Asks for the first embedding of the source in the target, as `search::first_embedding` does, writes what it says to the start of `out` and
-// answers the length.
-pub fn put_answer(
-    out: &mut [u8; 1095],
-    source: &[u8],
-    m: usize,
-    target: &[u8],
-    n: usize,
-    map: &mut [u8],
-    scratch: &mut [u8],
-) -> usize
-    ensures answer { λ r. ⌜ r ≡ length (rowsText (searchRecords (lend (now (source .entry)) m (now (target .entry)) n (now (map .entry)) (now (scratch .entry))))) ⌝ }
-    ensures out { λ _. ⌜ now (out .exit) ≡ overwritten (rowsText (searchRecords (lend (now (source .entry)) m (now (target .entry)) n (now (map .entry)) (now (scratch .entry))))) (now (out .entry)) ⌝ }
-    ensures map { λ _. ⌜ now (map .exit) ≡ call embeddings theFirst (lend (now (source .entry)) m (now (target .entry)) n (now (map .entry)) (now (scratch .entry))) .map ⌝ }
-    ensures scratch { λ _. ⌜ now (scratch .exit) ≡ call embeddings theFirst (lend (now (source .entry)) m (now (target .entry)) n (now (map .entry)) (now (scratch .entry))) .scratch ⌝ }
+// Asks for the first embedding of one table in another, writes what is found, or none, to the start of `out` and answers the length. The buffers lent
+// to the search have the right length, so no question fails.
+fn put_answer(out: &mut [u8; 1095], source: &[u8], m: usize, target: &[u8], n: usize) -> usize
+    requires tables { ⌜ Accepted m (now source) × Accepted n (now target) ⌝ }
+    ensures answer { λ r. ⌜ r ≡ length (rowsText (answerRecords m (now (source .entry)) n (now (target .entry)))) ⌝ }
+    ensures out { λ _. ⌜ now (out .exit) ≡ overwritten (rowsText (answerRecords m (now (source .entry)) n (now (target .entry)))) (now (out .entry)) ⌝ }
 {
-    let said = search::first_embedding(source, m, target, n, map, scratch);
-    match said {
-        SearchAnswer::Found => put_found(out, n, &*map),
-        SearchAnswer::Nothing => put_record(out, b"none", m, n),
-        SearchAnswer::Refused(side, fault) => put_record(
-            out,
-            b"refused",
-            side_number(side),
-            table_number(fault),
-        ),
-        SearchAnswer::MapLength => put_sideless(out, 5),
-        SearchAnswer::ScratchLength => put_sideless(out, 6),
-    }
+    let mut map = [0u8; 120];
+    let mut scratch = [0u8; 14400];
+    let marks = m * n;
+    let said = search::first_embedding(source, m, target, n, &mut map[..m], &mut scratch[..marks]);
+    let SearchAnswer::Found = said else {
+        return put_record(out, b"none", m, n);
+    };
+    put_found(out, n, &map[..m])
+}
+
+// The whole output of the program for files with these bytes, written to the start of `out`. Answers its length.
+pub fn recue(source: &[u8], target: &[u8], out: &mut [u8; 1095]) -> usize
+    ensures answer { λ r. ⌜ r ≡ length (recueOutput (now (source .entry)) (now (target .entry))) ⌝ }
+    ensures out { λ _. ⌜ now (out .exit) ≡ overwritten (recueOutput (now (source .entry)) (now (target .entry))) (now (out .entry)) ⌝ }
+{
+    let mut source_cells = [0u8; 14400];
+    let first = load_then_check(source, &mut source_cells);
+    let FileVerdict::Accepted(m) = first else {
+        return put_refusal(out, Side::Source, first);
+    };
+    let mut target_cells = [0u8; 14400];
+    let second = load_then_check(target, &mut target_cells);
+    let FileVerdict::Accepted(n) = second else {
+        return put_refusal(out, Side::Target, second);
+    };
+    let source_size = m * m;
+    let target_size = n * n;
+    put_answer(
+        out,
+        &source_cells[..source_size],
+        m,
+        &target_cells[..target_size],
+        n,
+    )
 }
