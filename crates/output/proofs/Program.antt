@@ -17,18 +17,13 @@ use Rattle.csv.specs.Decimals.{isDigit, value, valueFrom, numeralWithin, numera
 use Rattle.csv.specs.Records.{isBreak, onto, records, fields, rows, recordText, lineText, rowsText}
 use Rattle.csv.specs.Tables.{fieldsOf, orderOf, cellsOf}
 use Rattle.csv.specs.Questions.{breakAt, inBreak, isAllowed, firstOther, bytesRefusal, endRefusal, fieldRefusal, fieldsRefusal, isSquare, squareRefusal, loadRefusal}
-use Rattle.semigroups.specs.Calls.{overwritten}
-use Rattle.tables.specs.Answers.{faultRefusal as tableRefusal}
-use Rattle.text.specs.Answers.{faultRefusal as textRefusal}
+use Rattle.semigroups.specs.Calls.{refused, overwritten}
 use Rattle.csv.proofs.Loading.{too-short, too-long}
-use Rattle.output.specs.Records.{firstRecord, pairRecord, pairRecords, foundRecords, noneRecords, refusedRecord, refusedRecords, fileRecords}
-use Rattle.output.specs.Files.{fileRefusal, fileAnswer}
-use Rattle.output.specs.Program.{room, answerRecords, recueRecords, recueOutput}
+use Rattle.output.specs.Records.{firstRecord, pairRecord, pairRecords, foundRecords, noneRecords, refusedRecord, refusedRecords}
+use Rattle.files.specs.Files.{fileRefusal, fileAnswer, room}
+use Rattle.files.proofs.Files.{Holds, loading-refused, refused-file}
+use Rattle.output.specs.Program.{answerRecords, recueRecords, recueOutput}
 use Rattle.output.specs.Example.{sourceFile, targetFile, printed}
-use Rattle.output.specs.Answers.{verdictAnswer}
-use Rattle.output.specs.declared.FileVerdict.{FileVerdict}
-use Rattle.output.specs.declared.FileVerdict.the-variants.{Accepted, Text, Table}
-use Rattle.output.proofs.Files.{Holds, loading-refused, refused-file}
 
 -- ---- which file speaks
 
@@ -49,18 +44,13 @@ module _ (source target : List ℕ) where
 
 -- ---- what is written, once the files are loaded into buffers of the program's size
 
--- A file that is not accepted is refused, and its record is the whole output.
-module _ (source target cells : List ℕ) (size : length cells ≡ room) where
-  pub prints-source : (v : FileVerdict) → ((n : ℕ) → v ≡ Accepted n → ⊥) → verdictAnswer v ≡ fileAnswer source cells → rowsText (fileRecords 1 (verdictAnswer v)) ≡ recueOutput source target
-  prints-source (Accepted n) other e = absurd (other n refl)
-  prints-source (Text f) other e = sym (source-refused source target (textRefusal f) (ap (fileRefusal source) (sym size) ∙ refused-file source cells (textRefusal f) (sym e)))
-  prints-source (Table f) other e = sym (source-refused source target (tableRefusal f) (ap (fileRefusal source) (sym size) ∙ refused-file source cells (tableRefusal f) (sym e)))
+-- The record of a file that is refused is the whole output.
+module _ (source target cells : List ℕ) (size : length cells ≡ room) (r : Refusal) where
+  pub prints-source : fileAnswer source cells ≡ refused r → rowsText (refusedRecords 1 r) ≡ recueOutput source target
+  prints-source e = sym (source-refused source target r (ap (fileRefusal source) (sym size) ∙ refused-file source cells r e))
 
-  pub prints-target : fileRefusal source room ≡ none → (v : FileVerdict) → ((n : ℕ) → v ≡ Accepted n → ⊥) → verdictAnswer v ≡ fileAnswer target cells
-      → rowsText (fileRecords 2 (verdictAnswer v)) ≡ recueOutput source target
-  prints-target passes (Accepted n) other e = absurd (other n refl)
-  prints-target passes (Text f) other e = sym (target-refused source target (textRefusal f) passes (ap (fileRefusal target) (sym size) ∙ refused-file target cells (textRefusal f) (sym e)))
-  prints-target passes (Table f) other e = sym (target-refused source target (tableRefusal f) passes (ap (fileRefusal target) (sym size) ∙ refused-file target cells (tableRefusal f) (sym e)))
+  pub prints-target : fileRefusal source room ≡ none → fileAnswer target cells ≡ refused r → rowsText (refusedRecords 2 r) ≡ recueOutput source target
+  prints-target passes e = sym (target-refused source target r passes (ap (fileRefusal target) (sym size) ∙ refused-file target cells r e))
 
 -- Both files are accepted: what is found between the two tables that they hold.
 pub prints-answer : (source target : List ℕ) → fileRefusal source room ≡ none → fileRefusal target room ≡ none → {m n : ℕ} {first second : List ℕ} → Holds source first m → Holds target second n

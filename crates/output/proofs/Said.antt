@@ -23,7 +23,7 @@ use Rattle.search.proofs.Calls.{not-refused}
 use Rattle.csv.specs.Records.{lineText, rowsText}
 use Rattle.output.specs.Records.{noneWord, firstRecord, foundRecords, noneRecords}
 use Rattle.output.specs.Program.{mapRecords, answerRecords}
-use Rattle.output.proofs.Lines.{Written, one-written, first-short}
+use Rattle.output.proofs.Records.{Written, one-written, first-short}
 
 -- What is said where something was looked for: found with this map, or nothing.
 module _ (m n : ℕ) (bytes scratch : List ℕ) where

@@ -9,11 +9,7 @@ use Rattle.semigroups.specs.Maps.{embeddings, maps, first, earliest}
 use Rattle.csv.specs.Records.{rowsText}
 use Rattle.csv.specs.Tables.{orderOf, cellsOf}
 use Rattle.output.specs.Records.{foundRecords, noneRecords, refusedRecords}
-use Rattle.output.specs.Files.{fileRefusal}
-
--- The cells that the program has room for: those of order 120.
-abbrev pub room : ℕ
-room = 14400
+use Rattle.files.specs.Files.{fileRefusal, room}
 
 abbrev pub mapRecords : ℕ → ℕ → Option (List ℕ) → List (List (List ℕ))
 mapRecords m n (some f) = foundRecords m n f

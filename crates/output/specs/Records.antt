@@ -4,7 +4,6 @@ use mathlib.Core.List.{List, [], _∷_, map}
 use Prim.Native.Nat.{ℕ}
 use Rattle.semigroups.specs.Lists.{elements, at}
 use Rattle.semigroups.specs.Questions.{Refusal}
-use Rattle.semigroups.specs.Calls.{Answer, refused, gives}
 use Rattle.csv.specs.Decimals.{numeral}
 
 -- ---- the words of the first record, as bytes
@@ -50,8 +49,3 @@ noneRecords m n = firstRecord noneWord m n ∷ []
 
 unfoldable pub refusedRecords : ℕ → Refusal → List (List (List ℕ))
 refusedRecords side r = refusedRecord side r ∷ []
-
--- What a file's answer adds, for file 1 or 2: a refusal one record; an accepted file none.
-abbrev pub fileRecords : ℕ → Answer ℕ → List (List (List ℕ))
-fileRecords side (refused r) = refusedRecords side r
-fileRecords side (gives n) = []

@@ -1,6 +1,6 @@
 -- `recue` prints the record of the first file that is refused, or what the search finds between the two tables. Assumes nothing.
 use mathlib.Core.Path.{_≡_, refl, ap, sym, _∙_}
-use mathlib.Core.List.{List, [], _∷_}
+use mathlib.Core.List.{List}
 use mathlib.Core.Option.{none}
 use Prim.Native.Nat.{ℕ}
 use native.Mathlib.Omega.{arith}
@@ -8,24 +8,15 @@ use borrow.Author.Needs.{needs}
 use lib.ListN.{length, replicate}
 use lib.Seq.{length-take-le}
 use denote.Ref.{now}
-use denote.Enum.Declared.{tagOf}
-use types.Run.{OneOf, miss}
 use Rattle.semigroups.specs.Calls.{gives, overwritten}
 use Rattle.tables.proofs.Questions.{square-small}
-use Rattle.output.specs.Files.{fileRefusal, fileAnswer}
-use Rattle.output.specs.Program.{room}
-use Rattle.output.specs.Answers.{verdictAnswer}
-use Rattle.output.specs.declared.FileVerdict.{FileVerdict}
-use Rattle.output.specs.declared.FileVerdict.the-variants.{Accepted}
-use Rattle.output.proofs.FileVerdict as verdicts
-use Rattle.output.proofs.Files.{Holds, holds, accepted-file}
+use Rattle.files.specs.Files.{fileRefusal, fileAnswer, room}
+use Rattle.files.specs.Answers.{verdictAnswer, numberOf}
+use Rattle.files.proofs.Files.{Holds, not-accepted, holds, accepted-file}
+use Rattle.output.proofs.Records.{refused-written}
 use Rattle.output.proofs.Program.{prints-source, prints-target, prints-answer}
 use Rattle.output.proofs.recue.Statement.{statement}
 use Rattle.output.proofs.recue.Tie as tie
-
--- What is not the first case is not accepted.
-other : (v : FileVerdict) → OneOf (1 ∷ 2 ∷ []) (tagOf verdicts.the-type v) → (n : ℕ) → v ≡ Accepted n → ⊥
-other v h n e = miss (1 ∷ 2 ∷ []) 0 tt (rw e at h)
 
 -- What is written is the whole output.
 printed : (before : List ℕ) {text whole : List ℕ} → text ≡ whole → {p : ℕ} {out : List ℕ} → p ≡ length text → out ≡ overwritten text before
@@ -75,14 +66,22 @@ load-then-check-requires c κs = search needs
 enum-known-first : tie.Need-enum-known-first
 enum-known-first c = search needs
 
-put-refusal-requires : tie.Need-put-refusal-requires
-put-refusal-requires c κs = search needs
+slice-aggregate-put-record : tie.Need-slice-aggregate-put-record
+slice-aggregate-put-record c = search needs
+
+failed-question-requires : tie.Need-failed-question-requires
+failed-question-requires c κs = search needs
+
+put-record-requires : tie.Need-put-record-requires
+put-record-requires c κs = search needs
 
 returns : tie.Need-returns
 returns c =
-    let loading = c .before .before .before .before in
+    let loading = c .before .before .before .before .before .before in
     let z = loading .before .before .before .before in
-    printed (now (z .args .out)) (prints-source (now (z .args .source)) (now (z .args .target)) (replicate 14400 0) refl (loading .load-then-check .result) (other _ (c .before .before .match .keys2)) (loading .load-then-check .ensures .0)) (c .put-refusal .ensures .0) (c .put-refusal .ensures .1)
+    let no = not-accepted (loading .load-then-check .result) (c .before .before .before .before .match .keys2) in
+    let w = refused-written _ 1 _ (no .by) (c .before .failed-question .ensures .0 ∙ ap numberOf (no .says)) (search needs) (c .put-record .ensures .0) (c .put-record .ensures .1) in
+    printed (now (z .args .out)) (prints-source (now (z .args .source)) (now (z .args .target)) (replicate 14400 0) refl (no .by) (sym (loading .load-then-check .ensures .0) ∙ no .says)) (w .size) (w .text)
 
 slice-aggregate-load-then-check-2 : tie.Need-slice-aggregate-load-then-check-2
 slice-aggregate-load-then-check-2 c = search needs
@@ -93,15 +92,23 @@ load-then-check-requires-2 c κs = search needs
 enum-known-second : tie.Need-enum-known-second
 enum-known-second c = search needs
 
-put-refusal-requires-2 : tie.Need-put-refusal-requires-2
-put-refusal-requires-2 c κs = search needs
+slice-aggregate-put-record-2 : tie.Need-slice-aggregate-put-record-2
+slice-aggregate-put-record-2 c = search needs
+
+failed-question-requires-2 : tie.Need-failed-question-requires-2
+failed-question-requires-2 c κs = search needs
+
+put-record-requires-2 : tie.Need-put-record-requires-2
+put-record-requires-2 c κs = search needs
 
 returns-2 : tie.Need-returns-2
 returns-2 c =
-    let loading = c .before .before .before .before in
+    let loading = c .before .before .before .before .before .before in
     let first = loading .before .before .before in
     let z = start-of first in
-    printed (now (z .args .out)) (prints-target (now (z .args .source)) (now (z .args .target)) (replicate 14400 0) refl (source-passes first) (loading .load-then-check2 .result) (other _ (c .before .before .match2 .keys2)) (loading .load-then-check2 .ensures .0)) (c .put-refusal2 .ensures .0) (c .put-refusal2 .ensures .1)
+    let no = not-accepted (loading .load-then-check2 .result) (c .before .before .before .before .match2 .keys2) in
+    let w = refused-written _ 2 _ (no .by) (c .before .failed-question2 .ensures .0 ∙ ap numberOf (no .says)) (search needs) (c .put-record2 .ensures .0) (c .put-record2 .ensures .1) in
+    printed (now (z .args .out)) (prints-target (now (z .args .source)) (now (z .args .target)) (replicate 14400 0) refl (no .by) (source-passes first) (sym (loading .load-then-check2 .ensures .0) ∙ no .says)) (w .size) (w .text)
 
 mul-source-size : tie.Need-mul-source-size
 mul-source-size c = omega (arith, square-small _ (source-holds (c .before .before .before .before .before .before .before) .small))
@@ -140,12 +147,16 @@ recue-spec =
     slice-aggregate-load-then-check
     load-then-check-requires
     enum-known-first
-    put-refusal-requires
+    slice-aggregate-put-record
+    failed-question-requires
+    put-record-requires
     returns
     slice-aggregate-load-then-check-2
     load-then-check-requires-2
     enum-known-second
-    put-refusal-requires-2
+    slice-aggregate-put-record-2
+    failed-question-requires-2
+    put-record-requires-2
     returns-2
     mul-source-size
     mul-target-size

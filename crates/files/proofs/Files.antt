@@ -17,7 +17,15 @@ use Rattle.csv.specs.Calls.{loadAnswer, cellsAfter}
 use Rattle.csv.proofs.Loading.{cells-length, load-passed}
 use Rattle.csv.proofs.Accepted.{first-row}
 use Rattle.csv.proofs.RoundTrips.{not-refused, loads-given}
-use Rattle.output.specs.Files.{fileRefusal, fileAnswer}
+use denote.Enum.Declared.{tagOf}
+use types.Run.{OneOf, miss}
+use Rattle.tables.specs.Answers.{faultRefusal}
+use Rattle.text.specs.Answers.{faultRefusal as textRefusal}
+use Rattle.files.specs.Files.{fileRefusal, fileAnswer}
+use Rattle.files.specs.Answers.{verdictAnswer}
+use Rattle.files.specs.declared.FileVerdict.{FileVerdict}
+use Rattle.files.specs.declared.FileVerdict.the-variants.{Accepted as Accepted-order, Text, Table}
+use Rattle.files.proofs.FileVerdict as verdicts
 
 module _ (t : List ℕ) (room : ℕ) where
   pub loading-refused : {r : Refusal} → loadRefusal t room ≡ some r → fileRefusal t room ≡ some r
@@ -68,6 +76,18 @@ module _ (t cells : List ℕ) where
 
     pub loaded-room : {after : List ℕ} → after ≡ cellsAfter t cells → length after ≡ length cells → n * n ≤ length after
     loaded-room same kept = let l = loads-given t cells n e in let p = l .passes .room in let q = rw (l .order) at p in omega arith
+
+-- ---- a verdict that is not the first case
+
+-- The file is refused.
+pub record Refused (v : FileVerdict) : Type 0 where
+  pub by : Refusal
+  pub says : verdictAnswer v ≡ refused by
+
+pub not-accepted : (v : FileVerdict) → OneOf (1 ∷ 2 ∷ []) (tagOf verdicts.the-type v) → Refused v
+not-accepted (Accepted-order n) h = absurd (miss (1 ∷ 2 ∷ []) 0 tt h)
+not-accepted (Text fault) h = record { by = textRefusal fault; says = refl }
+not-accepted (Table fault) h = record { by = faultRefusal fault; says = refl }
 
 -- ---- an accepted file
 

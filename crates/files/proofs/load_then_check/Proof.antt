@@ -11,9 +11,9 @@ use Rattle.csv.specs.Calls.{loadAnswer}
 use Rattle.tables.proofs.Questions.{square-small}
 use Rattle.tables.specs.Answers.{verdictRefusal}
 use Rattle.text.specs.Answers.{loadedAnswer}
-use Rattle.output.proofs.Files.{judged-text, judged-table, loaded-order, loaded-room}
-use Rattle.output.proofs.load_then_check.Statement.{statement}
-use Rattle.output.proofs.load_then_check.Tie as tie
+use Rattle.files.proofs.Files.{judged-text, judged-table, loaded-order, loaded-room}
+use Rattle.files.proofs.load_then_check.Statement.{statement}
+use Rattle.files.proofs.load_then_check.Tie as tie
 
 -- The text is loaded.
 module _ (c : tie.After-known-told2) where

@@ -1,5 +1,5 @@
--- Which numbers a refused file can get: 20 to 26, 1, 3 and 4. Not 2, since a text that loads has a cell for each pair; not 27, since the program
--- has room for order 120. Assumes nothing.
+-- Which numbers a refused file can get where there is room for every table: 20 to 26, 1, 3 and 4. Not 2, since a text that loads has a cell for
+-- each pair; not 27, since there is room. Assumes nothing.
 use mathlib.Core.Path.{_≡_, refl, subst}
 use mathlib.Core.Bool.{Bool, true, false, not}
 use mathlib.Core.List.{List, [], _∷_, map}
@@ -17,8 +17,7 @@ use Rattle.csv.specs.Records.{rows}
 use Rattle.csv.specs.Tables.{fieldsOf, orderOf, cellsOf}
 use Rattle.csv.specs.Questions.{longest, breakAt, firstOther, bytesRefusal, endRefusal, fieldRefusal, fieldsRefusal, isSquare, squareRefusal, loadRefusal}
 use Rattle.tables.proofs.Questions.{square-small}
-use Rattle.output.specs.Files.{fileRefusal}
-use Rattle.output.specs.Program.{room}
+use Rattle.files.specs.Files.{fileRefusal, room}
 
 abbrev pub numbers : List ℕ
 numbers = 1 ∷ 3 ∷ 4 ∷ 20 ∷ 21 ∷ 22 ∷ 23 ∷ 24 ∷ 25 ∷ 26 ∷ []
