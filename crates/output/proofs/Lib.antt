@@ -1,5 +1,3 @@
-pub mod Lines
-pub mod Files
+pub mod Records
 pub mod Said
 pub mod Program
-pub mod Numbers

@@ -2,42 +2,38 @@
 -- Assumes nothing.
 use mathlib.Core.Path.{_≡_, refl, ap, ap₂, sym, _∙_}
 use mathlib.Core.Logic.{_⊎_, inl, inr}
-use mathlib.Core.List.{List, [], map, flatMap, flatten}
+use mathlib.Core.List.{List, [], flatMap, flatten}
 use mathlib.Core.Option.{none, some, orElse}
 use Prim.Native.Nat.{ℕ, _*_, _≤_, _<_}
 use native.Mathlib.Omega.{arith}
-use lib.ListN.{length, take}
+use lib.ListN.{length, take, drop, length-append}
 use lib.Seq.{length-take-le, take-all}
 use Rattle.semigroups.specs.Lists.{range, elements, at, all, find, keep, firstOf, member, distinct, lists}
 use Rattle.semigroups.specs.Tables.{product, isElement, associates, badCell, badTriple}
-use Rattle.semigroups.specs.Questions.{Refusal, no, naming}
+use Rattle.semigroups.specs.Questions.{Refusal, no}
 use Rattle.semigroups.specs.Maps.{isHomomorphism, isEmbedding, maps, earliest}
-use Rattle.semigroups.specs.Scratch.{scratchSize}
 use Rattle.semigroups.proofs.Booleans.{at-most-or-above}
 use Rattle.csv.specs.Decimals.{isDigit, value, valueFrom, numeralWithin, numeral}
 use Rattle.csv.specs.Records.{isBreak, onto, records, fields, rows, recordText, lineText, rowsText}
 use Rattle.csv.specs.Tables.{fieldsOf, orderOf, cellsOf}
 use Rattle.csv.specs.Questions.{breakAt, inBreak, isAllowed, firstOther, fieldsQuestions, isSquare}
-use Rattle.semigroups.specs.Calls.{Answer, refused, gives}
-use Rattle.csv.specs.Calls.{cellsAfter}
+use Rattle.semigroups.specs.Calls.{refused, overwritten}
 use Rattle.csv.proofs.Loading.{too-short, too-long}
-use Rattle.search.specs.Calls.{lend}
-use Rattle.output.specs.Records.{firstRecord, pairRecord, pairRecords, foundRecords, noneRecords, refusedRecord, refusedRecords, searchRecords, fileRecords}
-use Rattle.output.specs.Files.{fileRefusal, fileAnswer}
-use Rattle.output.specs.Program.{room, answerRecords, recueRecords, recueOutput}
+use Rattle.output.specs.Records.{firstRecord, pairRecord, pairRecords, foundRecords, noneRecords, refusedRecord, refusedRecords}
+use Rattle.files.specs.Files.{fileRefusal, fileAnswer, room}
+use Rattle.files.proofs.Files.{Holds, loading-refused, refused-file}
+use Rattle.output.specs.Program.{answerRecords, recueRecords, recueOutput}
 use Rattle.output.specs.Example.{sourceFile, targetFile, printed}
-use Rattle.output.proofs.Files.{loading-refused, refused-file, accepted-file, holds}
-use Rattle.output.proofs.Said.{accepted-records}
 
 -- ---- which file speaks
 
 module _ (source target : List ℕ) where
   -- Where the source is refused, the target does not matter.
-  pub source-refused : (r : Refusal) → fileRefusal source room ≡ some r → recueOutput source target ≡ rowsText (refusedRecords (naming 1 r))
+  pub source-refused : (r : Refusal) → fileRefusal source room ≡ some r → recueOutput source target ≡ rowsText (refusedRecords 1 r)
   unfolding recueOutput recueRecords
   source-refused r e = rw e
 
-  pub target-refused : (r : Refusal) → fileRefusal source room ≡ none → fileRefusal target room ≡ some r → recueOutput source target ≡ rowsText (refusedRecords (naming 2 r))
+  pub target-refused : (r : Refusal) → fileRefusal source room ≡ none → fileRefusal target room ≡ some r → recueOutput source target ≡ rowsText (refusedRecords 2 r)
   unfolding recueOutput recueRecords
   target-refused r e f = rw (e, f)
 
@@ -46,31 +42,29 @@ module _ (source target : List ℕ) where
   unfolding recueOutput recueRecords
   both-accepted e f = rw (e, f)
 
--- ---- what the program's parts print, together
+-- ---- what is written, once the files are loaded into buffers of the program's size
 
--- The files are loaded into buffers of the program's size; the record of a refused file is all that is printed.
+-- The record of a file that is refused is the whole output.
 module _ (source target cells : List ℕ) (size : length cells ≡ room) (r : Refusal) where
-  pub prints-source-refused : fileAnswer source cells ≡ refused r → rowsText (fileRecords 1 (fileAnswer source cells)) ≡ recueOutput source target
-  prints-source-refused e = ap (λ (a : Answer ℕ). rowsText (fileRecords 1 a)) e ∙ sym (source-refused source target r (ap (fileRefusal source) (sym size) ∙ refused-file source cells r e))
+  pub prints-source : fileAnswer source cells ≡ refused r → rowsText (refusedRecords 1 r) ≡ recueOutput source target
+  prints-source e = sym (source-refused source target r (ap (fileRefusal source) (sym size) ∙ refused-file source cells r e))
 
-  pub prints-target-refused : fileRefusal source room ≡ none → fileAnswer target cells ≡ refused r → rowsText (fileRecords 2 (fileAnswer target cells)) ≡ recueOutput source target
-  prints-target-refused f e = ap (λ (a : Answer ℕ). rowsText (fileRecords 2 a)) e ∙ sym (target-refused source target r f (ap (fileRefusal target) (sym size) ∙ refused-file target cells r e))
+  pub prints-target : fileRefusal source room ≡ none → fileAnswer target cells ≡ refused r → rowsText (refusedRecords 2 r) ≡ recueOutput source target
+  prints-target passes e = sym (target-refused source target r passes (ap (fileRefusal target) (sym size) ∙ refused-file target cells r e))
 
--- Both files are accepted: the search gets the two tables, and buffers of the right length of any content.
-pub prints-answer : (source target first second : List ℕ) → length first ≡ room → length second ≡ room
-    → (m n : ℕ) → fileAnswer source first ≡ gives m → fileAnswer target second ≡ gives n
-    → (map scratch : List ℕ) → length map ≡ m → scratchSize m n ≤ length scratch
-    → rowsText (searchRecords (lend (take (m * m) (cellsAfter source first)) m (take (n * n) (cellsAfter target second)) n map scratch)) ≡ recueOutput source target
-prints-answer source target first second s₁ s₂ m n e f map scratch size marks =
-    let a = holds source first m e in
-    let b = holds target second n f in
-    let l = lend (take (m * m) (cellsAfter source first)) m (take (n * n) (cellsAfter target second)) n map scratch in
-    let passes₁ = ap (fileRefusal source) (sym s₁) ∙ accepted-file source first m e in
-    let passes₂ = ap (fileRefusal target) (sym s₂) ∙ accepted-file target second n f in
-    ap rowsText (accepted-records l (a .table) (b .table) size marks)
-    ∙ ap₂ (λ (c d : List ℕ). rowsText (answerRecords m c n d)) (a .cells-are) (b .cells-are)
+-- Both files are accepted: what is found between the two tables that they hold.
+pub prints-answer : (source target : List ℕ) → fileRefusal source room ≡ none → fileRefusal target room ≡ none → {m n : ℕ} {first second : List ℕ} → Holds source first m → Holds target second n
+    → rowsText (answerRecords m (take (m * m) first) n (take (n * n) second)) ≡ recueOutput source target
+prints-answer source target e f {m} {n} a b =
+    ap₂ (λ (c d : List ℕ). rowsText (answerRecords m c n d)) (a .cells-are) (b .cells-are)
     ∙ ap₂ (λ (i j : ℕ). rowsText (answerRecords i (cellsOf source) j (cellsOf target))) (sym (a .order)) (sym (b .order))
-    ∙ sym (both-accepted source target passes₁ passes₂)
+    ∙ sym (both-accepted source target e f)
+
+-- What is written lies within the buffer.
+pub output-within : (source target before : List ℕ) {p : ℕ} {out : List ℕ} → p ≡ length (recueOutput source target) → out ≡ overwritten (recueOutput source target) before → p ≤ length out
+output-within source target before q e =
+    let text = recueOutput source target in
+    omega (arith, ap length e ∙ length-append text (drop (length text) before))
 
 -- ---- how much of a file decides
 

@@ -1,120 +1,79 @@
--- What the search for the first embedding says, as records: one law for each way that it ends; and at two accepted tables the records of the
--- earliest embedding or of none. Assumes nothing.
-use mathlib.Core.Path.{_≡_, refl, _∙_}
+-- What the search for the first embedding says of two accepted tables, with buffers of the right length: no question fails, so the records are
+-- those of the map that it leaves, or of none. Assumes nothing.
+use mathlib.Core.Path.{_≡_, refl}
 use mathlib.Core.List.{List, [], _∷_}
 use mathlib.Core.Option.{Option, none, some}
 use Prim.Native.Nat.{ℕ, _≤_}
 use native.Mathlib.Omega.{arith}
-use borrow.Author.Tests.{eqb-true}
-use lib.Dec.{eqb, leb}
 use lib.ListN.{length}
 use lib.Seq.{sets}
 use Rattle.semigroups.specs.Tables.{Accepted}
 use Rattle.semigroups.specs.Scratch.{scratchSize}
-use Rattle.semigroups.specs.Questions.{ask, Refusal, no, naming, tablesQuestions, tablesRefusal, searchRefusal}
 use Rattle.semigroups.specs.Maps.{embeddings}
-use Rattle.semigroups.specs.Walks.{refused, found, nothing}
-use Rattle.semigroups.proofs.Tables.{no-refusal}
-use Rattle.semigroups.proofs.Questions.{ask-passed, all-passed, both-passed}
-use Rattle.tables.proofs.Questions.{both-pass, tables-accepted}
-use Rattle.csv.specs.Records.{lineText, rowsText}
+use Rattle.semigroups.specs.Walks.{found}
 use Rattle.semigroups.specs.Calls.{overwritten}
-use Rattle.search.specs.Calls.{Lent, Called, theFirst, refusalOf, answerOf, scratchOf, answered, call}
+use Rattle.semigroups.proofs.Tables.{no-refusal}
+use Rattle.tables.proofs.Questions.{both-pass}
+use Rattle.search.specs.Calls.{Called, theFirst, lend, answerOf, scratchOf, answered, call}
+use Rattle.search.specs.Answers.{searchAnswerSays}
+use Rattle.search.specs.declared.SearchAnswer.{SearchAnswer}
+use Rattle.search.specs.declared.SearchAnswer.the-variants.{Found, Nothing, Refused, MapLength, ScratchLength}
 use Rattle.search.proofs.Answering.{none-refused}
-use Rattle.search.proofs.Calls.{not-refused, refused-exactly}
-use Rattle.output.specs.Records.{noneWord, refusedWord, firstRecord, foundRecords, noneRecords, refusedRecord, refusedRecords, saidRecords, searchRecords}
+use Rattle.search.proofs.Calls.{not-refused}
+use Rattle.csv.specs.Records.{lineText, rowsText}
+use Rattle.output.specs.Records.{noneWord, firstRecord, foundRecords, noneRecords}
 use Rattle.output.specs.Program.{mapRecords, answerRecords}
-use Rattle.output.proofs.Lines.{Written, one-written, first-short, sideless-short, refused-record}
+use Rattle.output.proofs.Records.{Written, one-written, first-short}
 
-module _ (l : Lent) where
+-- What is said where something was looked for: found with this map, or nothing.
+module _ (m n : ℕ) (bytes scratch : List ℕ) where
+  found-map : (o : Option (List ℕ)) → found ≡ answered o bytes scratch .says → mapRecords m n o ≡ foundRecords m n (answered o bytes scratch .map)
+  found-map none e = let z : _≡_ {A = ℕ} 0 1 = cc in let w : ⊥ = omega arith in absurd w
+  found-map (some f) e = refl
+
+  not-found : (o : Option (List ℕ)) (said : SearchAnswer) → (said ≡ Found → ⊥) → searchAnswerSays said ≡ answered o bytes scratch .says → mapRecords m n o ≡ noneRecords m n
+  not-found none said h e = refl
+  not-found (some f) Found h e = absurd (h refl)
+  not-found (some f) Nothing h e = let z : _≡_ {A = ℕ} 0 1 = cc in let w : ⊥ = omega arith in absurd w
+  not-found (some f) (Refused side fault) h e = let z : _≡_ {A = ℕ} 0 1 = cc in let w : ⊥ = omega arith in absurd w
+  not-found (some f) MapLength h e = let z : _≡_ {A = ℕ} 0 1 = cc in let w : ⊥ = omega arith in absurd w
+  not-found (some f) ScratchLength h e = let z : _≡_ {A = ℕ} 0 1 = cc in let w : ⊥ = omega arith in absurd w
+
+module _ (source : List ℕ) (m : ℕ) (target : List ℕ) (n : ℕ) (map scratch : List ℕ) (a : Accepted m source) (b : Accepted n target) (size : length map ≡ m)
+    (marks : scratchSize m n ≤ length scratch) where
   abbrev c : Called
-  c = call embeddings theFirst l
+  c = call embeddings theFirst (lend source m target n map scratch)
 
-  -- ---- an answer that is no refusal shows that no question failed
+  abbrev left : List ℕ
+  left = scratchOf embeddings theFirst (lend source m target n map scratch)
 
-  not-asked : (q : Option Refusal) → refusalOf embeddings theFirst l ≡ q → ((r : Refusal) → c .says ≡ refused r → ⊥) → refusalOf embeddings theFirst l ≡ none
-  not-asked none e h = e
-  not-asked (some r) e h = absurd (h r (refused-exactly embeddings l theFirst r .1 e))
+  abbrev earliest-map : Option (List ℕ)
+  earliest-map = answerOf embeddings theFirst (lend source m target n map scratch)
 
-  pub record Sized : Type 0 where
-    pub source : l .m ≤ 120
-    pub target : l .n ≤ 120
-    pub map : length (l .map) ≡ l .m
+  answers : c ≡ answered earliest-map map left
+  answers =
+      let pass = both-pass m source n target (no-refusal m source a) (no-refusal n target b) in
+      not-refused embeddings (lend source m target n map scratch) theFirst (none-refused m source n target (length map) (length scratch) pass size marks)
 
-  sized : refusalOf embeddings theFirst l ≡ none → Sized
-  unfolding searchRefusal tablesRefusal
-  sized e =
-      let tables = tablesQuestions (l .m) (l .source) (l .n) (l .target) in
-      let buffers = ask 5 (eqb (length (l .map)) (l .m)) ∷ ask 6 (leb (scratchSize (l .m) (l .n)) (length (l .scratch))) ∷ [] in
-      let p = both-passed tables buffers e in
-      let both = tables-accepted (l .m) (l .source) (l .n) (l .target) (p .0) in
-      record {
-        source = both .0 .to-limit;
-        target = both .1 .to-limit;
-        map = eqb-true (length (l .map)) (l .m) (ask-passed 5 (eqb (length (l .map)) (l .m)) (all-passed buffers .0 (p .1) .0));
-      }
+  found-records : found ≡ c .says → answerRecords m source n target ≡ foundRecords m n (c .map)
+  unfolding answerRecords
+  found-records = rw answers (found-map m n map left earliest-map)
 
-  pub found-sized : found ≡ c .says → Sized
-  found-sized e = sized (not-asked (refusalOf embeddings theFirst l) refl (λ r s. let z : _≡_ {A = ℕ} 0 1 = cc in omega arith))
+  none-records : (said : SearchAnswer) → (said ≡ Found → ⊥) → searchAnswerSays said ≡ c .says → answerRecords m source n target ≡ firstRecord noneWord m n ∷ []
+  unfolding answerRecords noneRecords
+  none-records = rw answers (not-found m n map left earliest-map)
 
-  pub nothing-sized : nothing ≡ c .says → Sized
-  nothing-sized e = sized (not-asked (refusalOf embeddings theFirst l) refl (λ r s. let z : _≡_ {A = ℕ} 0 1 = cc in omega arith))
-
-  -- ---- the records of each answer, once they are written
-
-  said-found : (f : List ℕ) → found ≡ c .says → f ≡ c .map → length f ≡ l .m → searchRecords l ≡ foundRecords (length f) (l .n) f
-  unfolding searchRecords
-  said-found f e same size = rw (← e, size, ← same)
-
-  said-nothing : nothing ≡ c .says → searchRecords l ≡ firstRecord noneWord (l .m) (l .n) ∷ []
-  unfolding searchRecords noneRecords
-  said-nothing e = rw (← e)
-
-  said-refused : (r : Refusal) → refused r ≡ c .says → searchRecords l ≡ refusedRecords r
-  unfolding searchRecords
-  said-refused r e = rw (← e)
+  -- ---- once the records are written
 
   module _ (before : List ℕ) {p : ℕ} {out : List ℕ} where
-    pub found-answer : (f : List ℕ) → found ≡ c .says → f ≡ c .map → length f ≡ length (l .map)
-        → p ≡ length (rowsText (foundRecords (length f) (l .n) f)) → out ≡ overwritten (rowsText (foundRecords (length f) (l .n) f)) before
-        → Written before (searchRecords l) p out
-    found-answer f e same kept q w =
-        rw (said-found f e same (kept ∙ found-sized e .map)) (record { size = q; text = w })
+    pub found-answer : (f : List ℕ) → found ≡ c .says → f ≡ c .map → length f ≡ m
+        → p ≡ length (rowsText (foundRecords (length f) n f)) → out ≡ overwritten (rowsText (foundRecords (length f) n f)) before
+        → Written before (answerRecords m source n target) p out
+    found-answer f e same whole q w = rw (found-records e, ← same, ← whole) (record { size = q; text = w })
 
-    pub nothing-answer : nothing ≡ c .says → 1095 ≤ length before
-        → p ≡ length (lineText (firstRecord noneWord (l .m) (l .n))) → out ≡ sets before 0 (lineText (firstRecord noneWord (l .m) (l .n)))
-        → Written before (searchRecords l) p out
-    nothing-answer e room q w =
-        let short = first-short noneWord (l .m) (l .n) in
-        one-written before (firstRecord noneWord (l .m) (l .n)) (searchRecords l) (said-nothing e) (omega arith) room q w
-
-    pub refused-answer : (side number : ℕ) (values : List ℕ) {a b : ℕ} → refused (naming side (no number values)) ≡ c .says → a ≡ side → b ≡ number → 1095 ≤ length before
-        → p ≡ length (lineText (firstRecord refusedWord a b)) → out ≡ sets before 0 (lineText (firstRecord refusedWord a b))
-        → Written before (searchRecords l) p out
-    refused-answer side number values {a} {b} e ea eb room q w =
-        one-written before (firstRecord refusedWord a b) (searchRecords l)
-        (said-refused (naming side (no number values)) e ∙ refused-record side a b (no number values) ea eb)
-        (first-short refusedWord a b) room q w
-
-    pub sideless-answer : (number : ℕ) → refused (no number []) ≡ c .says → 1095 ≤ length before
-        → p ≡ length (lineText (refusedRecord (no number []))) → out ≡ sets before 0 (lineText (refusedRecord (no number [])))
-        → Written before (searchRecords l) p out
-    unfolding refusedRecords
-    sideless-answer number e room q w =
-        let short = sideless-short number in
-        one-written before (refusedRecord (no number [])) (searchRecords l) (said-refused (no number []) e) (omega arith) room q w
-
-  -- ---- two accepted tables and buffers of the right length
-
-  said-answered : (o : Option (List ℕ)) → saidRecords (l .m) (l .n) (answered o (l .map) (scratchOf embeddings theFirst l) .says) (answered o (l .map) (scratchOf embeddings theFirst l) .map)
-      ≡ mapRecords (l .m) (l .n) o
-  said-answered none = refl
-  said-answered (some f) = refl
-
-  pub accepted-records : Accepted (l .m) (l .source) → Accepted (l .n) (l .target) → length (l .map) ≡ l .m → scratchSize (l .m) (l .n) ≤ length (l .scratch)
-      → searchRecords l ≡ answerRecords (l .m) (l .source) (l .n) (l .target)
-  unfolding searchRecords answerRecords
-  accepted-records a b size marks =
-      let pass = both-pass (l .m) (l .source) (l .n) (l .target) (no-refusal (l .m) (l .source) a) (no-refusal (l .n) (l .target) b) in
-      let all = none-refused (l .m) (l .source) (l .n) (l .target) (length (l .map)) (length (l .scratch)) pass size marks in
-      rw (not-refused embeddings l theFirst all) (said-answered (answerOf embeddings theFirst l))
+    pub none-answer : (said : SearchAnswer) → (said ≡ Found → ⊥) → searchAnswerSays said ≡ c .says → 1095 ≤ length before
+        → p ≡ length (lineText (firstRecord noneWord m n)) → out ≡ sets before 0 (lineText (firstRecord noneWord m n))
+        → Written before (answerRecords m source n target) p out
+    none-answer said other e room q w =
+        let short = first-short noneWord m n in
+        one-written before (firstRecord noneWord m n) (answerRecords m source n target) (none-records said other e) (omega arith) room q w

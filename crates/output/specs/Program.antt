@@ -4,16 +4,12 @@ use mathlib.Core.List.{List}
 use mathlib.Core.Option.{Option, none, some}
 use Prim.Native.Nat.{ℕ}
 use Rattle.semigroups.specs.Tables.{product}
-use Rattle.semigroups.specs.Questions.{Refusal, naming}
+use Rattle.semigroups.specs.Questions.{Refusal}
 use Rattle.semigroups.specs.Maps.{embeddings, maps, first, earliest}
 use Rattle.csv.specs.Records.{rowsText}
 use Rattle.csv.specs.Tables.{orderOf, cellsOf}
 use Rattle.output.specs.Records.{foundRecords, noneRecords, refusedRecords}
-use Rattle.output.specs.Files.{fileRefusal}
-
--- The cells that the program has room for: those of order 120.
-abbrev pub room : ℕ
-room = 14400
+use Rattle.files.specs.Files.{fileRefusal, room}
 
 abbrev pub mapRecords : ℕ → ℕ → Option (List ℕ) → List (List (List ℕ))
 mapRecords m n (some f) = foundRecords m n f
@@ -26,7 +22,7 @@ answerRecords m source n target = mapRecords m n (earliest first (maps embedding
 -- The refusal of a file where there is one, else these records.
 abbrev pub refusedUnless : ℕ → Option Refusal → List (List (List ℕ)) → List (List (List ℕ))
 refusedUnless side none rs = rs
-refusedUnless side (some r) rs = refusedRecords (naming side r)
+refusedUnless side (some r) rs = refusedRecords side r
 
 -- The source's questions, then the target's, then the first embedding.
 unfoldable pub recueRecords : List ℕ → List ℕ → List (List (List ℕ))

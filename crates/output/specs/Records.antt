@@ -1,15 +1,10 @@
 -- What the program prints, record by record (01, "Program `recue`"). As text the records follow RFC 4180 (Records of crate csv).
 -- Assumes nothing.
 use mathlib.Core.List.{List, [], _∷_, map}
-use mathlib.Core.Option.{Option, none, some}
 use Prim.Native.Nat.{ℕ}
 use Rattle.semigroups.specs.Lists.{elements, at}
-use Rattle.semigroups.specs.Questions.{Refusal, naming}
-use Rattle.semigroups.specs.Walks.{Said, refused, found, nothing}
+use Rattle.semigroups.specs.Questions.{Refusal}
 use Rattle.csv.specs.Decimals.{numeral}
-use Rattle.semigroups.specs.Calls as answers
-use Rattle.semigroups.specs.Maps.{embeddings}
-use Rattle.search.specs.Calls.{Lent, theFirst, call}
 
 -- ---- the words of the first record, as bytes
 
@@ -35,14 +30,9 @@ firstRecord word a b = word ∷ numeral a ∷ numeral b ∷ []
 unfoldable pub pairRecord : List ℕ → ℕ → List (List ℕ)
 pairRecord f i = numeral i ∷ numeral (at f i) ∷ []
 
--- 1 or 2 for the file. A refusal that names no side, which the program never gets, leaves the field empty.
-abbrev pub sideField : Option ℕ → List ℕ
-sideField none = []
-sideField (some side) = numeral side
-
--- The word, the file, the number of the question.
-unfoldable pub refusedRecord : Refusal → List (List ℕ)
-refusedRecord r = refusedWord ∷ sideField (r .side) ∷ numeral (r .number) ∷ []
+-- The word, 1 or 2 for the file, the number of the question.
+unfoldable pub refusedRecord : ℕ → Refusal → List (List ℕ)
+refusedRecord side r = firstRecord refusedWord side (r .number)
 
 -- ---- all records of an answer
 
@@ -57,20 +47,5 @@ foundRecords m n f = firstRecord foundWord m n ∷ pairRecords m f
 unfoldable pub noneRecords : ℕ → ℕ → List (List (List ℕ))
 noneRecords m n = firstRecord noneWord m n ∷ []
 
-unfoldable pub refusedRecords : Refusal → List (List (List ℕ))
-refusedRecords r = refusedRecord r ∷ []
-
--- What a search says with the map that it leaves.
-abbrev pub saidRecords : ℕ → ℕ → Said Refusal → List ℕ → List (List (List ℕ))
-saidRecords m n found f = foundRecords m n f
-saidRecords m n nothing f = noneRecords m n
-saidRecords m n (refused r) f = refusedRecords r
-
--- What the search for the first embedding says, from all that is lent.
-unfoldable pub searchRecords : Lent → List (List (List ℕ))
-searchRecords l = let c = call embeddings theFirst l in saidRecords (l .m) (l .n) (c .says) (c .map)
-
--- What a file's answer adds, for file 1 or 2: a refusal one record; an accepted file none.
-abbrev pub fileRecords : ℕ → answers.Answer ℕ → List (List (List ℕ))
-fileRecords side (answers.refused r) = refusedRecords (naming side r)
-fileRecords side (answers.gives n) = []
+unfoldable pub refusedRecords : ℕ → Refusal → List (List (List ℕ))
+refusedRecords side r = refusedRecord side r ∷ []

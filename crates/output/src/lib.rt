@@ -1,132 +1,24 @@
-// What the program says of two files, as RFC 4180 text: a record that begins with found, none or refused, and after found a record for each
-// source element. `judge` asks the questions about a file; `put_refusal` and `put_answer` write the text.
+// The program `recue`, from the bytes of its two files to the bytes that it prints: RFC 4180 text, a record that begins with found, none or
+// refused, and after found a record for each source element.
 ghost use mathlib.Core.Path.{_≡_};
 ghost use mathlib.Core.List.{_∷_, []};
 ghost use Prim.Native.Nat.{_+_, _*_, _≤_, _<_};
 ghost use lib.ListN.{length};
 ghost use lib.Seq.{sets};
-ghost use Rattle.semigroups.specs.Questions.{no};
-ghost use Rattle.semigroups.specs.Maps.{embeddings};
+ghost use Rattle.semigroups.specs.Tables.{Accepted};
+ghost use Rattle.semigroups.specs.Calls.{overwritten};
 ghost use Rattle.csv.specs.Decimals.{numeral};
 ghost use Rattle.csv.specs.Records.{lineText, rowsText};
-ghost use Rattle.semigroups.specs.Calls.{overwritten};
-ghost use Rattle.csv.specs.Calls.{cellsAfter};
-ghost use Rattle.tables.specs.Answers.{sideNumber, faultRefusal as tableRefusal};
-ghost use Rattle.text.specs.Answers.{textFaultRefusal as textRefusal};
-ghost use Rattle.search.specs.Calls.{theFirst, lend, call};
-ghost use Rattle.output.specs.Records.{firstRecord, pairRecords, foundRecords, refusedRecord, searchRecords, fileRecords};
-ghost use Rattle.output.specs.Files.{fileAnswer};
-ghost use Rattle.output.specs.Answers.{verdictAnswer};
+ghost use Rattle.output.specs.Records.{firstRecord, pairRecords, foundRecords};
+ghost use Rattle.output.specs.Program.{answerRecords, recueOutput};
+use files::FileVerdict;
+use files::failed_question;
+use files::load_then_check;
+use lines::put_break;
+use lines::put_bytes;
+use lines::put_field;
+use lines::put_number;
 use search::SearchAnswer;
-use tables::Fault;
-use tables::Side;
-use tables::Verdict;
-use text::Loaded;
-use text::TextFault;
-
-// What a file says: the order of the table that it holds, or the earliest question that fails.
-pub enum FileVerdict {
-    Accepted(usize),
-    // About its text.
-    Text(TextFault),
-    // About its table.
-    Table(Fault),
-}
-
-// Loads the table that `text` holds into `cells`, as `text::load` does, and asks questions 3 and 4 of it.
-pub fn judge(text: &[u8], cells: &mut [u8]) -> FileVerdict
-    ensures answer { λ r. ⌜ verdictAnswer r ≡ fileAnswer (now (text .entry)) (now (cells .entry)) ⌝ }
-    ensures cells { λ _. ⌜ now (cells .exit) ≡ cellsAfter (now (text .entry)) (now (cells .entry)) ⌝ }
-{
-    let loaded = text::load(text, cells);
-    match loaded {
-        Loaded::Refused(fault) => FileVerdict::Text(fault),
-        Loaded::Order(n) => {
-            let size = n * n;
-            let verdict = tables::check(&cells[..size], n);
-            match verdict {
-                Verdict::Refused(fault) => FileVerdict::Table(fault),
-                Verdict::Accepted => FileVerdict::Accepted(n),
-            }
-        }
-    }
-}
-
-// The number of the question behind each fault.
-fn text_number(fault: TextFault) -> usize
-    ensures answer { λ r. ⌜ r ≡ textRefusal fault .number ⌝ }
-    ensures small { λ r. ⌜ r < 100 ⌝ }
-{
-    match fault {
-        TextFault::Length => 20,
-        TextFault::Byte(_) => 21,
-        TextFault::End => 22,
-        TextFault::FieldLength => 23,
-        TextFault::LeadingZero => 24,
-        TextFault::FieldValue => 25,
-        TextFault::Shape => 26,
-        TextFault::Order => 1,
-        TextFault::Room => 27,
-    }
-}
-
-fn table_number(fault: Fault) -> usize
-    ensures answer { λ r. ⌜ r ≡ tableRefusal fault .number ⌝ }
-    ensures small { λ r. ⌜ r < 100 ⌝ }
-{
-    match fault {
-        Fault::Order => 1,
-        Fault::Size => 2,
-        Fault::Cell(_) => 3,
-        Fault::Triple(_, _, _) => 4,
-    }
-}
-
-fn side_number(side: Side) -> usize
-    ensures answer { λ r. ⌜ r ≡ sideNumber side ⌝ }
-    ensures small { λ r. ⌜ r < 10 ⌝ }
-{
-    match side {
-        Side::Source => 1,
-        Side::Target => 2,
-    }
-}
-
-// Writes `bytes` to the start of `out`. Answers the place behind them.
-fn put_bytes(out: &mut [u8], bytes: &[u8]) -> usize
-    requires room { ⌜ length (now bytes) ≤ length (now out) ⌝ }
-    ensures answer { λ r. ⌜ r ≡ length (now (bytes .entry)) ⌝ }
-    ensures out { λ _. ⌜ now (out .exit) ≡ sets (now (out .entry)) 0 (now (bytes .entry)) ⌝ }
-{
-    let mut i: usize = 0;
-    while i < bytes.len() {
-        out[i] = bytes[i];
-        i += 1;
-    }
-    i
-}
-
-// Writes a comma and the decimal number of x at `at`. Answers the place behind it.
-fn put_field(out: &mut [u8], at: usize, x: usize) -> usize
-    requires small { ⌜ x < 1000 ⌝ }
-    requires room { ⌜ at + 1 + length (numeral x) ≤ length (now out) ⌝ }
-    ensures answer { λ r. ⌜ r ≡ at + length (44 ∷ numeral x) ⌝ }
-    ensures out { λ _. ⌜ now (out .exit) ≡ sets (now (out .entry)) at (44 ∷ numeral x) ⌝ }
-{
-    out[at] = 44;
-    text::put_number(out, at + 1, x)
-}
-
-// Writes a line break at `at`. Answers the place behind it.
-fn put_break(out: &mut [u8], at: usize) -> usize
-    requires room { ⌜ at + 2 ≤ length (now out) ⌝ }
-    ensures answer { λ r. ⌜ r ≡ at + 2 ⌝ }
-    ensures out { λ _. ⌜ now (out .exit) ≡ sets (now (out .entry)) at (13 ∷ 10 ∷ []) ⌝ }
-{
-    out[at] = 13;
-    out[at + 1] = 10;
-    at + 2
-}
 
 // Writes the record of a word and two numbers to the start of `out`. Answers its length.
 fn put_record(out: &mut [u8], word: &[u8], a: usize, b: usize) -> usize
@@ -135,7 +27,7 @@ fn put_record(out: &mut [u8], word: &[u8], a: usize, b: usize) -> usize
     ensures answer { λ r. ⌜ r ≡ length (lineText (firstRecord (now (word .entry)) a b)) ⌝ }
     ensures out { λ _. ⌜ now (out .exit) ≡ sets (now (out .entry)) 0 (lineText (firstRecord (now (word .entry)) a b)) ⌝ }
 {
-    let mut at = put_bytes(out, word);
+    let mut at = put_bytes(out, 0, word);
     at = put_field(out, at, a);
     at = put_field(out, at, b);
     put_break(out, at)
@@ -148,7 +40,7 @@ fn put_pair(out: &mut [u8], at: usize, i: usize, image: usize) -> usize
     ensures answer { λ r. ⌜ r ≡ at + length (lineText (numeral i ∷ numeral image ∷ [])) ⌝ }
     ensures out { λ _. ⌜ now (out .exit) ≡ sets (now (out .entry)) at (lineText (numeral i ∷ numeral image ∷ [])) ⌝ }
 {
-    let mut place = text::put_number(out, at, i);
+    let mut place = put_number(out, at, i);
     place = put_field(out, place, image);
     put_break(out, place)
 }
@@ -180,67 +72,45 @@ fn put_found(out: &mut [u8], n: usize, map: &[u8]) -> usize
     put_pairs(out, at, map)
 }
 
-// Writes the record of a refusal that names no side to the start of `out`. Answers its length.
-fn put_sideless(out: &mut [u8], number: usize) -> usize
-    requires small { ⌜ number < 1000 ⌝ }
-    requires room { ⌜ 14 ≤ length (now out) ⌝ }
-    ensures answer { λ r. ⌜ r ≡ length (lineText (refusedRecord (no number []))) ⌝ }
-    ensures out { λ _. ⌜ now (out .exit) ≡ sets (now (out .entry)) 0 (lineText (refusedRecord (no number []))) ⌝ }
+// Asks for the first embedding of one table in another, writes what is found, or none, to the start of `out` and answers the length. The buffers lent
+// to the search have the right length, so no question fails.
+fn put_answer(out: &mut [u8; 1095], source: &[u8], m: usize, target: &[u8], n: usize) -> usize
+    requires tables { ⌜ Accepted m (now source) × Accepted n (now target) ⌝ }
+    ensures answer { λ r. ⌜ r ≡ length (rowsText (answerRecords m (now (source .entry)) n (now (target .entry)))) ⌝ }
+    ensures out { λ _. ⌜ now (out .exit) ≡ overwritten (rowsText (answerRecords m (now (source .entry)) n (now (target .entry)))) (now (out .entry)) ⌝ }
 {
-    let mut at = put_bytes(out, b"refused,");
-    at = put_field(out, at, number);
-    put_break(out, at)
+    let mut map = [0u8; 120];
+    let mut scratch = [0u8; 14400];
+    let marks = m * n;
+    let said = search::first_embedding(source, m, target, n, &mut map[..m], &mut scratch[..marks]);
+    let SearchAnswer::Found = said else {
+        return put_record(out, b"none", m, n);
+    };
+    put_found(out, n, &map[..m])
 }
 
-// Writes the record of a refused file to the start of `out` and answers its length; an accepted file has none.
-pub fn put_refusal(out: &mut [u8; 1095], side: Side, verdict: FileVerdict) -> usize
-    ensures answer { λ r. ⌜ r ≡ length (rowsText (fileRecords (sideNumber side) (verdictAnswer verdict))) ⌝ }
-    ensures out { λ _. ⌜ now (out .exit) ≡ overwritten (rowsText (fileRecords (sideNumber side) (verdictAnswer verdict))) (now (out .entry)) ⌝ }
+// The whole output of the program for files with these bytes, written to the start of `out`. Answers its length.
+pub fn recue(source: &[u8], target: &[u8], out: &mut [u8; 1095]) -> usize
+    ensures answer { λ r. ⌜ r ≡ length (recueOutput (now (source .entry)) (now (target .entry))) ⌝ }
+    ensures out { λ _. ⌜ now (out .exit) ≡ overwritten (recueOutput (now (source .entry)) (now (target .entry))) (now (out .entry)) ⌝ }
 {
-    match verdict {
-        FileVerdict::Accepted(_) => 0,
-        FileVerdict::Text(fault) => put_record(
-            out,
-            b"refused",
-            side_number(side),
-            text_number(fault),
-        ),
-        FileVerdict::Table(fault) => put_record(
-            out,
-            b"refused",
-            side_number(side),
-            table_number(fault),
-        ),
-    }
-}
-
-// Asks for the first embedding of the source in the target, as `search::first_embedding` does, writes what it says to the start of `out` and
-// answers the length.
-pub fn put_answer(
-    out: &mut [u8; 1095],
-    source: &[u8],
-    m: usize,
-    target: &[u8],
-    n: usize,
-    map: &mut [u8],
-    scratch: &mut [u8],
-) -> usize
-    ensures answer { λ r. ⌜ r ≡ length (rowsText (searchRecords (lend (now (source .entry)) m (now (target .entry)) n (now (map .entry)) (now (scratch .entry))))) ⌝ }
-    ensures out { λ _. ⌜ now (out .exit) ≡ overwritten (rowsText (searchRecords (lend (now (source .entry)) m (now (target .entry)) n (now (map .entry)) (now (scratch .entry))))) (now (out .entry)) ⌝ }
-    ensures map { λ _. ⌜ now (map .exit) ≡ call embeddings theFirst (lend (now (source .entry)) m (now (target .entry)) n (now (map .entry)) (now (scratch .entry))) .map ⌝ }
-    ensures scratch { λ _. ⌜ now (scratch .exit) ≡ call embeddings theFirst (lend (now (source .entry)) m (now (target .entry)) n (now (map .entry)) (now (scratch .entry))) .scratch ⌝ }
-{
-    let said = search::first_embedding(source, m, target, n, map, scratch);
-    match said {
-        SearchAnswer::Found => put_found(out, n, &*map),
-        SearchAnswer::Nothing => put_record(out, b"none", m, n),
-        SearchAnswer::Refused(side, fault) => put_record(
-            out,
-            b"refused",
-            side_number(side),
-            table_number(fault),
-        ),
-        SearchAnswer::MapLength => put_sideless(out, 5),
-        SearchAnswer::ScratchLength => put_sideless(out, 6),
-    }
+    let mut source_cells = [0u8; 14400];
+    let first = load_then_check(source, &mut source_cells);
+    let FileVerdict::Accepted(m) = first else {
+        return put_record(out, b"refused", 1, failed_question(first));
+    };
+    let mut target_cells = [0u8; 14400];
+    let second = load_then_check(target, &mut target_cells);
+    let FileVerdict::Accepted(n) = second else {
+        return put_record(out, b"refused", 2, failed_question(second));
+    };
+    let source_size = m * m;
+    let target_size = n * n;
+    put_answer(
+        out,
+        &source_cells[..source_size],
+        m,
+        &target_cells[..target_size],
+        n,
+    )
 }

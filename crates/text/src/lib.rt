@@ -349,28 +349,6 @@ fn text_length(cells: &[u8], n: usize) -> usize
     total
 }
 
-// Writes the decimal number of x at `at`. Answers the place behind it.
-pub fn put_number(text: &mut [u8], at: usize, x: usize) -> usize
-    requires small { ⌜ x < 1000 ⌝ }
-    requires room { ⌜ at + length (numeral x) ≤ length (now text) ⌝ }
-    ensures answer { λ r. ⌜ r ≡ at + length (numeral x) ⌝ }
-    ensures text { λ _. ⌜ now (text .exit) ≡ sets (now (text .entry)) at (numeral x) ⌝ }
-{
-    if x < 10 {
-        text[at] = (48 + x) as u8;
-        return at + 1;
-    }
-    if x < 100 {
-        text[at] = (48 + x / 10) as u8;
-        text[at + 1] = (48 + x % 10) as u8;
-        return at + 2;
-    }
-    text[at] = (48 + x / 100) as u8;
-    text[at + 1] = (48 + x / 10 % 10) as u8;
-    text[at + 2] = (48 + x % 10) as u8;
-    at + 3
-}
-
 // Writes row i of a table at `start`, with its line break. Answers the place behind it.
 fn put_row(cells: &[u8], n: usize, i: usize, text: &mut [u8], start: usize) -> usize
     requires table { ⌜ Filled n (now cells) ⌝ }
@@ -379,11 +357,11 @@ fn put_row(cells: &[u8], n: usize, i: usize, text: &mut [u8], start: usize) -> u
     ensures answer { λ r. ⌜ r ≡ start + length (lineText (rowFields n (now (cells .entry)) i)) ⌝ }
     ensures text { λ _. ⌜ now (text .exit) ≡ sets (now (text .entry)) start (lineText (rowFields n (now (cells .entry)) i)) ⌝ }
 {
-    let mut at = put_number(text, start, tables::times(cells, n, i, 1));
+    let mut at = lines::put_number(text, start, tables::times(cells, n, i, 1));
     let mut j: usize = 2;
     while j <= n {
         text[at] = 44;
-        at = put_number(text, at + 1, tables::times(cells, n, i, j));
+        at = lines::put_number(text, at + 1, tables::times(cells, n, i, j));
         j += 1;
     }
     text[at] = 13;

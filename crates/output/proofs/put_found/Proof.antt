@@ -4,7 +4,7 @@ use borrow.Author.Needs.{needs}
 use lib.ListN.{length}
 use denote.Ref.{now}
 use Rattle.output.specs.Records.{foundWord}
-use Rattle.output.proofs.Lines.{first-short, found-short, found-written}
+use Rattle.output.proofs.Records.{first-short, found-short, found-written}
 use Rattle.output.proofs.put_found.Statement.{statement}
 use Rattle.output.proofs.put_found.Tie as tie
 

@@ -1,7 +1,7 @@
 -- `put_pair` writes a record of two fields: number, field, line break. Assumes nothing.
 use native.Mathlib.Omega.{arith}
 use borrow.Author.Needs.{needs}
-use Rattle.output.proofs.Lines.{pair-length, pair-written}
+use Rattle.output.proofs.Records.{pair-length, pair-written}
 use Rattle.output.proofs.put_pair.Statement.{statement}
 use Rattle.output.proofs.put_pair.Tie as tie
 

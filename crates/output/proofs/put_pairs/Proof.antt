@@ -7,7 +7,7 @@ use denote.Ref.{now}
 use Rattle.csv.specs.Records.{rowsText}
 use Rattle.csv.proofs.Writing.{Writing, write-length, write-room, write-last}
 use Rattle.output.specs.Records.{pairRecords}
-use Rattle.output.proofs.Lines.{pairsLeft, pairs-begun, pairs-short, pairs-more, pairs-end, pair-room}
+use Rattle.output.proofs.Records.{pairsLeft, pairs-begun, pairs-short, pairs-more, pairs-end, pair-room}
 use Rattle.output.proofs.put_pairs.Statement.{statement}
 use Rattle.output.proofs.put_pairs.Tie as tie
 

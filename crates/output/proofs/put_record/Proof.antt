@@ -2,7 +2,7 @@
 use native.Mathlib.Omega.{arith}
 use borrow.Author.Needs.{needs}
 use Rattle.csv.proofs.Decimals.{digits-few}
-use Rattle.output.proofs.Lines.{first-written}
+use Rattle.output.proofs.Records.{first-written}
 use Rattle.output.proofs.put_record.Statement.{statement}
 use Rattle.output.proofs.put_record.Tie as tie
 

@@ -1,55 +1,23 @@
 -- The records of an answer as text, piece by piece: what is left to write, how long it is, and what stands in the buffer once it is written.
 -- Assumes nothing.
 use mathlib.Core.Path.{_≡_, refl, ap, sym, _∙_}
-use mathlib.Core.List.{List, [], _∷_, _++_, map, flatMap, append-assoc, append-nil}
+use mathlib.Core.List.{List, [], _∷_, _++_, map, flatMap, append-nil}
 use Prim.Native.Nat.{ℕ, zero, suc, _+_, _-_, _*_, _≤_, _<_}
 use native.Mathlib.Numerals.{add-one}
 use native.Mathlib.Omega.{arith}
-use lib.ListN.{length, drop, getD, set, length-append, drop-of-length-le}
-use lib.Seq.{sets, drop-cons}
+use lib.ListN.{length, getD, length-append}
+use lib.Seq.{sets}
 use Rattle.semigroups.specs.Lists.{range, elements, at}
-use Rattle.semigroups.specs.Questions.{Refusal, no, naming}
+use Rattle.semigroups.specs.Questions.{Refusal}
 use Rattle.csv.specs.Decimals.{numeral}
-use Rattle.csv.specs.Records.{recordText, lineText, rowsText}
+use Rattle.csv.specs.Records.{lineText, rowsText}
 use Rattle.semigroups.specs.Calls.{refused, overwritten}
 use Rattle.csv.proofs.Decimals.{digits-few}
-use Rattle.csv.proofs.Writing.{Writing, write-first, write-next, write-last, sets-overwritten}
-use Rattle.output.specs.Records.{foundWord, refusedWord, firstRecord, pairRecord, pairRecords, foundRecords, refusedRecord, refusedRecords, fileRecords}
-use Rattle.output.specs.Answers.{verdictAnswer}
-use Rattle.output.specs.declared.FileVerdict.{FileVerdict}
-use Rattle.output.specs.declared.FileVerdict.the-variants.{Accepted}
+use Rattle.csv.proofs.Writing.{Writing, write-first, write-last, sets-overwritten}
+use Rattle.lines.proofs.Lines.{written, three-fields, two-fields}
+use Rattle.output.specs.Records.{foundWord, refusedWord, firstRecord, pairRecord, pairRecords, foundRecords, refusedRecord, refusedRecords}
 
--- The next piece is written.
-written : {before whole left now : List ℕ} {start at : ℕ} → Writing before start whole left now at → (p q : List ℕ) → left ≡ p ++ q
-    → {later : List ℕ} {next : ℕ} → later ≡ sets now at p → next ≡ at + length p → Writing before start whole q later next
-written w p q e placed next = rw (placed, next) (write-next w p q e)
-
--- ---- bytes, one by one
-
-pub copied : {before out : List ℕ} (bytes : List ℕ) {i : ℕ} → i < length bytes → Writing before 0 bytes (drop i bytes) out i
-    → Writing before 0 bytes (drop (i + 1) bytes) (set out i (getD bytes i 0)) (i + 1)
-copied bytes {i} h w = rw (add-one i) (rw add-one at (write-next w (getD bytes i 0 ∷ []) (drop (suc i) bytes) (drop-cons bytes i 0 h)))
-
-pub copied-all : {before out : List ℕ} (bytes : List ℕ) {i : ℕ} → length bytes ≤ i → Writing before 0 bytes (drop i bytes) out i
-    → (i ≡ length bytes) × (out ≡ sets before 0 bytes)
-copied-all {before} bytes {i} h w =
-    let all = write-last w (drop-of-length-le bytes h) in
-    (let r = all .1 in omega arith, all .0)
-
--- ---- a record of three fields, and one of two
-
-three-fields : (a b c : List ℕ) → lineText (a ∷ b ∷ c ∷ []) ≡ a ++ ((44 ∷ b) ++ ((44 ∷ c) ++ 13 ∷ 10 ∷ []))
-unfolding lineText recordText flatMap
-three-fields a b c =
-    let line-end : List ℕ = 13 ∷ 10 ∷ [] in
-    append-assoc a ((44 ∷ b) ++ ((44 ∷ c) ++ [])) line-end
-    ∙ ap (λ (l : List ℕ). a ++ l) (append-assoc (44 ∷ b) ((44 ∷ c) ++ []) line-end ∙ ap (λ (l : List ℕ). (44 ∷ b) ++ (l ++ line-end)) (append-nil (44 ∷ c)))
-
-two-fields : (a b : List ℕ) → lineText (a ∷ b ∷ []) ≡ a ++ ((44 ∷ b) ++ 13 ∷ 10 ∷ [])
-unfolding lineText recordText flatMap
-two-fields a b =
-    let line-end : List ℕ = 13 ∷ 10 ∷ [] in
-    append-assoc a ((44 ∷ b) ++ []) line-end ∙ ap (λ (l : List ℕ). a ++ (l ++ line-end)) (append-nil (44 ∷ b))
+-- ---- a record
 
 pub first-length : (word : List ℕ) (a b : ℕ) → length (lineText (firstRecord word a b)) ≡ length word + length (numeral a) + length (numeral b) + 4
 unfolding firstRecord
@@ -65,7 +33,7 @@ pub pair-short : (i x : ℕ) → length (lineText (numeral i ∷ numeral x ∷ [
 pair-short i x = omega (arith, pair-length i x, digits-few i, digits-few x)
 
 pub first-written : (before word : List ℕ) (a b : ℕ) {o₁ o₂ o₃ o₄ : List ℕ} {p₁ p₂ p₃ p₄ : ℕ}
-    → p₁ ≡ length word → o₁ ≡ sets before 0 word
+    → p₁ ≡ 0 + length word → o₁ ≡ sets before 0 word
     → p₂ ≡ p₁ + length (44 ∷ numeral a) → o₂ ≡ sets o₁ p₁ (44 ∷ numeral a)
     → p₃ ≡ p₂ + length (44 ∷ numeral b) → o₃ ≡ sets o₂ p₂ (44 ∷ numeral b)
     → p₄ ≡ p₃ + 2 → o₄ ≡ sets o₃ p₃ (13 ∷ 10 ∷ [])
@@ -73,8 +41,7 @@ pub first-written : (before word : List ℕ) (a b : ℕ) {o₁ o₂ o₃ o₄ : 
 unfolding firstRecord
 first-written before word a b q₁ e₁ q₂ e₂ q₃ e₃ q₄ e₄ =
     let whole = lineText (word ∷ numeral a ∷ numeral b ∷ []) in
-    let z : 0 + length word ≡ length word = omega arith in
-    let w₁ = written (write-first before 0 whole) word ((44 ∷ numeral a) ++ ((44 ∷ numeral b) ++ 13 ∷ 10 ∷ [])) (three-fields word (numeral a) (numeral b)) e₁ (q₁ ∙ sym z) in
+    let w₁ = written (write-first before 0 whole) word ((44 ∷ numeral a) ++ ((44 ∷ numeral b) ++ 13 ∷ 10 ∷ [])) (three-fields word (numeral a) (numeral b)) e₁ q₁ in
     let w₂ = written w₁ (44 ∷ numeral a) ((44 ∷ numeral b) ++ 13 ∷ 10 ∷ []) refl e₂ q₂ in
     let w₃ = written w₂ (44 ∷ numeral b) (13 ∷ 10 ∷ []) refl e₃ q₃ in
     let w₄ = written w₃ (13 ∷ 10 ∷ []) [] refl e₄ q₄ in
@@ -93,28 +60,6 @@ pair-written before start i x q₁ e₁ q₂ e₂ q₃ e₃ =
     let w₃ = written w₂ (13 ∷ 10 ∷ []) [] refl e₃ q₃ in
     let all = write-last w₃ refl in
     (all .1, all .0)
-
--- The record of a refusal that names no side: its second field is empty.
-sideless : (number : ℕ) → lineText (refusedRecord (no number [])) ≡ (refusedWord ++ 44 ∷ []) ++ ((44 ∷ numeral number) ++ 13 ∷ 10 ∷ [])
-unfolding refusedRecord
-sideless number = three-fields refusedWord [] (numeral number)
-
-pub sideless-short : (number : ℕ) → length (lineText (refusedRecord (no number []))) ≤ 14
-sideless-short number = omega (arith, ap length (sideless number) ∙ length-append (refusedWord ++ 44 ∷ []) ((44 ∷ numeral number) ++ 13 ∷ 10 ∷ []), length-append (44 ∷ numeral number) (13 ∷ 10 ∷ []), digits-few number)
-
-pub sideless-written : (before : List ℕ) (number : ℕ) {o₁ o₂ o₃ : List ℕ} {p₁ p₂ p₃ : ℕ}
-    → p₁ ≡ length (refusedWord ++ 44 ∷ []) → o₁ ≡ sets before 0 (refusedWord ++ 44 ∷ [])
-    → p₂ ≡ p₁ + length (44 ∷ numeral number) → o₂ ≡ sets o₁ p₁ (44 ∷ numeral number)
-    → p₃ ≡ p₂ + 2 → o₃ ≡ sets o₂ p₂ (13 ∷ 10 ∷ [])
-    → (p₃ ≡ length (lineText (refusedRecord (no number [])))) × (o₃ ≡ sets before 0 (lineText (refusedRecord (no number []))))
-sideless-written before number q₁ e₁ q₂ e₂ q₃ e₃ =
-    let whole = lineText (refusedRecord (no number [])) in
-    let z : 0 + length (refusedWord ++ 44 ∷ []) ≡ length (refusedWord ++ 44 ∷ []) = omega arith in
-    let w₁ = written (write-first before 0 whole) (refusedWord ++ 44 ∷ []) ((44 ∷ numeral number) ++ 13 ∷ 10 ∷ []) (sideless number) e₁ (q₁ ∙ sym z) in
-    let w₂ = written w₁ (44 ∷ numeral number) (13 ∷ 10 ∷ []) refl e₂ q₂ in
-    let w₃ = written w₂ (13 ∷ 10 ∷ []) [] refl e₃ q₃ in
-    let all = write-last w₃ refl in
-    (let r = all .1 in omega arith, all .0)
 
 -- ---- a record for each element
 
@@ -174,10 +119,6 @@ pub record Written (before : List ℕ) (rs : List (List (List ℕ))) (p : ℕ) (
   pub size : p ≡ length (rowsText rs)
   pub text : out ≡ overwritten (rowsText rs) before
 
--- What is written lies within the buffer.
-pub written-within : (rs : List (List (List ℕ))) (before : List ℕ) {p : ℕ} {out : List ℕ} → p ≡ length (rowsText rs) → out ≡ overwritten (rowsText rs) before → p ≤ length out
-written-within rs before q e = omega (arith, ap length e ∙ length-append (rowsText rs) (drop (length (rowsText rs)) before))
-
 -- One record.
 pub one-written : (before : List ℕ) (r : List (List ℕ)) (rs : List (List (List ℕ))) → rs ≡ r ∷ [] → length (lineText r) ≤ 17 → 1095 ≤ length before
     → {p : ℕ} {out : List ℕ} → p ≡ length (lineText r) → out ≡ sets before 0 (lineText r) → Written before rs p out
@@ -198,22 +139,13 @@ found-text m n f = refl
 pub found-short : (m n : ℕ) (f : List ℕ) → m ≤ 120 → length (rowsText (foundRecords m n f)) ≤ 1095
 found-short m n f h = omega (arith, simp length-append at (ap length (found-text m n f)), first-short foundWord m n, pairs-short m f)
 
-pub refused-record : (side a b : ℕ) (r : Refusal) → a ≡ side → b ≡ r .number → refusedRecords (naming side r) ≡ firstRecord refusedWord a b ∷ []
-unfolding refusedRecords refusedRecord firstRecord
-refused-record side a b r ea eb = rw (ea, eb)
-
--- A file that is accepted has no record, and one that is refused has one.
-pub accepted-written : (before : List ℕ) (side : ℕ) {v : FileVerdict} {n : ℕ} → v ≡ Accepted n → Written before (fileRecords side (verdictAnswer v)) 0 before
-unfolding rowsText flatMap
-accepted-written before side e = rw e (record { size = refl; text = refl })
-
-pub refused-written : (before : List ℕ) (side : ℕ) (v : FileVerdict) (r : Refusal) → verdictAnswer v ≡ refused r → {a b p : ℕ} {out : List ℕ}
-    → a ≡ side → b ≡ r .number → 1095 ≤ length before
-    → p ≡ length (lineText (firstRecord refusedWord a b)) → out ≡ sets before 0 (lineText (firstRecord refusedWord a b))
-    → Written before (fileRecords side (verdictAnswer v)) p out
-refused-written before side v r e {a} {b} ea eb room q w =
-    one-written before (firstRecord refusedWord a b) (fileRecords side (verdictAnswer v)) (ap (fileRecords side) e ∙ refused-record side a b r ea eb)
-    (first-short refusedWord a b) room q w
+-- The record of a refused file.
+pub refused-written : (before : List ℕ) (side number : ℕ) (r : Refusal) → number ≡ r .number → 1095 ≤ length before
+    → {p : ℕ} {out : List ℕ} → p ≡ length (lineText (firstRecord refusedWord side number)) → out ≡ sets before 0 (lineText (firstRecord refusedWord side number))
+    → Written before (refusedRecords side r) p out
+unfolding refusedRecords refusedRecord
+refused-written before side number r e room q w =
+    one-written before (firstRecord refusedWord side number) (refusedRecords side r) (rw e) (first-short refusedWord side number) room q w
 
 -- The records of a map that is found.
 pub found-written : (before : List ℕ) (m n : ℕ) (f : List ℕ) {o₁ o₂ : List ℕ} {p₁ p₂ : ℕ} → length (rowsText (foundRecords m n f)) ≤ length before

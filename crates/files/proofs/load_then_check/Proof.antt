@@ -1,4 +1,4 @@
--- `judge` loads a text, asks the four questions about the table that it holds, and answers the earliest failed one.
+-- `load_then_check` loads a text, asks the four questions about the table that it holds, and answers the earliest failed one.
 -- Assumes nothing.
 use mathlib.Core.Path.{_≡_, ap, sym, _∙_}
 use Prim.Native.Nat.{ℕ, _≤_, _*_}
@@ -11,9 +11,9 @@ use Rattle.csv.specs.Calls.{loadAnswer}
 use Rattle.tables.proofs.Questions.{square-small}
 use Rattle.tables.specs.Answers.{verdictRefusal}
 use Rattle.text.specs.Answers.{loadedAnswer}
-use Rattle.output.proofs.Files.{judged-text, judged-table, loaded-order, loaded-room}
-use Rattle.output.proofs.judge.Statement.{statement}
-use Rattle.output.proofs.judge.Tie as tie
+use Rattle.files.proofs.Files.{judged-text, judged-table, loaded-order, loaded-room}
+use Rattle.files.proofs.load_then_check.Statement.{statement}
+use Rattle.files.proofs.load_then_check.Tie as tie
 
 -- The text is loaded.
 module _ (c : tie.After-known-told2) where
@@ -91,8 +91,8 @@ returns-3 c =
       loading .load .ensures .1,
     )
 
-pub judge-spec : {M : Type 1} → statement M
-judge-spec =
+pub load-then-check-spec : {M : Type 1} → statement M
+load-then-check-spec =
     tie.close
     (tie.spec
     load-requires

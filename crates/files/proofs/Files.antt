@@ -1,6 +1,6 @@
 -- The questions about a file in the code's order: those about loading, then the table's four, of which a loaded table passes 1 and 2.
 -- Assumes nothing.
-use mathlib.Core.Path.{_≡_, ap, ap₂, sym, _∙_, subst₂}
+use mathlib.Core.Path.{_≡_, refl, ap, ap₂, sym, _∙_, subst₂}
 use mathlib.Core.List.{List, [], _∷_}
 use mathlib.Core.Option.{Option, none, some}
 use Prim.Native.Nat.{ℕ, _*_, _≤_}
@@ -20,7 +20,15 @@ use Rattle.csv.specs.Calls.{loadAnswer, cellsAfter}
 use Rattle.csv.proofs.Loading.{cells-length, load-passed}
 use Rattle.csv.proofs.Accepted.{first-row}
 use Rattle.csv.proofs.RoundTrips.{not-refused, loads-given}
-use Rattle.output.specs.Files.{loadedQuestions, fileRefusal, fileAnswer}
+use denote.Enum.Declared.{tagOf}
+use types.Run.{OneOf, miss}
+use Rattle.tables.specs.Answers.{faultRefusal}
+use Rattle.text.specs.Answers.{textFaultRefusal as textRefusal}
+use Rattle.files.specs.Files.{loadedQuestions, fileRefusal, fileAnswer}
+use Rattle.files.specs.Answers.{verdictAnswer}
+use Rattle.files.specs.declared.FileVerdict.{FileVerdict}
+use Rattle.files.specs.declared.FileVerdict.the-variants.{Accepted as Accepted-order, Text, Table}
+use Rattle.files.proofs.FileVerdict as verdicts
 
 module _ (t : List ℕ) (room : ℕ) where
   pub loading-refused : {r : Refusal} → loadRefusal t room ≡ some r → fileRefusal t room ≡ some r
@@ -72,14 +80,27 @@ module _ (t cells : List ℕ) where
     pub loaded-room : {after : List ℕ} → after ≡ cellsAfter t cells → length after ≡ length cells → n * n ≤ length after
     loaded-room same kept = let l = loads-given t cells n e in let p = l .passes .room in let q = rw (l .order) at p in omega arith
 
+-- ---- a verdict that is not the first case
+
+-- The file is refused.
+pub record Refused (v : FileVerdict) : Type 0 where
+  pub by : Refusal
+  pub says : verdictAnswer v ≡ refused by
+
+pub not-accepted : (v : FileVerdict) → OneOf (1 ∷ 2 ∷ []) (tagOf verdicts.the-type v) → Refused v
+not-accepted (Accepted-order n) h = absurd (miss (1 ∷ 2 ∷ []) 0 tt h)
+not-accepted (Text fault) h = record { by = textRefusal fault; says = refl }
+not-accepted (Table fault) h = record { by = faultRefusal fault; says = refl }
+
 -- ---- an accepted file
 
+-- The table of order n that the text holds stands at the start of these cells.
 pub record Holds (t cells : List ℕ) (n : ℕ) : Type 0 where
   pub order : orderOf t ≡ n
   pub small : n ≤ 120
   pub room : n * n ≤ length cells
-  pub table : Accepted n (take (n * n) (cellsAfter t cells))
-  pub cells-are : take (n * n) (cellsAfter t cells) ≡ cellsOf t
+  pub table : Accepted n (take (n * n) cells)
+  pub cells-are : take (n * n) cells ≡ cellsOf t
 
 pub accepted-file : (t cells : List ℕ) (n : ℕ) → fileAnswer t cells ≡ gives n → fileRefusal t (length cells) ≡ none
 unfolding fileAnswer
@@ -89,9 +110,9 @@ pub refused-file : (t cells : List ℕ) (r : Refusal) → fileAnswer t cells ≡
 unfolding fileAnswer
 refused-file t cells r e = refusal-given (fileRefusal t (length cells)) (orderOf t) (sym e)
 
-pub holds : (t cells : List ℕ) (n : ℕ) → fileAnswer t cells ≡ gives n → Holds t cells n
+pub holds : (t cells : List ℕ) (n : ℕ) → fileAnswer t cells ≡ gives n → {after : List ℕ} → after ≡ cellsAfter t cells → length after ≡ length cells → Holds t after n
 unfolding fileAnswer loadAnswer
-holds t cells n e =
+holds t cells n e same kept =
     let p = not-refused (fileRefusal t (length cells)) (orderOf t) n e in
     let loads = refusal-none t (length cells) (p .0) in
     let given : givenUnless (loadRefusal t (length cells)) (orderOf t) ≡ gives n = rw loads (ap {B = Answer ℕ} gives (p .1)) in
@@ -99,10 +120,11 @@ holds t cells n e =
     let small = l .passes .order in
     let room = l .passes .room in
     let table = accepted (orderOf t) (cellsOf t) (sym (loaded-table t (length cells) loads) ∙ p .0) in
+    let front = ap (take (n * n)) same ∙ l .cells in
     record {
       order = p .1;
       small = rw (p .1) at small;
-      room = rw (p .1) at room;
-      table = subst₂ Accepted (p .1) (sym (l .cells)) table;
-      cells-are = l .cells;
+      room = rw (← kept) at (rw (p .1) at room);
+      table = subst₂ Accepted (p .1) (sym front) table;
+      cells-are = front;
     }

@@ -23,3 +23,7 @@ fileRefusal t room = firstNo (fileQuestions t room)
 -- The order is given.
 unfoldable pub fileAnswer : List ℕ → List ℕ → Answer ℕ
 fileAnswer t cells = givenUnless (fileRefusal t (length cells)) (orderOf t)
+
+-- Room for the cells of every table: those of order 120.
+abbrev pub room : ℕ
+room = 14400

@@ -1,5 +1,5 @@
--- Which numbers a refused file can get: 20 to 26, 1, 3 and 4. Not 2, since a text that loads has a cell for each pair; not 27, since the program
--- has room for order 120. Assumes nothing.
+-- Which numbers a refused file can get where there is room for every table: 20 to 26, 1, 3 and 4. Not 2, since a text that loads has a cell for
+-- each pair; not 27, since there is room. Assumes nothing.
 use mathlib.Core.Path.{_≡_, refl, sym, _∙_}
 use mathlib.Core.Bool.{Bool, true, false}
 use mathlib.Core.List.{List, [], _∷_}
@@ -14,8 +14,7 @@ use Rattle.tables.proofs.Questions.{square-small}
 use Rattle.csv.specs.Tables.{orderOf}
 use Rattle.csv.specs.Questions.{sizeQuestions, loadQuestions}
 use Rattle.csv.proofs.Loading.{load-listed}
-use Rattle.output.specs.Files.{loadedQuestions, fileRefusal}
-use Rattle.output.specs.Program.{room}
+use Rattle.files.specs.Files.{loadedQuestions, fileRefusal, room}
 
 abbrev pub numbers : List ℕ
 numbers = 1 ∷ 3 ∷ 4 ∷ 20 ∷ 21 ∷ 22 ∷ 23 ∷ 24 ∷ 25 ∷ 26 ∷ []

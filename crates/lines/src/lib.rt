@@ -1,0 +1,66 @@
+// The pieces of RFC 4180 lines, each written at a place of a lent buffer: bytes, a decimal number, a field behind a comma, a line break. Each answers
+// the place behind what it wrote; no other byte is changed.
+ghost use mathlib.Core.Path.{_≡_};
+ghost use mathlib.Core.List.{_∷_, []};
+ghost use Prim.Native.Nat.{_+_, _≤_, _<_};
+ghost use lib.ListN.{length};
+ghost use lib.Seq.{sets};
+ghost use Rattle.csv.specs.Decimals.{numeral};
+
+// Writes `bytes`.
+pub fn put_bytes(out: &mut [u8], at: usize, bytes: &[u8]) -> usize
+    requires room { ⌜ at + length (now bytes) ≤ length (now out) ⌝ }
+    ensures answer { λ r. ⌜ r ≡ at + length (now (bytes .entry)) ⌝ }
+    ensures out { λ _. ⌜ now (out .exit) ≡ sets (now (out .entry)) at (now (bytes .entry)) ⌝ }
+{
+    let mut i: usize = 0;
+    while i < bytes.len() {
+        out[at + i] = bytes[i];
+        i += 1;
+    }
+    at + i
+}
+
+// Writes the decimal number of x.
+pub fn put_number(out: &mut [u8], at: usize, x: usize) -> usize
+    requires small { ⌜ x < 1000 ⌝ }
+    requires room { ⌜ at + length (numeral x) ≤ length (now out) ⌝ }
+    ensures answer { λ r. ⌜ r ≡ at + length (numeral x) ⌝ }
+    ensures out { λ _. ⌜ now (out .exit) ≡ sets (now (out .entry)) at (numeral x) ⌝ }
+{
+    if x < 10 {
+        out[at] = (48 + x) as u8;
+        return at + 1;
+    }
+    if x < 100 {
+        out[at] = (48 + x / 10) as u8;
+        out[at + 1] = (48 + x % 10) as u8;
+        return at + 2;
+    }
+    out[at] = (48 + x / 100) as u8;
+    out[at + 1] = (48 + x / 10 % 10) as u8;
+    out[at + 2] = (48 + x % 10) as u8;
+    at + 3
+}
+
+// Writes a comma and the decimal number of x.
+pub fn put_field(out: &mut [u8], at: usize, x: usize) -> usize
+    requires small { ⌜ x < 1000 ⌝ }
+    requires room { ⌜ at + 1 + length (numeral x) ≤ length (now out) ⌝ }
+    ensures answer { λ r. ⌜ r ≡ at + length (44 ∷ numeral x) ⌝ }
+    ensures out { λ _. ⌜ now (out .exit) ≡ sets (now (out .entry)) at (44 ∷ numeral x) ⌝ }
+{
+    out[at] = 44;
+    put_number(out, at + 1, x)
+}
+
+// Writes a line break, CR LF.
+pub fn put_break(out: &mut [u8], at: usize) -> usize
+    requires room { ⌜ at + 2 ≤ length (now out) ⌝ }
+    ensures answer { λ r. ⌜ r ≡ at + 2 ⌝ }
+    ensures out { λ _. ⌜ now (out .exit) ≡ sets (now (out .entry)) at (13 ∷ 10 ∷ []) ⌝ }
+{
+    out[at] = 13;
+    out[at + 1] = 10;
+    at + 2
+}
