@@ -3,8 +3,7 @@ use mathlib.Core.Path.{_≡_, refl, sym, ap, ap₂, _∙_}
 use mathlib.Core.Bool.{Bool, true, false, cond, not, _&&_, false≢true}
 use mathlib.Core.Option.{Option, none, some}
 use mathlib.Core.List.{List, [], _∷_, _++_}
-use Prim.Native.Nat.{ℕ, suc, _+_, _-_, _*_, _≤_, _<_}
-use native.Mathlib.Nat.{mul-le-mul-right}
+use Prim.Native.Nat.{ℕ, suc, _+_, _-_, _≤_, _<_}
 use native.Mathlib.Numerals.{add-one}
 use native.Mathlib.Omega.{arith}
 use borrow.Author.Tests.{not-true}
@@ -15,6 +14,7 @@ use Rattle.semigroups.specs.Tables.{Product, Element, Closed}
 use Rattle.semigroups.specs.Scratch.{scratchSize, marked}
 use Rattle.semigroups.specs.Search.{passes, search}
 use Rattle.semigroups.proofs.Booleans.{and-left, and-right}
+use Rattle.semigroups.proofs.Candidates.{size-rows}
 use Rattle.backtrack.specs.declared.Partial.{Partial}
 use Rattle.backtrack.specs.declared.Found.{Found}
 use Rattle.backtrack.specs.State.{prefix, Holds, Ready, foundIn, bounded}
@@ -93,8 +93,7 @@ module _ (s : Product) (m : ℕ) (t : Product) (n : ℕ) (scratch after : List �
 
     -- The row of marks that is read lies in scratch.
     pub row-marked : scratchSize (p .len + 1) n ≤ length scratch
-    unfolding scratchSize
-    row-marked = let rows : (p .len + 1) * n ≤ m * n = mul-le-mul-right n (omega arith) in let space = Q .space in omega arith
+    row-marked = let rows = size-rows m n (p .len + 1) (omega arith) in let space = Q .space in omega arith
 
 -- One turn of the loop: x is looked at, and o says whether it is open.
 pub record Turn (s : Product) (m : ℕ) (t : Product) (n : ℕ) (scratch after : List ℕ) (tight : Bool) (p : Partial) (low x : ℕ) (o : Bool) : Type 0 where

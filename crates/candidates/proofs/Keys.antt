@@ -14,7 +14,7 @@ use Rattle.semigroups.specs.Tables.{Product, product, Element, Closed, Filled}
 use Rattle.semigroups.specs.Invariants.{IndexPeriod, Profile, index, period, indexPeriod, sameIndexPeriod, frequency, diagonalFrequency, rowFrequency, columnFrequency, profile, sameProfile}
 use Rattle.semigroups.specs.Maps.{embeddings, isomorphisms}
 use Rattle.semigroups.specs.Candidates.{candidate}
-use Rattle.semigroups.specs.Scratch.{scratchAfter}
+use Rattle.semigroups.specs.Calls.{scratchAfter}
 use Rattle.semigroups.proofs.Booleans.{same-truth, both, and-left, and-right, trichotomy}
 use Rattle.semigroups.proofs.Tables.{product-element}
 use Rattle.invariants.specs.declared.ElementCounts.{ElementCounts}

@@ -3,13 +3,13 @@
 ghost use mathlib.Core.Path.{_≡_};
 ghost use Prim.Native.Nat.{_≤_, _<_};
 ghost use lib.ListN.{length};
-ghost use Rattle.semigroups.specs.Tables.{product, Element, Filled};
+ghost use Rattle.semigroups.specs.Tables.{cellPlace, product, Element, Filled};
 ghost use Rattle.semigroups.specs.Invariants.{indexPeriod, profile};
 ghost use Rattle.semigroups.specs.Maps.{embeddings, isomorphisms};
 ghost use Rattle.semigroups.specs.Candidates.{candidate};
-ghost use Rattle.semigroups.specs.Scratch.{scratchSize, marked, scratchAfter};
+ghost use Rattle.semigroups.specs.Scratch.{scratchSize, marked, withMark};
+ghost use Rattle.semigroups.specs.Calls.{scratchAfter};
 ghost use Rattle.invariants.specs.PerElement.{perElement};
-ghost use Rattle.candidates.specs.Marks.{pairNumber, withMark};
 ghost use Rattle.candidates.specs.Keys.{indexPeriodKey, profileKey, appended, Room, sameKey};
 
 // ---- marks
@@ -25,7 +25,7 @@ pub fn scratch_size(m: usize, n: usize) -> usize
 // The number of the pair of source element i and target element j of n, counted from 0.
 fn pair_number(n: usize, i: usize, j: usize) -> usize
     requires { ⌜ Element 120 i × Element n j × (n ≤ 120) ⌝ }
-    ensures answer { λ r. ⌜ r ≡ pairNumber n i j ⌝ }
+    ensures answer { λ r. ⌜ r ≡ cellPlace n i j ⌝ }
 {
     (i - 1) * n + (j - 1)
 }

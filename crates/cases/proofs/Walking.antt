@@ -12,7 +12,7 @@ use lib.ListN.{length, take, drop, replicate, take-append-drop}
 use lib.Seq.{length-take-le}
 use Rattle.semigroups.specs.Lists.{earlier}
 use Rattle.semigroups.specs.Tables.{Product, product, IsList, Accepted}
-use Rattle.semigroups.specs.Scratch.{scratchSize}
+use Rattle.semigroups.proofs.Candidates.{size-most}
 use Rattle.semigroups.specs.Maps.{Kind, maps, first, next, beyond, earliest}
 use Rattle.semigroups.proofs.Lists.{find-same}
 use Rattle.semigroups.proofs.ListOrder.{earlier-head}
@@ -86,12 +86,11 @@ module _ (isomorphisms later : Bool) (source : List ℕ) (m : ℕ) (target : Lis
   module _ (a : Accepted m source) (b : Accepted n target) (hm : m ≤ 5) (hn : n ≤ 27) (size : length before ≡ 5) where
     -- None of the questions fails.
     called-answer : called isomorphisms later source m target n before ≡ answered the-answer (take m before) the-scratch
-    unfolding scratchSize
     called-answer =
         not-refused (kindOf isomorphisms) (lend source m target n (take m before) (replicate 140 7)) (requestOf later)
         (none-refused m source n target (length (take m before)) 140 (both-pass m source n target (no-refusal m source a) (no-refusal n target b))
         (length-take-le m before (let e = size in omega arith))
-        (let e : m * n ≤ 5 * 27 = mul-le-mul hm hn in omega arith))
+        (let e : m * n ≤ 5 * 27 = mul-le-mul hm hn in omega (arith, size-most m n)))
 
     module _ (found : Bool) (after f : List ℕ) (ea : after ≡ behind later before) (e : foundAt found f ≡ earliest (next (take m after)) the-maps) where
       second-answer : the-answer ≡ foundAt found f

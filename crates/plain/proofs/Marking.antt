@@ -11,7 +11,9 @@ use Rattle.semigroups.specs.Tables.{Product, product, grid}
 use Rattle.semigroups.specs.Invariants.{indexPeriod, Profile, profile}
 use Rattle.semigroups.specs.Maps.{Kind, embeddings, isomorphisms}
 use Rattle.semigroups.specs.Candidates.{candidate}
-use Rattle.semigroups.specs.Scratch.{marks, scratchSize, scratchAfter}
+use Rattle.semigroups.specs.Scratch.{marks}
+use Rattle.semigroups.specs.Calls.{scratchAfter}
+use Rattle.semigroups.proofs.Tables.{length-grid}
 use Rattle.plain.specs.Marks.{sameMarks}
 
 -- Candidates go by the profiles of the two elements.
@@ -44,5 +46,5 @@ module _ (kind : Kind) (m : ℕ) (source : List ℕ) (n : ℕ) (target : List �
 
   -- The marks row after row, then the bytes as they were.
   pub marks-grid : (scratch : List ℕ) → grid m n markAt ++ drop (m * n) scratch ≡ scratchAfter m n (candidate kind m (product m source) n (product n target)) scratch
-  unfolding markAt scratchAfter marks scratchSize
-  marks-grid scratch = refl
+  unfolding markAt scratchAfter marks
+  marks-grid scratch = ap (λ (k : ℕ). grid m n markAt ++ drop k scratch) (sym (length-grid m n markAt))

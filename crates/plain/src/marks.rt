@@ -7,7 +7,8 @@ ghost use Rattle.semigroups.specs.Lists.{elements, count};
 ghost use Rattle.semigroups.specs.Tables.{product, Element, Filled};
 ghost use Rattle.semigroups.specs.Invariants.{power, periodFrom, index, period, frequency, diagonalFrequency, columnFrequency, profile, sameIndexPeriod, sameProfile};
 ghost use Rattle.semigroups.specs.Candidates.{candidate};
-ghost use Rattle.semigroups.specs.Scratch.{scratchSize, scratchAfter};
+ghost use Rattle.semigroups.specs.Scratch.{scratchSize};
+ghost use Rattle.semigroups.specs.Calls.{scratchAfter};
 ghost use Rattle.plain.specs.Marks.{marksProfile, indexPeriodOf, kindOf, sameMarks};
 use crate::product;
 

@@ -10,8 +10,9 @@ use lib.ListN.{length, take, replicate}
 use lib.Seq.{take-at}
 use Rattle.semigroups.specs.Lists.{at, find, firstOf}
 use Rattle.semigroups.specs.Tables.{Product, product, Element, Closed}
-use Rattle.semigroups.specs.Scratch.{scratchSize, marked, scratchAfter}
+use Rattle.semigroups.specs.Scratch.{scratchSize, marked}
 use Rattle.semigroups.specs.Questions.{Question, ask, Refusal, no, firstNo, tablesQuestions, tablesRefusal, searchRefusal}
+use Rattle.semigroups.specs.Calls.{scratchAfter}
 use Rattle.semigroups.specs.Maps.{Embedding, Kind, embeddings, isomorphisms, maps, Ask, earliest}
 use Rattle.semigroups.specs.Candidates.{candidate}
 use Rattle.semigroups.specs.Search.{search as searched}

@@ -5,7 +5,7 @@ use mathlib.Core.Option.{Option, none, some}
 use Prim.Native.Nat.{ℕ}
 use lib.ListN.{length}
 use Rattle.semigroups.specs.Tables.{product}
-use Rattle.semigroups.specs.Scratch.{scratchAfter}
+use Rattle.semigroups.specs.Calls.{scratchAfter}
 use Rattle.semigroups.specs.Questions.{Refusal, searchRefusal}
 use Rattle.semigroups.specs.Maps.{Kind, maps, Ask, first, next, earliest}
 use Rattle.semigroups.specs.Candidates.{candidate}

@@ -12,7 +12,7 @@ use borrow.Author.Tests.{eqb-true, eqb-false, eq-eqb, ne-eqb, not-true, not-fals
 use lib.Dec.{eqb}
 use lib.ListN.{length, getD, length-map}
 use Rattle.semigroups.specs.Lists.{range, elements, at, firstOf, lists, Earliest}
-use Rattle.semigroups.specs.Tables.{Product, product, grid, Element, IsList, Closed, Associative, FailingTriple, Filled, Accepted, isElement, associates, badCell, badTriple}
+use Rattle.semigroups.specs.Tables.{Product, product, grid, Element, IsList, Closed, Associative, FailingTriple, Filled, Accepted, isElement, associates, badCell, badTriple, cellPlace}
 use Rattle.semigroups.specs.Questions.{Refusal, no, cellsQuestions, tripleQuestion, cellsRefusal, tableRefusal, Refused, wrong-order, wrong-size, wrong-cell, wrong-triple}
 use Rattle.semigroups.proofs.Booleans.{either, clash, untrue, not-of-true, not-of-false, equal-or-not, trichotomy}
 use Rattle.semigroups.proofs.Lists.{length-elements, getD-map, mem-range, range-mem, sorted-range, at-suc, at-elements, is-element, element-is, find-some, find-none, none-find, find-first}
@@ -24,7 +24,7 @@ use Rattle.semigroups.proofs.Questions.{ask-passed, all-passed, both-pa
 -- ---- cells row after row
 
 -- Where row i, column j of m rows of n cells stands.
-pub place-below : (m n i j : ℕ) → Element m i → Element n j → (i - 1) * n + (j - 1) < m * n
+pub place-below : (m n i j : ℕ) → Element m i → Element n j → cellPlace n i j < m * n
 place-below m n i j hi hj =
     let b : suc (i - 1) * n ≤ m * n = mul-le-mul-right n (omega arith) in
     omega (arith, suc-mul (i - 1) n)
@@ -38,7 +38,7 @@ module _ (m n : ℕ) (f : ℕ → ℕ → ℕ) where
   length-grid = length-flatMap (λ i. map (f i) (elements n)) n row-long (elements m) ∙ ap (λ (k : ℕ). k * n) (length-elements m)
 
   -- The cell of row i and column j.
-  pub grid-at : (i j : ℕ) → Element m i → Element n j → getD (grid m n f) ((i - 1) * n + (j - 1)) 0 ≡ f i j
+  pub grid-at : (i j : ℕ) → Element m i → Element n j → getD (grid m n f) (cellPlace n i j) 0 ≡ f i j
   unfolding grid
   grid-at i j hi hj =
       getD-flatMap (λ i. map (f i) (elements n)) n row-long (elements m) 0 0 (i - 1) (j - 1) (omega (arith, length-elements m)) (omega arith)
@@ -52,7 +52,7 @@ product-grid n s i j hi hj = grid-at n n s i j hi hj
 
 pub product-element : (n : ℕ) (cells : List ℕ) → length cells ≡ n * n → ((k : ℕ) → k < length cells → Element n (getD cells k 0)) → Closed n (product n cells)
 unfolding product
-product-element n cells e h i j hi hj = h ((i - 1) * n + (j - 1)) (let b = place-below n n i j hi hj in omega arith)
+product-element n cells e h i j hi hj = h (cellPlace n i j) (let b = place-below n n i j hi hj in omega arith)
 
 pub accepted-closed : (n : ℕ) (cells : List ℕ) → Accepted n cells → Closed n (product n cells)
 accepted-closed n cells a = product-element n cells (a .size) (a .in-range)

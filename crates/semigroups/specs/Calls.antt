@@ -1,9 +1,11 @@
 -- What a call says behind its questions, and what it leaves in a buffer that it writes (01, "The questions": the first "no" ends the call, with
 -- every lent byte unchanged). Assumes nothing.
+use mathlib.Core.Bool.{Bool}
 use mathlib.Core.List.{List, _++_}
 use mathlib.Core.Option.{Option, none, some}
 use Prim.Native.Nat.{ℕ}
 use lib.ListN.{length, drop}
+use Rattle.semigroups.specs.Scratch.{marks}
 use Rattle.semigroups.specs.Questions.{Refusal}
 
 -- What a call says: the earliest failed question, or what was asked for.
@@ -18,6 +20,10 @@ givenUnless (some r) value = refused r
 -- A buffer with these bytes written over its start; later bytes are untouched.
 abbrev pub overwritten : List ℕ → List ℕ → List ℕ
 overwritten written before = written ++ drop (length written) before
+
+-- The scratch buffer after the marks are written.
+unfoldable pub scratchAfter : ℕ → ℕ → (ℕ → ℕ → Bool) → List ℕ → List ℕ
+scratchAfter m n candidate scratch = overwritten (marks m n candidate) scratch
 
 -- A buffer after a call that is to write these bytes; a refusal changes none.
 abbrev pub writtenUnless : Option Refusal → List ℕ → List ℕ → List ℕ

@@ -14,9 +14,13 @@ use Rattle.semigroups.specs.Lists.{range, elements, at, find, lists}
 abbrev pub Product : Type 0
 Product = ℕ → ℕ → ℕ
 
+-- The place of row i, column j, counted from 0, where a row has n cells and row stands after row.
+abbrev pub cellPlace : ℕ → ℕ → ℕ → ℕ
+cellPlace n i j = (i - 1) * n + (j - 1)
+
 -- The product i·j of the table of order n with these cells (1603.06204, section 2: S with entry k in row i, column j when ij = k).
 unfoldable pub product : ℕ → List ℕ → Product
-product n cells i j = getD cells ((i - 1) * n + (j - 1)) 0
+product n cells i j = getD cells (cellPlace n i j) 0
 
 -- m rows of n cells, row after row: the cell of row i and column j is f i j.
 unfoldable pub grid : ℕ → ℕ → (ℕ → ℕ → ℕ) → List ℕ

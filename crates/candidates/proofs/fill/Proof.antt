@@ -9,11 +9,10 @@ use denote.Ref.{now}
 use lib.ListN.{length}
 use Rattle.semigroups.specs.Lists.{at}
 use Rattle.semigroups.specs.Tables.{Element}
-use Rattle.semigroups.specs.Scratch.{scratchSize}
-use Rattle.semigroups.proofs.Candidates.{length-scratch}
-use Rattle.candidates.specs.Marks.{withMark}
+use Rattle.semigroups.specs.Scratch.{scratchSize, withMark}
+use Rattle.semigroups.proofs.Candidates.{length-scratch, size-rows}
 use Rattle.candidates.specs.Keys.{sameKey}
-use Rattle.candidates.proofs.Marks.{written, length-written, written-first, written-pair, written-over, written-row, written-all, rows-below}
+use Rattle.candidates.proofs.Marks.{written, length-written, written-first, written-pair, written-over, written-row, written-all}
 use Rattle.candidates.proofs.fill.Statement.{statement}
 use Rattle.candidates.proofs.fill.Tie as tie
 
@@ -69,7 +68,7 @@ module _ (t : tie.In-loop2 Inv-loop2 μ-loop2 Inv-loop μ-loop) where
       let n = start in-row .args .n in
       let e : length (t .before .loop2 .scratch) ≡ length (in-row .before .loop .scratch) = ap length (t .before .loop2 .inv .2) ∙ length-written m n (same in-row) (in-row .before .loop .scratch) (fits in-row) (in-row .before .loop .i) (row in-row) (t .before .loop2 .j) (t .before .loop2 .inv .1) in
       let f = fits in-row in
-      omega (arith, rows-below m n (in-row .before .loop .i) (row in-row .1))
+      omega (arith, size-rows m n (in-row .before .loop .i) (row in-row .1))
 
 loop-holds : tie.Need-loop-holds Inv-loop2 μ-loop2 Inv-loop μ-loop
 loop-holds c =

@@ -7,7 +7,7 @@ use borrow.Author.Needs.{needs}
 use denote.Ref.{now}
 use mir.Val.{boolByte}
 use lib.ListN.{set}
-use Rattle.candidates.specs.Marks.{withMark}
+use Rattle.semigroups.specs.Scratch.{withMark}
 use Rattle.candidates.proofs.Marks.{pair-below}
 use Rattle.candidates.proofs.mark.Statement.{statement}
 use Rattle.candidates.proofs.mark.Tie as tie

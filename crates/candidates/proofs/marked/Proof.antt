@@ -7,7 +7,6 @@ use denote.Ref.{now}
 use lib.Dec.{eqb}
 use lib.ListN.{getD}
 use Rattle.semigroups.specs.Scratch.{marked}
-use Rattle.candidates.specs.Marks.{pairNumber}
 use Rattle.candidates.proofs.Marks.{pair-below}
 use Rattle.candidates.proofs.marked.Statement.{statement}
 use Rattle.candidates.proofs.marked.Tie as tie
@@ -21,7 +20,7 @@ shared-slice-read-result c =
     omega (arith, c .before .pair-number .ensures, pair-below (s .args .n) (s .args .i) (s .args .j) (now (s .args .scratch)) (s .pre .0 .0) (s .pre .1 .0 .1) (s .pre .1 .1))
 
 returns : tie.Need-returns
-unfolding marked pairNumber
+unfolding marked
 returns c = ap (λ (k : ℕ). eqb (getD (now (c .before .before .before .args .scratch)) k 0) 1) (c .before .pair-number .ensures)
 
 pub marked-spec : {M : Type 1} → statement M

@@ -2,7 +2,6 @@
 use mathlib.Core.Path.{refl}
 use native.Mathlib.Omega.{arith}
 use borrow.Author.Needs.{needs}
-use Rattle.candidates.specs.Marks.{pairNumber}
 use Rattle.candidates.proofs.Marks.{pair-small}
 use Rattle.candidates.proofs.pair_number.Statement.{statement}
 use Rattle.candidates.proofs.pair_number.Tie as tie
@@ -20,7 +19,6 @@ add-result : tie.Need-add-result
 add-result c = let p = c .pre in omega (arith, pair-small (c .args .n) (c .args .i) (c .args .j) (p .0) (p .1) (p .2))
 
 returns : tie.Need-returns
-unfolding pairNumber
 returns c = refl
 
 pub pair-number-spec : {M : Type 1} → statement M

@@ -2,7 +2,7 @@
 use mathlib.Core.Path.{ap, sym, _∙_}
 use borrow.Author.Needs.{needs}
 use Rattle.semigroups.specs.Tables.{product}
-use Rattle.semigroups.specs.Scratch.{scratchAfter}
+use Rattle.semigroups.specs.Calls.{scratchAfter}
 use Rattle.semigroups.specs.Candidates.{candidate}
 use Rattle.search.specs.declared.Kind.{Kind}
 use Rattle.search.specs.Answers.{kindOf}

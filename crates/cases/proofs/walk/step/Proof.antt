@@ -13,6 +13,7 @@ use Rattle.tables.proofs.Questions.{accepted-filled}
 use Rattle.cases.specs.Said.{saidNumber}
 use Rattle.cases.proofs.Walking.{scratch-marked, all-agree}
 use borrow.Author.Needs.{needs}
+use Rattle.semigroups.proofs.Candidates.{size-most}
 use Rattle.cases.proofs.walk.step.Statement.{statement}
 use Rattle.cases.proofs.walk.step.Tie as tie
 
@@ -24,8 +25,7 @@ module _ (s : tie.Start) where
   map-room = let e = before-long in let h = s .pre .1 .1 .0 in omega arith
 
   marks-room : scratchSize (s .args .m) (s .args .n) ≤ 140
-  unfolding scratchSize
-  marks-room = let e : s .args .m * s .args .n ≤ 5 * 27 = mul-le-mul (s .pre .1 .1 .0) (s .pre .1 .1 .1) in omega arith
+  marks-room = let e : s .args .m * s .args .n ≤ 5 * 27 = mul-le-mul (s .pre .1 .1 .0) (s .pre .1 .1 .1) in omega (arith, size-most (s .args .m) (s .args .n))
 
 array-borrow-prefix-map : tie.Need-array-borrow-prefix-map
 array-borrow-prefix-map c = search needs
