@@ -17,7 +17,7 @@ use Rattle.semigroups.proofs.Booleans.{and-left, and-right}
 use Rattle.semigroups.proofs.Questions.{ask-passed, all-passed, failed-before, passed-before, both-passed, Listed, listed, listed-append}
 use Rattle.csv.specs.Records.{rows}
 use Rattle.csv.specs.Tables.{fieldsOf, orderOf, cellsOf}
-use Rattle.csv.specs.Questions.{longest, bytesQuestion, bytesRefusal, endQuestion, endRefusal, fieldQuestions, fieldsQuestions, fieldsRefusal, isSquare, squareQuestion, gridQuestions, gridRefusal, loadQuestions, loadRefusal}
+use Rattle.csv.specs.Questions.{longest, bytesQuestion, bytesRefusal, endQuestion, endRefusal, fieldQuestions, fieldsQuestions, fieldsRefusal, isSquare, squareQuestion, gridQuestions, gridRefusal, sizeQuestions, loadQuestions, loadRefusal}
 use Rattle.semigroups.specs.Calls.{refused, gives, overwritten}
 use Rattle.csv.specs.Calls.{loadAnswer, cellsAfter}
 
@@ -56,12 +56,9 @@ cells-length n t s = simp length-map (square-length n (rows t) (s .square))
 -- ---- the earliest failed question
 
 module _ (t : List ℕ) (room : ℕ) where
-  -- The questions behind 26; from 23 on.
-  abbrev pub last : List Question
-  last = ask 1 (leb (orderOf t) 120) ∷ ask 27 (leb (orderOf t * orderOf t) room) ∷ []
-
+  -- The questions from 23 on.
   abbrev from-fields : List Question
-  from-fields = gridQuestions (orderOf t) t ++ last
+  from-fields = gridQuestions (orderOf t) t ++ sizeQuestions t room
 
   pub too-short : length t < 1 → loadRefusal t room ≡ some (no 20 [])
   unfolding loadRefusal firstOf orElse isElement
@@ -96,12 +93,12 @@ module _ (t : List ℕ) (room : ℕ) where
 
         pub bad-grid : {n : ℕ} {r : Refusal} → n ≡ orderOf t → gridRefusal n t ≡ some r → loadRefusal t room ≡ some r
         unfolding gridRefusal
-        bad-grid e h = fields-left ∙ failed-before (gridQuestions (orderOf t) t) last (rw e at h)
+        bad-grid e h = fields-left ∙ failed-before (gridQuestions (orderOf t) t) (sizeQuestions t room) (rw e at h)
 
         module _ {n : ℕ} (e : n ≡ orderOf t) (grid : gridRefusal n t ≡ none) where
           left : loadRefusal t room ≡ firstNo (ask 1 (leb n 120) ∷ ask 27 (leb (n * n) room) ∷ [])
           unfolding gridRefusal
-          left = fields-left ∙ passed-before (gridQuestions (orderOf t) t) last (rw e at grid) ∙ rw e
+          left = fields-left ∙ passed-before (gridQuestions (orderOf t) t) (sizeQuestions t room) (rw e at grid) ∙ rw e
 
           pub bad-order : 120 < n → loadRefusal t room ≡ some (no 1 [])
           unfolding firstOf orElse
@@ -139,9 +136,9 @@ pub load-passed : (t : List ℕ) (room : ℕ) → loadRefusal t room ≡ none �
 unfolding loadRefusal bytesRefusal endRefusal gridRefusal
 load-passed t room h =
     let p = both-passed (ask 20 (isElement longest (length t)) ∷ bytesQuestion t ∷ endQuestion t ∷ []) (from-fields t room) h in
-    let q = both-passed (gridQuestions (orderOf t) t) (last t room) (p .1) in
+    let q = both-passed (gridQuestions (orderOf t) t) (sizeQuestions t room) (p .1) in
     let begin = all-passed (ask 20 (isElement longest (length t)) ∷ bytesQuestion t ∷ endQuestion t ∷ []) .0 (p .0) in
-    let end = all-passed (last t room) .0 (q .1) in
+    let end = all-passed (sizeQuestions t room) .0 (q .1) in
     record {
       bytes = all-passed (bytesQuestion t ∷ []) .1 (begin .1 .0, tt);
       end = all-passed (endQuestion t ∷ []) .1 (begin .1 .1);
@@ -159,9 +156,9 @@ fields-listed ns h (f ∷ fs) = listed-append ns (fieldQuestions f) (fieldsQuest
 
 -- 20 to 26, and those of the two questions behind them.
 pub load-listed : (ns : List ℕ) → all (λ k. member k ns) (20 ∷ 21 ∷ 22 ∷ []) ≡ true → all (λ k. member k ns) (23 ∷ 24 ∷ 25 ∷ []) ≡ true → all (λ k. member k ns) (26 ∷ []) ≡ true
-    → (t : List ℕ) (room : ℕ) → Listed ns (last t room) → Listed ns (loadQuestions t room)
+    → (t : List ℕ) (room : ℕ) → Listed ns (sizeQuestions t room) → Listed ns (loadQuestions t room)
 load-listed ns a b c t room h =
     let begin = ask 20 (isElement longest (length t)) ∷ bytesQuestion t ∷ endQuestion t ∷ [] in
     listed-append ns begin (from-fields t room) (listed ns begin a)
-    (listed-append ns (gridQuestions (orderOf t) t) (last t room)
+    (listed-append ns (gridQuestions (orderOf t) t) (sizeQuestions t room)
     (listed-append ns (fieldsQuestions (fieldsOf t)) (squareQuestion (orderOf t) t ∷ []) (fields-listed ns b (fieldsOf t)) (listed ns (squareQuestion (orderOf t) t ∷ []) c)) h)

@@ -86,12 +86,16 @@ gridRefusal n t = firstNo (gridQuestions n t)
 
 -- ---- the calls
 
+-- About a square text and a buffer of so many cells: 1, is the order at most 120? 27, has the buffer at least n × n bytes?
+abbrev pub sizeQuestions : List ℕ → ℕ → List Question
+sizeQuestions t room = ask 1 (leb (orderOf t) 120) ∷ ask 27 (leb (orderOf t * orderOf t) room) ∷ []
+
 -- About loading a text into a buffer of so many cells: 20, is it 1 to 57,720 bytes long? Then 21 to 25; 26, are there as many records as the
--- first has fields, each with that many? 1, is the order at most 120? 27, has the buffer at least n × n bytes? Neither 3 nor 4 is asked.
+-- first has fields, each with that many? Then 1 and 27. Neither 3 nor 4 is asked.
 abbrev pub loadQuestions : List ℕ → ℕ → List Question
 loadQuestions t room =
     ask 20 (isElement longest (length t)) ∷ bytesQuestion t ∷ endQuestion t
-    ∷ (gridQuestions (orderOf t) t ++ ask 1 (leb (orderOf t) 120) ∷ ask 27 (leb (orderOf t * orderOf t) room) ∷ [])
+    ∷ (gridQuestions (orderOf t) t ++ sizeQuestions t room)
 
 unfoldable pub loadRefusal : List ℕ → ℕ → Option Refusal
 loadRefusal t room = firstNo (loadQuestions t room)

@@ -20,9 +20,9 @@ use Rattle.semigroups.proofs.Questions.{number-listed, Listed, listed}
 use Rattle.maps.specs.Answers.{mapCheck}
 use Rattle.transformations.specs.Answers.{transformationSays}
 use Rattle.csv.specs.Tables.{orderOf, tableText}
-use Rattle.csv.specs.Questions.{loadQuestions, loadRefusal, saveQuestions, saveRefusal}
+use Rattle.csv.specs.Questions.{sizeQuestions, loadQuestions, loadRefusal, saveQuestions, saveRefusal}
 use Rattle.csv.specs.Calls.{loadAnswer, saveAnswer}
-use Rattle.csv.proofs.Loading.{last, load-listed}
+use Rattle.csv.proofs.Loading.{load-listed}
 use Rattle.search.specs.Calls.{Lent, Request, refusalOf, answerOf, scratchOf, answered, asked, call}
 use Rattle.exports.specs.Answers.{refusalWords, questionWords, answerWords, searchWords, checkedValues, numberValues}
 
@@ -51,7 +51,7 @@ load-numbered : (t : List ℕ) (room : ℕ) → Numbered (loadRefusal t room)
 unfolding loadRefusal all member
 load-numbered t room =
     let ns : List ℕ = 20 ∷ 21 ∷ 22 ∷ 23 ∷ 24 ∷ 25 ∷ 26 ∷ 1 ∷ 27 ∷ [] in
-    by-list ns refl (loadQuestions t room) (load-listed ns refl refl refl t room (listed ns (last t room) refl))
+    by-list ns refl (loadQuestions t room) (load-listed ns refl refl refl t room (listed ns (sizeQuestions t room) refl))
 
 -- ---- the first number of an answer
 

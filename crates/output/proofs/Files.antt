@@ -1,6 +1,6 @@
 -- The questions about a file in the code's order: those about loading, then the table's four, of which a loaded table passes 1 and 2.
 -- Assumes nothing.
-use mathlib.Core.Path.{_≡_, refl, ap, ap₂, sym, _∙_, subst₂}
+use mathlib.Core.Path.{_≡_, ap, ap₂, sym, _∙_, subst₂}
 use mathlib.Core.List.{List, [], _∷_}
 use mathlib.Core.Option.{Option, none, some}
 use Prim.Native.Nat.{ℕ, _*_, _≤_}
@@ -9,7 +9,7 @@ use borrow.Author.Tests.{eq-eqb}
 use lib.Dec.{eqb}
 use lib.ListN.{length, take}
 use Rattle.semigroups.specs.Tables.{Accepted, isElement}
-use Rattle.semigroups.specs.Questions.{Question, ask, Refusal, cellQuestion, tripleQuestion, tableRefusal}
+use Rattle.semigroups.specs.Questions.{ask, Refusal, tableRefusal}
 use Rattle.semigroups.proofs.Lists.{element-is}
 use Rattle.semigroups.proofs.Tables.{accepted}
 use Rattle.semigroups.proofs.Questions.{all-passed, failed-before, passed-before, both-passed}
@@ -20,16 +20,12 @@ use Rattle.csv.specs.Calls.{loadAnswer, cellsAfter}
 use Rattle.csv.proofs.Loading.{cells-length, load-passed}
 use Rattle.csv.proofs.Accepted.{first-row}
 use Rattle.csv.proofs.RoundTrips.{not-refused, loads-given}
-use Rattle.output.specs.Files.{fileRefusal, fileAnswer}
+use Rattle.output.specs.Files.{loadedQuestions, fileRefusal, fileAnswer}
 
 module _ (t : List ℕ) (room : ℕ) where
-  -- 3 and 4.
-  abbrev pub behind : List Question
-  behind = cellQuestion (orderOf t) (cellsOf t) ∷ tripleQuestion (orderOf t) (cellsOf t) ∷ []
-
   pub loading-refused : {r : Refusal} → loadRefusal t room ≡ some r → fileRefusal t room ≡ some r
   unfolding fileRefusal loadRefusal
-  loading-refused e = failed-before (loadQuestions t room) behind e
+  loading-refused e = failed-before (loadQuestions t room) (loadedQuestions t) e
 
   -- A loaded table has an order of 1 to 120 and as many cells as that asks for.
   pub loaded-table : loadRefusal t room ≡ none → fileRefusal t room ≡ tableRefusal (orderOf t) (cellsOf t)
@@ -38,13 +34,13 @@ module _ (t : List ℕ) (room : ℕ) where
       let l = load-passed t room e in
       let size = cells-length (orderOf t) t (l .grid) in
       let begin = ask 1 (isElement 120 (orderOf t)) ∷ ask 2 (eqb (length (cellsOf t)) (orderOf t * orderOf t)) ∷ [] in
-      passed-before (loadQuestions t room) behind e
-      ∙ sym (passed-before begin behind (all-passed begin .1 (rw (element-is 120 (orderOf t) (first-row t room l, l .order)), (rw (eq-eqb (length (cellsOf t)) (orderOf t * orderOf t) size), tt))))
+      passed-before (loadQuestions t room) (loadedQuestions t) e
+      ∙ sym (passed-before begin (loadedQuestions t) (all-passed begin .1 (rw (element-is 120 (orderOf t) (first-row t room l, l .order)), (rw (eq-eqb (length (cellsOf t)) (orderOf t * orderOf t) size), tt))))
 
   -- An accepted file loads.
   pub refusal-none : fileRefusal t room ≡ none → loadRefusal t room ≡ none
   unfolding fileRefusal loadRefusal
-  refusal-none e = both-passed (loadQuestions t room) behind e .0
+  refusal-none e = both-passed (loadQuestions t room) (loadedQuestions t) e .0
 
 -- ---- the answer
 

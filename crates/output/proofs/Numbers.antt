@@ -12,11 +12,10 @@ use Rattle.semigroups.specs.Questions.{ask, Refusal, firstNo}
 use Rattle.semigroups.proofs.Questions.{Listed, listed, listed-append}
 use Rattle.tables.proofs.Questions.{square-small}
 use Rattle.csv.specs.Tables.{orderOf}
-use Rattle.csv.specs.Questions.{loadQuestions}
-use Rattle.csv.proofs.Loading.{last, load-listed}
-use Rattle.output.specs.Files.{fileRefusal}
+use Rattle.csv.specs.Questions.{sizeQuestions, loadQuestions}
+use Rattle.csv.proofs.Loading.{load-listed}
+use Rattle.output.specs.Files.{loadedQuestions, fileRefusal}
 use Rattle.output.specs.Program.{room}
-use Rattle.output.proofs.Files.{behind}
 
 abbrev pub numbers : List ℕ
 numbers = 1 ∷ 3 ∷ 4 ∷ 20 ∷ 21 ∷ 22 ∷ 23 ∷ 24 ∷ 25 ∷ 26 ∷ []
@@ -33,5 +32,5 @@ order-alone n = go (leb n 120) refl
 pub file-numbers : (t : List ℕ) (r : Refusal) → fileRefusal t room ≡ some r → member (r .number) numbers ≡ true
 unfolding fileRefusal all member
 file-numbers t =
-    let order : Listed numbers (last t room) = λ r e. listed numbers (ask 1 (leb (orderOf t) 120) ∷ []) refl r (sym (order-alone (orderOf t)) ∙ e) in
-    listed-append numbers (loadQuestions t room) (behind t room) (load-listed numbers refl refl refl t room order) (listed numbers (behind t room) refl)
+    let order : Listed numbers (sizeQuestions t room) = λ r e. listed numbers (ask 1 (leb (orderOf t) 120) ∷ []) refl r (sym (order-alone (orderOf t)) ∙ e) in
+    listed-append numbers (loadQuestions t room) (loadedQuestions t) (load-listed numbers refl refl refl t room order) (listed numbers (loadedQuestions t) refl)

@@ -9,9 +9,13 @@ use Rattle.csv.specs.Tables.{orderOf, cellsOf}
 use Rattle.csv.specs.Questions.{loadQuestions}
 use Rattle.semigroups.specs.Calls.{Answer, givenUnless}
 
--- About a file with these bytes and a buffer of so many cells: those about loading; then 3, is every cell 1 to n? Then 4, is the table associative?
+-- About the table of a file that loads: 3, is every cell 1 to n? Then 4, is the table associative?
+abbrev pub loadedQuestions : List ℕ → List Question
+loadedQuestions t = cellQuestion (orderOf t) (cellsOf t) ∷ tripleQuestion (orderOf t) (cellsOf t) ∷ []
+
+-- About a file with these bytes and a buffer of so many cells: those about loading; then these.
 abbrev pub fileQuestions : List ℕ → ℕ → List Question
-fileQuestions t room = loadQuestions t room ++ cellQuestion (orderOf t) (cellsOf t) ∷ tripleQuestion (orderOf t) (cellsOf t) ∷ []
+fileQuestions t room = loadQuestions t room ++ loadedQuestions t
 
 unfoldable pub fileRefusal : List ℕ → ℕ → Option Refusal
 fileRefusal t room = firstNo (fileQuestions t room)

@@ -76,6 +76,11 @@ module _ {A : Type 0} where
   orElse-nothing none = refl
   orElse-nothing (some x) = refl
 
+  pub orElse-none : (a b : Option A) → orElse a b ≡ none → (a ≡ none) × (b ≡ none)
+  unfolding orElse
+  orElse-none none b e = (refl, e)
+  orElse-none (some x) b e = absurd (let z : _≡_ {A = ℕ} 0 1 = cc in let y : ⊥ = omega arith in y)
+
 pub firstOf-append : {A B : Type 0} (g : A → Option B) (l k : List A) → firstOf g (l ++ k) ≡ orElse (firstOf g l) (firstOf g k)
 unfolding firstOf
 firstOf-append g [] k = unfold orElse in refl

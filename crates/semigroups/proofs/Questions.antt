@@ -1,7 +1,7 @@
 -- The first "no" of any list of questions: it is the earliest, and there is none exactly where every question passes; its number is one of the list's;
 -- and what it is for lists put together. Assumes nothing.
 use mathlib.Core.Path.{_≡_, refl, sym, ap, _∙_, subst}
-use mathlib.Core.Bool.{Bool, true, false, cond}
+use mathlib.Core.Bool.{Bool, true, false}
 use mathlib.Core.Logic.{_↔_}
 use mathlib.Core.List.{List, [], _∷_, _++_, map, List·Memᴰ, List·Memᴰ·head, Memᴰ·append-right, Memᴰ·map}
 use mathlib.Core.Option.{Option, none, some, Option·map, orElse}
@@ -10,11 +10,11 @@ use native.Mathlib.Omega.{arith}
 use Rattle.semigroups.specs.Lists.{all, firstOf, member}
 use Rattle.semigroups.specs.Questions.{Question, ask, onSide, Refusal, naming, refusalBy, firstNo, Passed, EarliestNo, numbers}
 use Rattle.semigroups.proofs.Lists.{all-at, member-mem, mem-member}
-use Rattle.semigroups.proofs.Completions.{firstOf-append}
+use Rattle.semigroups.proofs.Completions.{orElse-none, firstOf-append}
 
 -- ---- one question
 
--- The question q where what is said if it fails is known.
+-- The question q with this in place of what it says where it fails.
 abbrev knowing : Question → Option (List ℕ) → Question
 knowing q fails = record { number = q .number; side = q .side; fails = fails }
 
@@ -89,16 +89,11 @@ first-sided side (q ∷ qs) = go (first-sided side qs) (q .fails)
     go later none = later
     go later (some values) = refl
 
-pub orElse-none : {A : Type 0} (p q : Option A) → orElse p q ≡ none → (p ≡ none) × (q ≡ none)
-unfolding orElse
-orElse-none none q e = (refl, e)
-orElse-none (some x) q e = absurd (let z : _≡_ {A = ℕ} 0 1 = cc in let y : ⊥ = omega arith in y)
-
 module _ (qs more : List Question) where
   pub first-append : firstNo (qs ++ more) ≡ orElse (firstNo qs) (firstNo more)
   first-append = firstOf-append refusalBy qs more
 
-  -- A question that failed decides; where all passed, those behind them do.
+  -- Where one of the first fails, it decides; where they all pass, those behind them do.
   pub failed-before : {r : Refusal} → firstNo qs ≡ some r → firstNo (qs ++ more) ≡ some r
   unfolding orElse
   failed-before e = first-append ∙ rw e

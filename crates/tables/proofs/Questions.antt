@@ -11,8 +11,8 @@ use Rattle.semigroups.specs.Lists.{elements, at, firstOf}
 use Rattle.semigroups.specs.Tables.{product, Element, isElement, associates, badCell, badTriple, Filled, Accepted}
 use Rattle.semigroups.specs.Questions.{seek, onSide, Refusal, no, naming, refusalBy, firstNo, tripleQuestion, cellsQuestions, cellsRefusal, tableQuestions, tableRefusal, tablesRefusal}
 use Rattle.semigroups.proofs.Tables.{place-below, accepted}
-use Rattle.semigroups.proofs.Questions.{orElse-none, first-sided, first-append, failed-before, passed-before}
-use Rattle.semigroups.proofs.Completions.{orElse-nothing, find-firstOf, firstFrom, first-start, first-skip, first-hit, first-end}
+use Rattle.semigroups.proofs.Questions.{first-sided, first-append, failed-before, passed-before}
+use Rattle.semigroups.proofs.Completions.{orElse-nothing, orElse-none, find-firstOf, firstFrom, first-start, first-skip, first-hit, first-end}
 use Rattle.semigroups.proofs.Booleans.{not-of-true, not-of-false}
 use Rattle.tables.proofs.Remaining.{remaining, begin, enter, pass, hit, leave}
 
