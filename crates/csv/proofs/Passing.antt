@@ -20,7 +20,7 @@ use Rattle.semigroups.proofs.Passing.{asked, element-asked, room-asked, joined,
 use Rattle.csv.specs.Decimals.{isDigit}
 use Rattle.csv.specs.Records.{isBreak, rows}
 use Rattle.csv.specs.Tables.{fieldsOf, orderOf, tableText}
-use Rattle.csv.specs.Questions.{longest, breakAt, inBreak, isAllowed, firstOther, bytesQuestion, endQuestion, fieldsQuestions, fieldsRefusal, isSquare, squareQuestion, gridQuestions, loadRefusal, saveRefusal}
+use Rattle.csv.specs.Questions.{longest, breakAt, inBreak, isAllowed, firstOther, bytesQuestion, endQuestion, fieldsQuestions, fieldsRefusal, isSquare, squareQuestion, gridQuestions, sizeQuestions, loadRefusal, saveRefusal}
 use Rattle.csv.specs.Passing.{AllowedByte, a-digit, a-comma, a-cr, an-lf, Number, LoadPasses, SavePasses}
 use Rattle.csv.proofs.Records.{break-bytes}
 use Rattle.csv.proofs.Rows.{digit-range}
@@ -141,12 +141,11 @@ pub load-passes : (t : List ℕ) (room : ℕ) → (loadRefusal t room ≡ none) 
 unfolding loadRefusal fieldsRefusal
 load-passes t room =
     let n = orderOf t in
-    let last = ask 1 (leb n 120) ∷ ask 27 (leb (n * n) room) ∷ [] in
     let grid = joined (fieldsQuestions (fieldsOf t)) (squareQuestion n t ∷ []) (fields-asked (fieldsOf t)) (square-asked n t) in
-    let from-fields = joined (gridQuestions n t) last grid (joined (ask 1 (leb n 120) ∷ []) (ask 27 (leb (n * n) room) ∷ []) (room-asked 1 n 120) (room-asked 27 (n * n) room)) in
-    let from-end = joined (endQuestion t ∷ []) (gridQuestions n t ++ last) (end-asked t) from-fields in
-    let from-bytes = joined (bytesQuestion t ∷ []) (endQuestion t ∷ (gridQuestions n t ++ last)) (bytes-asked t) from-end in
-    let w = joined (ask 20 (isElement longest (length t)) ∷ []) (bytesQuestion t ∷ endQuestion t ∷ (gridQuestions n t ++ last)) (element-asked 20 longest (length t)) from-bytes in (
+    let from-fields = joined (gridQuestions n t) (sizeQuestions t room) grid (joined (ask 1 (leb n 120) ∷ []) (ask 27 (leb (n * n) room) ∷ []) (room-asked 1 n 120) (room-asked 27 (n * n) room)) in
+    let from-end = joined (endQuestion t ∷ []) (gridQuestions n t ++ sizeQuestions t room) (end-asked t) from-fields in
+    let from-bytes = joined (bytesQuestion t ∷ []) (endQuestion t ∷ (gridQuestions n t ++ sizeQuestions t room)) (bytes-asked t) from-end in
+    let w = joined (ask 20 (isElement longest (length t)) ∷ []) (bytesQuestion t ∷ endQuestion t ∷ (gridQuestions n t ++ sizeQuestions t room)) (element-asked 20 longest (length t)) from-bytes in (
       (λ e.
           let h = w .0 e in
           record {

@@ -1,5 +1,5 @@
 -- Demand 2 holds. Assumes nothing.
-use mathlib.Core.Path.{_≡_, refl, ap, ap₂, subst₂}
+use mathlib.Core.Path.{_≡_, refl, subst₂}
 use mathlib.Core.Logic.{_↔_}
 use mathlib.Core.List.{List, [], _∷_, flatMap, flatten, List·Memᴰ·head, List·Memᴰ·tail}
 use mathlib.Core.Option.{orElse}
@@ -8,7 +8,7 @@ use native.Mathlib.Omega.{arith}
 use lib.ListN.{getD, replicate}
 use Rattle.semigroups.specs.Lists.{range, elements, at, all, find, firstOf, sum, count, least, member, distinct, earlier, lists, Earliest}
 use Rattle.semigroups.specs.Tables.{product, grid, isElement, badCell}
-use Rattle.semigroups.specs.Invariants.{power, periodFrom, IsIndexPeriod, IndexPeriod, index, period, indexPeriod, profile}
+use Rattle.semigroups.specs.Invariants.{power, periodFrom, IsIndexPeriod, index, period, indexPeriod, profile}
 use Rattle.semigroups.specs.Maps.{isHomomorphism, isEmbedding, embeddings, after}
 use Rattle.semigroups.specs.Transformations.{transformations, transformationOrder, transformation, numberOf, transformationProduct, transformationCells}
 use Rattle.semigroups.specs.Passing.{ElementPasses}
@@ -36,20 +36,12 @@ use Rattle.demands.proofs.Demand1.{lent, enough}
 
 -- Index and period are the numbers of definition 3.2, and no others are.
 index-period-exactly : (n : ℕ) (cells : List ℕ) (a : ℕ) → ElementPasses n cells a → (p r : ℕ)
-    → (indexPeriod n (product n cells) a ≡ record { index = p; period = r }) ↔ IsIndexPeriod (product n cells) a p r
+    → ((indexPeriod n (product n cells) a .index ≡ p) × (indexPeriod n (product n cells) a .period ≡ r)) ↔ IsIndexPeriod (product n cells) a p r
 unfolding indexPeriod
-index-period-exactly n cells a h p r = (to, from)
-  where
-    counted : IsIndexPeriod (product n cells) a (index n (product n cells) a) (period n (product n cells) a)
-    counted = invariants.index-period n (product n cells) a (accepted-closed n cells (h .table)) (h .element)
-
-    to : indexPeriod n (product n cells) a ≡ record { index = p; period = r } → IsIndexPeriod (product n cells) a p r
-    to e = subst₂ (IsIndexPeriod (product n cells) a) (ap (λ (x : IndexPeriod). x .index) e) (ap (λ (x : IndexPeriod). x .period) e) counted
-
-    from : IsIndexPeriod (product n cells) a p r → indexPeriod n (product n cells) a ≡ record { index = p; period = r }
-    from w =
-        let u = invariants.index-period-unique (product n cells) a (index n (product n cells) a) (period n (product n cells) a) p r counted w in
-        ap₂ {C = IndexPeriod} (λ (x y : ℕ). record { index = x; period = y }) (u .0) (u .1)
+index-period-exactly n cells a h p r =
+    let s = product n cells in
+    let counted = invariants.index-period n s a (accepted-closed n cells (h .table)) (h .element) in
+    ((λ e. subst₂ (IsIndexPeriod s a) (e .0) (e .1) counted), λ w. invariants.index-period-unique s a (index n s a) (period n s a) p r counted w)
 
 pub demand-2 : Demand2
 unfolding profile indexPeriod
@@ -60,7 +52,9 @@ demand-2 =
       none-exactly = λ kind request l p. nothing-exactly kind l request p;
       wanted-found = λ kind request l p f w. wanted-found kind l request p f w;
       index-period = index-period-exactly;
-      profile-counted = λ n cells a. refl;
+      profile-powers = λ n cells a. refl;
+      profile-table = λ n cells a. (refl, refl);
+      profile-lines = λ n cells a. (refl, refl);
       saved-loads = saved-loads;
       loaded-saves = loaded-saves;
     }
@@ -83,7 +77,7 @@ third : ElementPasses (mat5 .order) (mat5 .cells) 3
 third = record { table = worked .accepted mat5 (List·Memᴰ·tail (List·Memᴰ·tail (List·Memᴰ·tail (List·Memᴰ·tail (List·Memᴰ·tail (List·Memᴰ·tail (List·Memᴰ·head refl))))))); element = omega arith }
 
 third-counted : IsIndexPeriod (product (mat5 .order) (mat5 .cells)) 3 2 1
-third-counted = demand-2 .index-period (mat5 .order) (mat5 .cells) 3 third 2 1 .0 (unfold range elements find least product power periodFrom index period indexPeriod in refl)
+third-counted = demand-2 .index-period (mat5 .order) (mat5 .cells) 3 third 2 1 .0 (unfold range elements find least product power periodFrom index period indexPeriod in (refl, refl))
 
 -- The text of swap: ten bytes, and four cells.
 swap-back : SavedLoads (swap .order) (swap .cells) (replicate 12 7) (replicate 5 7)

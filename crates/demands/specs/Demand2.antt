@@ -31,16 +31,12 @@ pub record Demand2 : Type 0 where
   pub wanted-found : (kind : Kind) (request : Request) (l : Lent) → Passes l → (f : List ℕ) → Wanted kind l request f → call kind request l .says ≡ found
   -- Index, period and profile are as counted there.
   pub index-period : (n : ℕ) (cells : List ℕ) (a : ℕ) → ElementPasses n cells a → (p r : ℕ)
-      → (indexPeriod n (product n cells) a ≡ record { index = p; period = r }) ↔ IsIndexPeriod (product n cells) a p r
-  pub profile-counted : (n : ℕ) (cells : List ℕ) (a : ℕ)
-      → profile n (product n cells) a
-      ≡ record {
-        powers = indexPeriod n (product n cells) a;
-        frequency = frequency n (product n cells) a;
-        diagonal = diagonalFrequency n (product n cells) a;
-        row = rowFrequency n (product n cells) a;
-        column = columnFrequency n (product n cells) a;
-      }
+      → ((indexPeriod n (product n cells) a .index ≡ p) × (indexPeriod n (product n cells) a .period ≡ r)) ↔ IsIndexPeriod (product n cells) a p r
+  pub profile-powers : (n : ℕ) (cells : List ℕ) (a : ℕ) → profile n (product n cells) a .powers ≡ indexPeriod n (product n cells) a
+  pub profile-table : (n : ℕ) (cells : List ℕ) (a : ℕ)
+      → (profile n (product n cells) a .frequency ≡ frequency n (product n cells) a) × (profile n (product n cells) a .diagonal ≡ diagonalFrequency n (product n cells) a)
+  pub profile-lines : (n : ℕ) (cells : List ℕ) (a : ℕ)
+      → (profile n (product n cells) a .row ≡ rowFrequency n (product n cells) a) × (profile n (product n cells) a .column ≡ columnFrequency n (product n cells) a)
   -- A table saved as RFC 4180 text loads as the same cells,
   pub saved-loads : (n : ℕ) (cells text buffer : List ℕ) → SavePasses n cells (length text) → n * n ≤ length buffer → SavedLoads n cells text buffer
   -- and an accepted text whose entries lie within its order saves to the same bytes.
