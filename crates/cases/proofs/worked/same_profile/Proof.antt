@@ -4,9 +4,8 @@ use mathlib.Core.Bool.{Bool, and-assoc}
 use borrow.Author.Needs.{needs}
 use Rattle.semigroups.specs.Invariants.{sameProfile}
 use Rattle.invariants.specs.declared.ProfileAnswer.{ProfileAnswer}
-use Rattle.invariants.specs.Answers.{profileSays}
+use Rattle.invariants.specs.Answers.{profileValue, profileSays}
 use Rattle.cases.specs.Answering.{sameGivenProfile}
-use Rattle.plain.specs.Marks.{marksProfile}
 use Rattle.cases.proofs.worked.same_profile.Statement.{statement}
 use Rattle.cases.proofs.worked.same_profile.Tie as tie
 
@@ -24,7 +23,7 @@ unfolding sameProfile
 returns-2 c =
     let known = c .before .before .before .before .before .before .before .before .before .before .before .before .before in
     let b = known .before .before .args .b in
-    simp and-assoc (sym (ap {B = Bool} (λ (x : ProfileAnswer). sameGivenProfile (profileSays x) (marksProfile b)) (known .a .given .1)))
+    simp and-assoc (sym (ap {B = Bool} (λ (x : ProfileAnswer). sameGivenProfile (profileSays x) (profileValue b)) (known .a .given .1)))
 
 pub same-profile-spec : {M : Type 1} → statement M
 same-profile-spec = tie.close (tie.spec enum-known-a enum-told returns returns-2)
