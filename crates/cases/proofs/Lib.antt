@@ -1,4 +1,4 @@
-pub mod Walking
-pub mod Fronts
-pub mod Products
+pub mod Counting
+pub mod Digits
 pub mod Agreement
+pub mod Walking

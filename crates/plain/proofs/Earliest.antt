@@ -8,7 +8,7 @@ use Rattle.semigroups.specs.Lists.{find, earlier, lists}
 use Rattle.semigroups.specs.Tables.{Product}
 use Rattle.semigroups.specs.Maps.{Kind, isEmbedding, isIsomorphism, isMap, maps, next, earliest}
 use Rattle.semigroups.proofs.Lists.{find-keep}
-use Rattle.plain.specs.Marks.{kindOf}
+use Rattle.plain.specs.Enumeration.{kindOf}
 
 module _ (m : ℕ) (s : Product) (n : ℕ) (t : Product) where
   pub kind-test : (isomorphisms : Bool) (f : List ℕ) → ((not isomorphisms || eqb m n) && isEmbedding m s n t f) ≡ isMap (kindOf isomorphisms) m s n t f

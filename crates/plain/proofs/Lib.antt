@@ -1,7 +1,6 @@
 pub mod Enumeration
+pub mod Fronts
 pub mod Triples
 pub mod Pairs
 pub mod Earliest
 pub mod Judging
-pub mod Counting
-pub mod Marking

@@ -8,6 +8,7 @@ use lib.Dec.{eqb}
 use lib.ListN.{getD}
 use Rattle.semigroups.specs.Lists.{at, lists}
 use Rattle.semigroups.specs.Tables.{Product}
+use Rattle.semigroups.specs.Maps.{Kind, embeddings, isomorphisms}
 
 -- List number k, counted from 0, of all lists of m entries from 1 to n.
 unfoldable pub numbered : ℕ → ℕ → ℕ → List ℕ
@@ -19,7 +20,12 @@ keeps s t f l =
     let products = eqb (at f (s (at l 1) (at l 2))) (t (at f (at l 1)) (at f (at l 2))) in
     (eqb (at l 1) (at l 2) || not (eqb (at f (at l 1)) (at f (at l 2)))) && products
 
--- The list, where one was found.
-abbrev pub foundAt : Bool → List ℕ → Option (List ℕ)
-foundAt true f = some f
-foundAt false f = none
+-- Whether a list was found.
+abbrev pub isFound : Option (List ℕ) → Bool
+isFound (some f) = true
+isFound none = false
+
+-- The kind of maps that is asked for.
+abbrev pub kindOf : Bool → Kind
+kindOf true = isomorphisms
+kindOf false = embeddings

@@ -1,3 +1,2 @@
 pub mod Enumeration
 pub mod Said
-pub mod Marks

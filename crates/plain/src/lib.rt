@@ -1,17 +1,16 @@
 // A second search, written separately: it enumerates all lists and shares no function with the library.
 ghost use mathlib.Core.Path.{_≡_};
+ghost use mathlib.Core.Bool.{_&&_};
+ghost use mathlib.Core.List.{_++_};
 ghost use mathlib.Core.Option.{Option·map, Option·getD};
 ghost use Prim.Native.Nat.{_^_, _≤_, _<_};
-ghost use lib.ListN.{length};
+ghost use lib.ListN.{length, drop, replicate};
 ghost use Rattle.semigroups.specs.Lists.{at, earlier};
 ghost use Rattle.semigroups.specs.Tables.{Element, Filled, IsList, product, associates, badCell, badTriple};
 ghost use Rattle.semigroups.specs.Questions.{no, tableRefusal};
 ghost use Rattle.semigroups.specs.Maps.{isEmbedding, isMap, maps, next, earliest};
-ghost use Rattle.plain.specs.Enumeration.{numbered, keeps, foundAt};
-ghost use Rattle.plain.specs.Marks.{kindOf};
+ghost use Rattle.plain.specs.Enumeration.{numbered, keeps, isFound, kindOf};
 ghost use Rattle.plain.specs.Said.{saidOf};
-
-pub mod marks;
 
 // The product i·j: rows and columns count from 1.
 pub fn product(cells: &[u8], n: usize, i: usize, j: usize) -> usize
@@ -51,6 +50,16 @@ pub fn write_list(list: &mut [u8], n: usize, k: usize)
         list[i] = (rest % n + 1) as u8;
         rest = rest / n;
     }
+}
+
+// List number k of all lists of m entries from 1 to n, at the start of an array; the bytes behind it are 0.
+pub fn list_number(m: usize, n: usize, k: usize) -> [u8; 9]
+    requires { ⌜ m ≤ 9 ⌝ ∗ ⌜ Element 120 n ⌝ ∗ ⌜ k < n ^ m ⌝ }
+    ensures list { λ r. ⌜ r ≡ numbered m n k ++ drop m (replicate 9 0) ⌝ }
+{
+    let mut list = [0u8; 9];
+    write_list(&mut list[..m], n, k);
+    list
 }
 
 // Whether list a is earlier than list b, of the same length.
@@ -216,7 +225,24 @@ fn is_map(isomorphisms: bool, source: &[u8], m: usize, target: &[u8], n: usize, 
     (!isomorphisms | (m == n)) & is_embedding(source, m, target, n, map)
 }
 
-// The earliest map of the kind that is later than the list `after`, written to `map`; or false.
+// Whether list number k is a map of the kind that is later than the list `after`.
+fn is_later_map(
+    isomorphisms: bool,
+    source: &[u8],
+    m: usize,
+    target: &[u8],
+    n: usize,
+    after: &[u8],
+    k: usize,
+) -> bool
+    requires { ⌜ Filled m (now source) ⌝ ∗ ⌜ Filled n (now target) ⌝ ∗ ⌜ m ≤ 9 ⌝ ∗ ⌜ length (now after) ≡ m ⌝ ∗ ⌜ k < n ^ m ⌝ }
+    ensures answer { λ r. ⌜ r ≡ (isMap (kindOf isomorphisms) m (product m (now (source .entry))) n (product n (now (target .entry))) (numbered m n k) && earlier (now (after .entry)) (numbered m n k)) ⌝ }
+{
+    let list = list_number(m, n, k);
+    is_map(isomorphisms, source, m, target, n, &list[..m]) & earlier(after, &list[..m])
+}
+
+// The earliest map of the kind that is later than the list `after`, written to `map`; or false, and `map` keeps its bytes.
 pub fn next_map(
     isomorphisms: bool,
     source: &[u8],
@@ -228,13 +254,14 @@ pub fn next_map(
 ) -> bool
     requires { ⌜ Filled m (now source) ⌝ ∗ ⌜ Filled n (now target) ⌝ ∗ ⌜ m ≤ 9 ⌝ }
     requires { ⌜ (length (now after) ≡ m) × (length (now map) ≡ m) ⌝ }
-    ensures found { λ r. ⌜ foundAt r (now (map .exit)) ≡ earliest (next (now (after .entry))) (maps (kindOf isomorphisms) m (product m (now (source .entry))) n (product n (now (target .entry)))) ⌝ }
+    ensures found { λ r. ⌜ r ≡ isFound (earliest (next (now (after .entry))) (maps (kindOf isomorphisms) m (product m (now (source .entry))) n (product n (now (target .entry))))) ⌝ }
+    ensures map { λ _. ⌜ now (map .exit) ≡ Option·getD (earliest (next (now (after .entry))) (maps (kindOf isomorphisms) m (product m (now (source .entry))) n (product n (now (target .entry))))) (now (map .entry)) ⌝ }
 {
     let total = number_of_lists(m, n);
     let mut k: usize = 0;
     while k < total {
-        write_list(map, n, k);
-        if is_map(isomorphisms, source, m, target, n, &*map) & earlier(after, &*map) {
+        if is_later_map(isomorphisms, source, m, target, n, after, k) {
+            write_list(map, n, k);
             return true;
         }
         k += 1;

@@ -1,7 +1,13 @@
--- `embedded` meets its contract: it lends the first bytes of an array of 8 as scratch. Assumes nothing.
-use mathlib.Core.Path.{sym}
-use lib.ListN.{replicate}
+-- `embedded` meets its contract: what is compared is what the definition of the call says and leaves. Assumes nothing.
+use mathlib.Core.Path.{sym, ap, ap₂, _∙_}
+use mathlib.Core.List.{List, _++_}
+use Prim.Native.Nat.{ℕ}
+use lib.Dec.{eqb}
+use lib.ListN.{drop, replicate}
 use lib.Seq.{length-take-le, length-front}
+use Rattle.cases.specs.Said.{saidNumber}
+use Rattle.cases.specs.Tally.{counted}
+use Rattle.cases.proofs.Agreement.{same-left}
 use borrow.Author.Needs.{needs}
 use Rattle.cases.proofs.limits.embedded.Statement.{statement}
 use Rattle.cases.proofs.limits.embedded.Tie as tie
@@ -19,7 +25,7 @@ array-borrow-prefix-marks : tie.Need-array-borrow-prefix-marks
 array-borrow-prefix-marks c = search needs
 
 slice-aggregate-first-embedding-4 : tie.Need-slice-aggregate-first-embedding-4
-slice-aggregate-first-embedding-4 c = sym (length-take-le _ _ (c .before .before .before .before .pre .0))
+slice-aggregate-first-embedding-4 c = sym (length-take-le _ _ (c .before .before .before .before .pre))
 
 first-embedding-requires : tie.Need-first-embedding-requires
 first-embedding-requires c κs = search needs
@@ -30,35 +36,43 @@ said-number-requires c κs = search needs
 counted-requires : tie.Need-counted-requires
 counted-requires c κs = search needs
 
-slice-aggregate-same : tie.Need-slice-aggregate-same
-slice-aggregate-same c = search needs
+slice-aggregate-same-bytes : tie.Need-slice-aggregate-same-bytes
+slice-aggregate-same-bytes c = search needs
 
-slice-aggregate-same-2 : tie.Need-slice-aggregate-same-2
-slice-aggregate-same-2 c = search needs
+slice-aggregate-same-bytes-2 : tie.Need-slice-aggregate-same-bytes-2
+slice-aggregate-same-bytes-2 c = search needs
 
-same-requires : tie.Need-same-requires
-same-requires c κs = search needs
+same-bytes-requires : tie.Need-same-bytes-requires
+same-bytes-requires c κs = search needs
 
 counted-requires-2 : tie.Need-counted-requires-2
 counted-requires-2 c κs = search needs
 
-slice-aggregate-same-3 : tie.Need-slice-aggregate-same-3
-slice-aggregate-same-3 c =
+slice-aggregate-same-bytes-3 : tie.Need-slice-aggregate-same-bytes-3
+slice-aggregate-same-bytes-3 c =
     let asked = c .before .before .before .before .before .before .before .before .before in
     let s = asked .before .before .before .before .before in
     sym (length-front (replicate 8 7) (asked .first-embedding .last .1 .1 .1 .1 .1 .0) (s .args .size) (search needs))
 
-slice-aggregate-same-4 : tie.Need-slice-aggregate-same-4
-slice-aggregate-same-4 c = search needs
+slice-aggregate-same-bytes-4 : tie.Need-slice-aggregate-same-bytes-4
+slice-aggregate-same-bytes-4 c = search needs
 
-same-requires-2 : tie.Need-same-requires-2
-same-requires-2 c κs = search needs
+same-bytes-requires-2 : tie.Need-same-bytes-requires-2
+same-bytes-requires-2 c κs = search needs
 
 counted-requires-3 : tie.Need-counted-requires-3
 counted-requires-3 c κs = search needs
 
 returns : tie.Need-returns
-returns c = search needs
+returns c =
+    let asked = c .before .before .before .before .before .before .before .before .before .before .before .before in
+    let a = asked .before .before .before .before .before .args in
+    let said = c .before .before .before .before .before .before .before .before .before .said-number .ensures ∙ ap saidNumber (asked .first-embedding .ensures .0) in
+    let one = c .before .before .before .before .before .before .before .before .counted .ensures ∙ ap (λ (k : ℕ). counted (a .tally) (eqb k (a .said))) said in
+    let maps = same-left _ _ _ _ (c .before .before .before .before .before .same-bytes .ensures) (asked .first-embedding .ensures .1 .0) in
+    let two = c .before .before .before .before .counted2 .ensures ∙ ap₂ counted one maps in
+    let marks = same-left _ _ _ _ (c .before .same-bytes2 .ensures) (ap (λ (l : List ℕ). l ++ drop (a .size) (replicate 8 7)) (asked .first-embedding .ensures .1 .1)) in
+    c .counted3 .ensures ∙ ap₂ counted two marks
 
 pub embedded-spec : {M : Type 1} → statement M
 embedded-spec =
@@ -72,12 +86,12 @@ embedded-spec =
     first-embedding-requires
     said-number-requires
     counted-requires
-    slice-aggregate-same
-    slice-aggregate-same-2
-    same-requires
+    slice-aggregate-same-bytes
+    slice-aggregate-same-bytes-2
+    same-bytes-requires
     counted-requires-2
-    slice-aggregate-same-3
-    slice-aggregate-same-4
-    same-requires-2
+    slice-aggregate-same-bytes-3
+    slice-aggregate-same-bytes-4
+    same-bytes-requires-2
     counted-requires-3
     returns)

@@ -1,14 +1,18 @@
 -- `expected` meets its contract: the second search looks behind the bytes of the buffer, or behind zeros for the first map. Assumes nothing.
 use mathlib.Core.Path.{_≡_, sym, ap, _∙_}
 use mathlib.Core.Logic.{⊎-elim}
+use mathlib.Core.Bool.{Bool, cond}
 use Prim.Native.Nat.{_≤_}
 use native.Mathlib.Omega.{arith}
-use borrow.Author.Needs.{needs}
+use mathlib.Core.List.{_++_}
 use denote.Ref.{now}
-use lib.ListN.{length}
+use Rattle.cases.specs.Said.{saidNumber}
+use Rattle.cases.specs.Walking.{called}
+use lib.ListN.{length, drop}
 use lib.Seq.{length-take-le}
 use Rattle.tables.proofs.Questions.{accepted-filled}
-use Rattle.cases.proofs.Walking.{behind, behind-next, behind-zeros, behind-long, second-found, second-none}
+use Rattle.cases.proofs.Walking.{behind, behind-next, behind-zeros, behind-long, second-says, second-map}
+use borrow.Author.Needs.{needs}
 use Rattle.cases.proofs.walk.expected.Statement.{statement}
 use Rattle.cases.proofs.walk.expected.Tie as tie
 
@@ -35,6 +39,23 @@ module _ (c : tie.Joined1) where
       let h = start .pre .1 .1 .0 in
       omega arith
 
+-- The second search has answered.
+module _ (c : tie.After-next-map) where
+  abbrev joined : tie.Joined1
+  joined = c .before .before .before
+
+  says : saidNumber (called (start joined .args .isomorphisms) (start joined .args .next) (now (start joined .args .source)) (start joined .args .m) (now (start joined .args .target)) (start joined .args .n) (start joined .args .before) .says) ≡ cond (c .next-map .result) 100 0
+  says =
+      let s = start joined in
+      let a = s .args in
+      second-says (a .isomorphisms) (a .next) (now (a .source)) (a .m) (now (a .target)) (a .n) (a .before) (s .pre .0) (s .pre .1 .0) (s .pre .1 .1 .0) (s .pre .1 .1 .1) (before-long s) (joined .if1 .after) (after-is joined) (c .next-map .result) (c .next-map .ensures .0)
+
+  left : c .next-map .last .1 .1 .1 .1 .1 .1 .0 ++ drop (start joined .args .m) (start joined .args .before) ≡ called (start joined .args .isomorphisms) (start joined .args .next) (now (start joined .args .source)) (start joined .args .m) (now (start joined .args .target)) (start joined .args .n) (start joined .args .before) .map ++ drop (start joined .args .m) (start joined .args .before)
+  left =
+      let s = start joined in
+      let a = s .args in
+      second-map (a .isomorphisms) (a .next) (now (a .source)) (a .m) (now (a .target)) (a .n) (a .before) (s .pre .0) (s .pre .1 .0) (s .pre .1 .1 .0) (s .pre .1 .1 .1) (before-long s) (joined .if1 .after) (after-is joined) _ (c .next-map .ensures .1)
+
 array-share-prefix-after : tie.Need-array-share-prefix-after
 array-share-prefix-after c = after-room c
 
@@ -57,20 +78,12 @@ next-map-requires c κs =
 returns : tie.Need-returns
 returns c =
     let searched = c .before .before in
-    let j = searched .before .before .before in
-    let s = start j in
-    let a = s .args in
-    let f = searched .next-map in
-    second-found (a .isomorphisms) (a .next) (now (a .source)) (a .m) (now (a .target)) (a .n) (a .before) (s .pre .0) (s .pre .1 .0) (s .pre .1 .1 .0) (s .pre .1 .1 .1) (before-long s) (f .result) (j .if1 .after) (f .last .1 .1 .1 .1 .1 .1 .0) (after-is j) (f .ensures) (c .if2 .taken)
+    (sym (says searched ∙ ap (λ (b : Bool). cond b 100 0) (c .if2 .taken)), left searched)
 
 returns-2 : tie.Need-returns-2
 returns-2 c =
     let searched = c .before .before in
-    let j = searched .before .before .before in
-    let s = start j in
-    let a = s .args in
-    let f = searched .next-map in
-    second-none (a .isomorphisms) (a .next) (now (a .source)) (a .m) (now (a .target)) (a .n) (a .before) (s .pre .0) (s .pre .1 .0) (s .pre .1 .1 .0) (s .pre .1 .1 .1) (before-long s) (f .result) (j .if1 .after) (f .last .1 .1 .1 .1 .1 .1 .0) (after-is j) (f .ensures) (c .if2 .left)
+    (sym (says searched ∙ ap (λ (b : Bool). cond b 100 0) (c .if2 .left)), left searched)
 
 pub expected-spec : {M : Type 1} → statement M
 expected-spec =

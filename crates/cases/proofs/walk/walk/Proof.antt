@@ -1,87 +1,96 @@
--- `walk` meets its contract: the calls begin behind both judgements, so both tables are accepted. Assumes nothing.
-use mathlib.Core.Path.{_∙_}
+-- `walk` meets its contract. The invariant: the calls counted so far and those that are left make up the whole. The measure is how many maps are left.
+-- Assumes nothing.
+use mathlib.Core.Path.{_≡_, refl, sym, ap, _∙_}
+use mathlib.Core.Bool.{Bool, true, false, not}
+use mathlib.Core.List.{List}
+use Prim.Native.Nat.{ℕ, suc}
 use native.Mathlib.Omega.{arith}
-use Rattle.cases.proofs.Agreement.{counted-agreed, accepted-said}
-use Prim.Native.Nat.{_≤_}
-use denote.Ref.{now}
-use Rattle.semigroups.specs.Tables.{Accepted}
-use Rattle.plain.proofs.Judging.{judged-accepted}
 use borrow.Author.Needs.{needs}
+use denote.Ref.{now}
+use lib.ListN.{length}
+use Rattle.cases.specs.Tally.{counted, agreed}
+use Rattle.cases.specs.Walking.{laterMaps}
+use Rattle.cases.proofs.Counting.{walk-ends, walk-goes}
+use Rattle.cases.proofs.Walking.{left-found, left-none}
 use Rattle.cases.proofs.walk.walk.Statement.{statement}
 use Rattle.cases.proofs.walk.walk.Tie as tie
 
-module _ (c : tie.Else4) where
-  abbrev start : tie.Start
-  start = c .before .before .before .before .before .before .before .before .before .before
+abbrev Inv-loop : tie.InvT-loop
+Inv-loop isomorphisms source m target n tally₀ map₀ tally map = (agreed (suc (laterMaps isomorphisms source m target n map)) tally ≡ agreed (suc (laterMaps isomorphisms source m target n map₀)) tally₀) × (length map ≡ 5)
 
-  accepted-both : Accepted (start .args .m) (now (start .args .source)) × (Accepted (start .args .n) (now (start .args .target)) × ((start .args .m ≤ 5) × (start .args .n ≤ 27)))
-  accepted-both =
-      let second = c .before .before in
-      let first = second .before .before .before in
-      let small = first .before in
-      let a = judged-accepted _ _ _ (first .judge .ensures) (second .before .if3 .left) in
-      let b = judged-accepted _ _ _ (second .judge2 .ensures) (c .if4 .left) in
-      (a, (b, (small .before .if1 .left, small .if2 .left)))
+abbrev μ-loop : tie.MeasureT-loop
+μ-loop isomorphisms source m target n tally₀ map₀ tally map = laterMaps isomorphisms source m target n map
 
-counted-requires : tie.Need-counted-requires
+not-true : (b : Bool) → not b ≡ true → b ≡ false
+not-true true e = let z : _≡_ {A = ℕ} 0 1 = cc in let w : ⊥ = omega arith in absurd w
+not-true false e = refl
+
+not-false : (b : Bool) → not b ≡ false → b ≡ true
+not-false true e = refl
+not-false false e = let z : _≡_ {A = ℕ} 0 1 = cc in let w : ⊥ = omega arith in absurd w
+
+module _ (c : tie.After-counted2 Inv-loop μ-loop) where
+  abbrev at-loop : tie.At-loop Inv-loop μ-loop
+  at-loop = c .before .before
+
+  abbrev start-of : tie.Start Inv-loop μ-loop
+  start-of = at-loop .before .before .before .before .before
+
+  long : length (at-loop .loop .map) ≡ 5
+  long = at-loop .loop .inv .1
+
+  -- A map was found, so that one less is left.
+  one-less : not (c .before .step2 .result .found) ≡ false → laterMaps (start-of .args .isomorphisms) (now (start-of .args .source)) (start-of .args .m) (now (start-of .args .target)) (start-of .args .n) (at-loop .loop .map)
+      ≡ suc (laterMaps (start-of .args .isomorphisms) (now (start-of .args .source)) (start-of .args .m) (now (start-of .args .target)) (start-of .args .n) (c .before .step2 .result .map))
+  one-less h =
+      let a = start-of .args in
+      let p = start-of .pre in
+      left-found (a .isomorphisms) (now (a .source)) (a .m) (now (a .target)) (a .n) (at-loop .loop .map) (p .0) (p .1 .0) (p .1 .1 .0) (p .1 .1 .1) long (sym (c .before .step2 .ensures .1 .0) ∙ not-false _ h)
+      ∙ ap (λ (l : List ℕ). suc (laterMaps (a .isomorphisms) (now (a .source)) (a .m) (now (a .target)) (a .n) l)) (sym (c .before .step2 .ensures .1 .1 .0))
+
+step-requires : tie.Need-step-requires Inv-loop μ-loop
+step-requires c κs = c .before .before .pre
+
+counted-requires : tie.Need-counted-requires Inv-loop μ-loop
 counted-requires c κs = search needs
 
-returns : tie.Need-returns
-returns c = (c .counted .ensures .1, λ a b small. let h = c .before .if1 .taken in absurd (let z : ⊥ = omega arith in z))
+loop-holds : tie.Need-loop-holds Inv-loop μ-loop
+loop-holds c = (refl, search needs)
 
-counted-requires-2 : tie.Need-counted-requires-2
+step-requires-2 : tie.Need-step-requires-2 Inv-loop μ-loop
+step-requires-2 c κs = c .before .before .before .before .before .pre
+
+counted-requires-2 : tie.Need-counted-requires-2 Inv-loop μ-loop
 counted-requires-2 c κs = search needs
 
-returns-2 : tie.Need-returns-2
-returns-2 c = (c .counted2 .ensures .1, λ a b small. let h = c .before .if2 .taken in absurd (let z : ⊥ = omega arith in z))
+returns : tie.Need-returns Inv-loop μ-loop
+returns c =
+    let w = c .before .before in
+    let z = start-of w in
+    walk-ends _ _ _ _ _ _ (at-loop w .loop .inv .0) (w .counted2 .ensures) (w .before .step2 .ensures .0) (left-none (z .args .isomorphisms) (now (z .args .source)) (z .args .m) (now (z .args .target)) (z .args .n) (at-loop w .loop .map) (z .pre .0) (z .pre .1 .0) (z .pre .1 .1 .0) (z .pre .1 .1 .1) (long w) (sym (w .before .step2 .ensures .1 .0) ∙ not-true _ (c .if1 .taken))) _ _ (at-loop w .before .counted .ensures) (at-loop w .before .before .step .ensures .0)
 
-judge-requires : tie.Need-judge-requires
-judge-requires c κs = search needs
+loop-less : tie.Need-loop-less Inv-loop μ-loop
+loop-less c =
+    let w = c .before .before .before in
+    let e = one-less w (c .before .if1 .left) in
+    omega arith
 
-counted-requires-3 : tie.Need-counted-requires-3
-counted-requires-3 c κs = search needs
-
-returns-3 : tie.Need-returns-3
-returns-3 c = (c .counted3 .ensures .1, λ a b small. absurd (c .before .if3 .taken (accepted-said _ _ _ a (c .before .before .before .judge .ensures))))
-
-judge-requires-2 : tie.Need-judge-requires-2
-judge-requires-2 c κs = search needs
-
-counted-requires-4 : tie.Need-counted-requires-4
-counted-requires-4 c κs = search needs
-
-returns-4 : tie.Need-returns-4
-returns-4 c = (c .counted4 .ensures .1, λ a b small. absurd (c .before .if4 .taken (accepted-said _ _ _ b (c .before .before .before .judge2 .ensures))))
-
-step-requires : tie.Need-step-requires
-step-requires c κs = accepted-both c
-
-counted-requires-5 : tie.Need-counted-requires-5
-counted-requires-5 c κs = search needs
-
-walk-on-requires : tie.Need-walk-on-requires
-walk-on-requires c κs = let p = accepted-both (c .before .before) in (p .0, (p .1 .0, (p .1 .1, c .counted5 .ensures .1)))
-
-returns-5 : tie.Need-returns-5
-returns-5 c =
-    let begun = c .before in
-    (c .walk-on .ensures .0, λ a b small. c .walk-on .ensures .1 ∙ counted-agreed _ _ _ (begun .counted5 .ensures .0) (begun .before .step .ensures .0))
+loop-again : tie.Need-loop-again Inv-loop μ-loop
+loop-again c =
+    let w = c .before .before .before in
+    (walk-goes _ _ _ _ _ _ (at-loop w .loop .inv .0) (w .counted2 .ensures) (w .before .step2 .ensures .0) _ (one-less w (c .before .if1 .left)), w .before .step2 .ensures .1 .1 .1)
 
 pub walk-spec : {M : Type 1} → statement M
 walk-spec =
     tie.close
     (tie.spec
-    counted-requires
-    returns
-    counted-requires-2
-    returns-2
-    judge-requires
-    counted-requires-3
-    returns-3
-    judge-requires-2
-    counted-requires-4
-    returns-4
+    Inv-loop
+    μ-loop
     step-requires
-    counted-requires-5
-    walk-on-requires
-    returns-5)
+    counted-requires
+    loop-holds
+    step-requires-2
+    counted-requires-2
+    returns
+    loop-less
+    loop-again)

@@ -1,9 +1,9 @@
 -- `compared` meets its contract: the library's check and the second judge both say what the definition says. Assumes nothing.
 use mathlib.Core.Path.{sym, ap, _∙_}
-use borrow.Author.Needs.{needs}
 use Rattle.plain.specs.Said.{saidOf}
 use Rattle.cases.specs.Tally.{counted}
 use Rattle.cases.proofs.Agreement.{same-said-itself}
+use borrow.Author.Needs.{needs}
 use Rattle.cases.proofs.worked.compared.Statement.{statement}
 use Rattle.cases.proofs.worked.compared.Tie as tie
 
@@ -24,12 +24,10 @@ counted-requires c κs = search needs
 
 returns : tie.Need-returns
 returns c =
-    let compared = c .before in
-    let judged = compared .before in
-    let said = judged .before in
-    let agree = said .said-of .ensures ∙ ap saidOf (said .before .check .ensures) ∙ sym (judged .judge .ensures) in
-    let same = compared .same-said .ensures ∙ same-said-itself _ _ agree in
-    (c .counted .ensures .0 ∙ ap (counted (said .before .before .before .args .tally)) same, c .counted .ensures .1)
+    let said = c .before .before .before in
+    let agree = said .said-of .ensures ∙ ap saidOf (said .before .check .ensures) ∙ sym (c .before .before .judge .ensures) in
+    let same = c .before .same-said .ensures ∙ same-said-itself _ _ agree in
+    c .counted .ensures ∙ ap (counted (said .before .before .before .args .tally)) same
 
 pub compared-spec : {M : Type 1} → statement M
 compared-spec =

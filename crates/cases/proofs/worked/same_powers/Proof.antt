@@ -4,9 +4,8 @@ use mathlib.Core.Bool.{Bool}
 use borrow.Author.Needs.{needs}
 use Rattle.semigroups.specs.Invariants.{sameIndexPeriod}
 use Rattle.invariants.specs.declared.IndexPeriodAnswer.{IndexPeriodAnswer}
-use Rattle.invariants.specs.Answers.{indexPeriodSays}
+use Rattle.invariants.specs.Answers.{indexPeriodValue, indexPeriodSays}
 use Rattle.cases.specs.Answering.{sameGivenPowers}
-use Rattle.plain.specs.Marks.{marksProfile}
 use Rattle.cases.proofs.worked.same_powers.Statement.{statement}
 use Rattle.cases.proofs.worked.same_powers.Tie as tie
 
@@ -24,7 +23,7 @@ unfolding sameIndexPeriod
 returns-2 c =
     let known = c .before .before .before .before .before in
     let b = known .before .before .args .b in
-    sym (ap {B = Bool} (λ (x : IndexPeriodAnswer). sameGivenPowers (indexPeriodSays x) (marksProfile b)) (known .a .given .1))
+    sym (ap {B = Bool} (λ (x : IndexPeriodAnswer). sameGivenPowers (indexPeriodSays x) (indexPeriodValue b)) (known .a .given .1))
 
 pub same-powers-spec : {M : Type 1} → statement M
 same-powers-spec = tie.close (tie.spec enum-known-a enum-told returns returns-2)

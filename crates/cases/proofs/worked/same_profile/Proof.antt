@@ -1,12 +1,11 @@
--- `same_profile` meets its contract: where numbers are given, it is the definition's comparison, grouped from the left. Assumes nothing.
+-- `same_profile` meets its contract: where numbers are given, it is the definition's comparison. Assumes nothing.
 use mathlib.Core.Path.{sym, ap}
-use mathlib.Core.Bool.{Bool, and-assoc}
+use mathlib.Core.Bool.{Bool}
 use borrow.Author.Needs.{needs}
-use Rattle.semigroups.specs.Invariants.{sameProfile}
+use Rattle.semigroups.specs.Invariants.{sameIndexPeriod, sameProfile}
 use Rattle.invariants.specs.declared.ProfileAnswer.{ProfileAnswer}
-use Rattle.invariants.specs.Answers.{profileSays}
+use Rattle.invariants.specs.Answers.{profileValue, profileSays}
 use Rattle.cases.specs.Answering.{sameGivenProfile}
-use Rattle.plain.specs.Marks.{marksProfile}
 use Rattle.cases.proofs.worked.same_profile.Statement.{statement}
 use Rattle.cases.proofs.worked.same_profile.Tie as tie
 
@@ -20,11 +19,11 @@ returns : tie.Need-returns
 returns c = search needs
 
 returns-2 : tie.Need-returns-2
-unfolding sameProfile
+unfolding sameProfile sameIndexPeriod
 returns-2 c =
     let known = c .before .before .before .before .before .before .before .before .before .before .before .before .before in
     let b = known .before .before .args .b in
-    simp and-assoc (sym (ap {B = Bool} (λ (x : ProfileAnswer). sameGivenProfile (profileSays x) (marksProfile b)) (known .a .given .1)))
+    sym (ap {B = Bool} (λ (x : ProfileAnswer). sameGivenProfile (profileSays x) (profileValue b)) (known .a .given .1))
 
 pub same-profile-spec : {M : Type 1} → statement M
 same-profile-spec = tie.close (tie.spec enum-known-a enum-told returns returns-2)

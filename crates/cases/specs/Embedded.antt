@@ -1,0 +1,32 @@
+-- The first embedding of swap in two, with a scratch buffer of some bytes at the start of 8: what is compared. Assumes nothing.
+use mathlib.Core.List.{List, [], _∷_, _++_}
+use Prim.Native.Nat.{ℕ}
+use lib.Dec.{eqb}
+use lib.ListN.{take, drop, replicate}
+use Rattle.semigroups.specs.Maps.{embeddings}
+use Rattle.search.specs.Calls.{Called, theFirst, lend, call}
+use Rattle.cases.specs.declared.tally.Tally.{Tally}
+use Rattle.cases.specs.Said.{saidNumber}
+use Rattle.cases.specs.Answering.{sameBytes}
+use Rattle.cases.specs.Tally.{counted}
+
+-- 1,2 / 2,1
+abbrev swapCells : List ℕ
+swapCells = 1 ∷ 2 ∷ 2 ∷ 1 ∷ []
+
+-- 1,1,4,4 / 1,2,3,4 / 1,3,2,4 / 1,4,1,4
+abbrev twoCells : List ℕ
+twoCells = 1 ∷ 1 ∷ 4 ∷ 4 ∷ 1 ∷ 2 ∷ 3 ∷ 4 ∷ 1 ∷ 3 ∷ 2 ∷ 4 ∷ 1 ∷ 4 ∷ 1 ∷ 4 ∷ []
+
+-- mat5 (1603.06204, example 5.2)
+abbrev pub mat5Cells : List ℕ
+mat5Cells = 1 ∷ 1 ∷ 1 ∷ 1 ∷ 1 ∷ 1 ∷ 2 ∷ 3 ∷ 2 ∷ 3 ∷ 1 ∷ 1 ∷ 1 ∷ 2 ∷ 3 ∷ 1 ∷ 4 ∷ 5 ∷ 4 ∷ 5 ∷ 1 ∷ 1 ∷ 1 ∷ 4 ∷ 5 ∷ []
+
+abbrev pub embeddedCall : ℕ → Called
+embeddedCall size = call embeddings theFirst (lend swapCells 2 twoCells 4 (0 ∷ 0 ∷ []) (take size (replicate 8 7)))
+
+-- What is said, the map buffer, and the scratch buffer with the bytes behind it.
+abbrev pub embeddedTally : ℕ → ℕ → List ℕ → List ℕ → Tally → Tally
+embeddedTally size said map scratch t =
+    let c = embeddedCall size in
+    counted (counted (counted t (eqb (saidNumber (c .says)) said)) (sameBytes (c .map) map)) (sameBytes (c .scratch ++ drop size (replicate 8 7)) scratch)

@@ -1,0 +1,46 @@
+// The whole output of recue for files with given bytes: found, none, every refusal that can come for either file, and texts at the limit of 57,720 bytes.
+// What must come out stands in the file stdout, worked out by hand from the rules. The text of 121 records with 121 fields, which no constant holds,
+// comes from standard input.
+use libc::STDIN_FILENO;
+use libc::STDOUT_FILENO;
+
+// Prints the output for two files with these bytes.
+fn show(source: &[u8], target: &[u8]) {
+    let mut out = [0u8; 1095];
+    let written = output::recue(source, target, &mut out);
+    io::write_all(STDOUT_FILENO, &out[..written]);
+}
+
+// The same text as the source, then as the target of an accepted source.
+fn refused(text: &[u8]) {
+    show(text, b"1\r\n");
+    show(b"1\r\n", text);
+}
+
+fn main() {
+    show(
+        b"1,2\r\n2,1\r\n",
+        b"1,1,4,4\r\n1,2,3,4\r\n1,3,2,4\r\n1,4,1,4\r\n",
+    );
+    show(
+        b"1,1\r\n2,2\r\n",
+        b"1,1,4,4\r\n1,2,3,4\r\n1,3,2,4\r\n1,4,1,4\r\n",
+    );
+    refused(b"");
+    refused(b"1;\r\n");
+    refused(b"1");
+    refused(b"1234\r\n");
+    refused(b"0\r\n");
+    refused(b"121\r\n");
+    refused(b"1,1\r\n");
+    let mut wide = [0u8; 29403];
+    let length = io::read_full(STDIN_FILENO, &mut wide);
+    refused(&wide[..length]);
+    refused(b"2\r\n");
+    refused(b"2,1\r\n1,1\r\n");
+    show(b"0\r\n", b"121\r\n");
+    let longest = [49u8; 57720];
+    refused(&longest);
+    let longer = [49u8; 57721];
+    refused(&longer);
+}
