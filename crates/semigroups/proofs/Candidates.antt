@@ -2,13 +2,14 @@
 -- Scratch marks read back as the candidates. Assumes nothing.
 use mathlib.Core.Path.{_≡_, refl, sym, ap, _∙_}
 use mathlib.Core.Bool.{Bool, true, false, cond}
-use mathlib.Core.List.{List, []}
+use mathlib.Core.List.{List, [], _++_}
 use Prim.Native.Nat.{ℕ, _+_, _-_, _*_, _≤_, _<_}
 use native.Mathlib.Omega.{arith}
 use lib.Dec.{eqb}
 use lib.ListN.{length, drop, length-append, length-drop, List·getD-append}
 use Rattle.semigroups.specs.Tables.{Product, Element, Closed}
 use Rattle.semigroups.specs.Scratch.{scratchSize, marks, marked, scratchAfter}
+use Rattle.semigroups.specs.Calls.{overwritten}
 use Rattle.semigroups.specs.Maps.{embeddings, isomorphisms, maps, Ask, earliest}
 use Rattle.semigroups.specs.Candidates.{candidate}
 use Rattle.semigroups.specs.Search.{search}
@@ -42,6 +43,11 @@ module _ (m n : ℕ) (p : ℕ → ℕ → Bool) (scratch : List ℕ) where
   pub length-marks : length (marks m n p) ≡ scratchSize m n
   unfolding marks scratchSize
   length-marks = length-grid m n (λ i j. cond (p i j) 1 0)
+
+  -- The marks are written over the buffer's start.
+  pub scratch-written : scratchAfter m n p scratch ≡ overwritten (marks m n p) scratch
+  unfolding scratchAfter
+  scratch-written = ap (λ (k : ℕ). marks m n p ++ drop k scratch) (sym length-marks)
 
   -- The buffer keeps its length.
   pub length-scratch : scratchSize m n ≤ length scratch → length (scratchAfter m n p scratch) ≡ length scratch
