@@ -92,8 +92,8 @@ fn answer(
     SearchAnswer::Found
 }
 
-// A search: the questions about the two tables and the two buffers, then the answer.
-fn search(
+// A search by its kind, for the first map or with `next` for the next: the questions about the two tables and the two buffers, then the answer.
+pub fn search(
     kind: Kind,
     next: bool,
     source: &[u8],
