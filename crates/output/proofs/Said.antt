@@ -12,14 +12,14 @@ use lib.Seq.{sets}
 use Rattle.semigroups.specs.Tables.{Accepted}
 use Rattle.semigroups.specs.Scratch.{scratchSize}
 use Rattle.semigroups.specs.Questions.{ask, Refusal, no, naming, tablesQuestions, tablesRefusal, searchRefusal}
-use Rattle.semigroups.specs.Maps.{embeddings}
-use Rattle.semigroups.specs.Walks.{refused, found, nothing}
+use Rattle.semigroups.specs.Maps.{embeddings, found, nothing, sought}
 use Rattle.semigroups.proofs.Tables.{no-refusal}
+use Rattle.semigroups.proofs.Calls.{gives-ne-refused}
 use Rattle.semigroups.proofs.Questions.{ask-passed, all-passed, both-passed}
 use Rattle.tables.proofs.Questions.{both-pass, tables-accepted}
 use Rattle.csv.specs.Records.{lineText, rowsText}
-use Rattle.semigroups.specs.Calls.{overwritten}
-use Rattle.search.specs.Calls.{Lent, Called, theFirst, refusalOf, answerOf, scratchOf, answered, call}
+use Rattle.semigroups.specs.Calls.{refused, gives, overwritten, mapUnless}
+use Rattle.search.specs.Calls.{Lent, Called, theFirst, refusalOf, answerOf, call}
 use Rattle.search.proofs.Answering.{none-refused}
 use Rattle.search.proofs.Calls.{not-refused, refused-exactly}
 use Rattle.output.specs.Records.{noneWord, refusedWord, firstRecord, foundRecords, noneRecords, refusedRecord, refusedRecords, saidRecords, searchRecords}
@@ -54,19 +54,19 @@ module _ (l : Lent) where
         map = eqb-true (length (l .map)) (l .m) (ask-passed 5 (eqb (length (l .map)) (l .m)) (all-passed buffers .0 (p .1) .0));
       }
 
-  pub found-sized : found ≡ c .says → Sized
-  found-sized e = sized (not-asked (refusalOf embeddings theFirst l) refl (λ r s. let z : _≡_ {A = ℕ} 0 1 = cc in omega arith))
+  pub found-sized : gives found ≡ c .says → Sized
+  found-sized e = sized (not-asked (refusalOf embeddings theFirst l) refl (λ r s. gives-ne-refused found r (e ∙ s)))
 
-  pub nothing-sized : nothing ≡ c .says → Sized
-  nothing-sized e = sized (not-asked (refusalOf embeddings theFirst l) refl (λ r s. let z : _≡_ {A = ℕ} 0 1 = cc in omega arith))
+  pub nothing-sized : gives nothing ≡ c .says → Sized
+  nothing-sized e = sized (not-asked (refusalOf embeddings theFirst l) refl (λ r s. gives-ne-refused nothing r (e ∙ s)))
 
   -- ---- the records of each answer, once they are written
 
-  said-found : (f : List ℕ) → found ≡ c .says → f ≡ c .map → length f ≡ l .m → searchRecords l ≡ foundRecords (length f) (l .n) f
+  said-found : (f : List ℕ) → gives found ≡ c .says → f ≡ c .map → length f ≡ l .m → searchRecords l ≡ foundRecords (length f) (l .n) f
   unfolding searchRecords
   said-found f e same size = rw (← e, size, ← same)
 
-  said-nothing : nothing ≡ c .says → searchRecords l ≡ firstRecord noneWord (l .m) (l .n) ∷ []
+  said-nothing : gives nothing ≡ c .says → searchRecords l ≡ firstRecord noneWord (l .m) (l .n) ∷ []
   unfolding searchRecords noneRecords
   said-nothing e = rw (← e)
 
@@ -75,13 +75,13 @@ module _ (l : Lent) where
   said-refused r e = rw (← e)
 
   module _ (before : List ℕ) {p : ℕ} {out : List ℕ} where
-    pub found-answer : (f : List ℕ) → found ≡ c .says → f ≡ c .map → length f ≡ length (l .map)
+    pub found-answer : (f : List ℕ) → gives found ≡ c .says → f ≡ c .map → length f ≡ length (l .map)
         → p ≡ length (rowsText (foundRecords (length f) (l .n) f)) → out ≡ overwritten (rowsText (foundRecords (length f) (l .n) f)) before
         → Written before (searchRecords l) p out
     found-answer f e same kept q w =
         rw (said-found f e same (kept ∙ found-sized e .map)) (record { size = q; text = w })
 
-    pub nothing-answer : nothing ≡ c .says → 1095 ≤ length before
+    pub nothing-answer : gives nothing ≡ c .says → 1095 ≤ length before
         → p ≡ length (lineText (firstRecord noneWord (l .m) (l .n))) → out ≡ sets before 0 (lineText (firstRecord noneWord (l .m) (l .n)))
         → Written before (searchRecords l) p out
     nothing-answer e room q w =
@@ -106,8 +106,7 @@ module _ (l : Lent) where
 
   -- ---- two accepted tables and buffers of the right length
 
-  said-answered : (o : Option (List ℕ)) → saidRecords (l .m) (l .n) (answered o (l .map) (scratchOf embeddings theFirst l) .says) (answered o (l .map) (scratchOf embeddings theFirst l) .map)
-      ≡ mapRecords (l .m) (l .n) o
+  said-answered : (o : Option (List ℕ)) → saidRecords (l .m) (l .n) (gives (sought o)) (mapUnless none o (l .map)) ≡ mapRecords (l .m) (l .n) o
   said-answered none = refl
   said-answered (some f) = refl
 
@@ -117,4 +116,4 @@ module _ (l : Lent) where
   accepted-records a b size marks =
       let pass = both-pass (l .m) (l .source) (l .n) (l .target) (no-refusal (l .m) (l .source) a) (no-refusal (l .n) (l .target) b) in
       let all = none-refused (l .m) (l .source) (l .n) (l .target) (length (l .map)) (length (l .scratch)) pass size marks in
-      rw (not-refused embeddings l theFirst all) (said-answered (answerOf embeddings theFirst l))
+      rw (not-refused embeddings l theFirst all (answerOf embeddings theFirst l) refl) (said-answered (answerOf embeddings theFirst l))

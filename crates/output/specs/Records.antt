@@ -5,10 +5,9 @@ use mathlib.Core.Option.{Option, none, some}
 use Prim.Native.Nat.{ℕ}
 use Rattle.semigroups.specs.Lists.{elements, at}
 use Rattle.semigroups.specs.Questions.{Refusal, naming}
-use Rattle.semigroups.specs.Walks.{Said, refused, found, nothing}
+use Rattle.semigroups.specs.Calls.{Answer, refused, gives}
 use Rattle.csv.specs.Decimals.{numeral}
-use Rattle.semigroups.specs.Calls as answers
-use Rattle.semigroups.specs.Maps.{embeddings}
+use Rattle.semigroups.specs.Maps.{embeddings, Sought, found, nothing}
 use Rattle.search.specs.Calls.{Lent, theFirst, call}
 
 -- ---- the words of the first record, as bytes
@@ -61,9 +60,9 @@ unfoldable pub refusedRecords : Refusal → List (List (List ℕ))
 refusedRecords r = refusedRecord r ∷ []
 
 -- What a search says with the map that it leaves.
-abbrev pub saidRecords : ℕ → ℕ → Said Refusal → List ℕ → List (List (List ℕ))
-saidRecords m n found f = foundRecords m n f
-saidRecords m n nothing f = noneRecords m n
+abbrev pub saidRecords : ℕ → ℕ → Answer Sought → List ℕ → List (List (List ℕ))
+saidRecords m n (gives found) f = foundRecords m n f
+saidRecords m n (gives nothing) f = noneRecords m n
 saidRecords m n (refused r) f = refusedRecords r
 
 -- What the search for the first embedding says, from all that is lent.
@@ -71,6 +70,6 @@ unfoldable pub searchRecords : Lent → List (List (List ℕ))
 searchRecords l = let c = call embeddings theFirst l in saidRecords (l .m) (l .n) (c .says) (c .map)
 
 -- What a file's answer adds, for file 1 or 2: a refusal one record; an accepted file none.
-abbrev pub fileRecords : ℕ → answers.Answer ℕ → List (List (List ℕ))
-fileRecords side (answers.refused r) = refusedRecords (naming side r)
-fileRecords side (answers.gives n) = []
+abbrev pub fileRecords : ℕ → Answer ℕ → List (List (List ℕ))
+fileRecords side (refused r) = refusedRecords (naming side r)
+fileRecords side (gives n) = []
