@@ -57,8 +57,8 @@ demand-3 m source target a b =
     record {
       increasing = maps-increasing isomorphisms m s m t;
       exactly = maps-exactly isomorphisms m s m t;
-      walks = λ cs w. walks.walks isomorphisms m s m t (a .from-one) nextIsomorphism (refusal m) cs (answers cs w);
-      ends = λ cs w. walks.walk-ends isomorphisms m s m t (a .from-one) nextIsomorphism (refusal m) cs (answers cs w);
+      walks = λ cs w. walks.walks isomorphisms m s m t (a .filled .order .0) nextIsomorphism (refusal m) cs (answers cs w);
+      ends = λ cs w. walks.walk-ends isomorphisms m s m t (a .filled .order .0) nextIsomorphism (refusal m) cs (answers cs w);
       refused-exactly = exactly-refused;
       refused-unchanged = λ c bytes size r e. refused-unchanged isomorphisms (lentOn c bytes) theNext r (same-refusal m c bytes size ∙ e);
       answered-exactly = λ c bytes. unfold nextIsomorphism in answered-exactly isomorphisms (lentOn c bytes) theNext;

@@ -42,7 +42,7 @@ scratch-size-requires c κs =
     let z = c .before .before .before .before .before .before .before .before in
     let a = z .args in
     let accepted = tables-accepted (a .m) (a .source .now) (a .n) (a .target .now) (sym (c .before .before .before .check-pair .ensures) ∙ ap pairRefusal (c .before .enum-told .given .1)) in
-    (accepted .0 .to-limit, accepted .1 .to-limit)
+    (accepted .0 .filled .order .1, accepted .1 .filled .order .1)
 
 returns-3 : tie.Need-returns-3
 returns-3 c =
