@@ -49,8 +49,8 @@ module _ (l : Lent) where
       let p = both-passed tables buffers e in
       let both = tables-accepted (l .m) (l .source) (l .n) (l .target) (p .0) in
       record {
-        source = both .0 .to-limit;
-        target = both .1 .to-limit;
+        source = both .0 .filled .order .1;
+        target = both .1 .filled .order .1;
         map = eqb-true (length (l .map)) (l .m) (ask-passed 5 (eqb (length (l .map)) (l .m)) (all-passed buffers .0 (p .1) .0));
       }
 
