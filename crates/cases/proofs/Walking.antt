@@ -12,14 +12,17 @@ use lib.ListN.{length, take, drop, replicate, take-append-drop}
 use lib.Seq.{length-take-le}
 use Rattle.semigroups.specs.Lists.{earlier}
 use Rattle.semigroups.specs.Tables.{Product, product, IsList, Accepted}
-use Rattle.semigroups.specs.Scratch.{scratchSize}
-use Rattle.semigroups.specs.Maps.{Kind, maps, first, next, beyond, earliest}
+use Rattle.semigroups.specs.Scratch.{scratchSize, marks, scratchAfter}
+use Rattle.semigroups.specs.Candidates.{candidate}
+use Rattle.semigroups.specs.Calls.{gives, overwritten, mapUnless}
+use Rattle.semigroups.specs.Maps.{Kind, maps, first, next, beyond, earliest, sought}
 use Rattle.semigroups.proofs.Lists.{find-same}
 use Rattle.semigroups.proofs.ListOrder.{earlier-head}
 use Rattle.semigroups.proofs.Maps.{mem-maps, map-embeds, embedding-list}
 use Rattle.semigroups.proofs.Tables.{no-refusal}
+use Rattle.semigroups.proofs.Candidates.{scratch-written}
 use Rattle.tables.proofs.Questions.{both-pass}
-use Rattle.search.specs.Calls.{Called, lend, askOf, answerOf, scratchOf, answered}
+use Rattle.search.specs.Calls.{Called, lend, askOf, answerOf}
 use Rattle.search.specs.Answers.{requestOf}
 use Rattle.search.proofs.Answering.{none-refused}
 use Rattle.search.proofs.Calls.{not-refused}
@@ -74,10 +77,10 @@ module _ (isomorphisms later : Bool) (source : List ℕ) (m : ℕ) (target : Lis
   the-answer = answerOf (kindOf isomorphisms) (requestOf later) (lend source m target n (take m before) (replicate 140 7))
 
   abbrev the-scratch : List ℕ
-  the-scratch = scratchOf (kindOf isomorphisms) (requestOf later) (lend source m target n (take m before) (replicate 140 7))
+  the-scratch = scratchAfter m n (candidate (kindOf isomorphisms) m (product m source) n (product n target)) (replicate 140 7)
 
-  sought : 1 ≤ m → earliest (next (take m (behind later before))) the-maps ≡ the-answer
-  sought h = go later
+  from-zeros : 1 ≤ m → earliest (next (take m (behind later before))) the-maps ≡ the-answer
+  from-zeros h = go later
     where
       go : (b : Bool) → earliest (next (take m (behind b before))) the-maps ≡ earliest (askOf (requestOf b) (take m before)) the-maps
       go true = refl
@@ -85,41 +88,44 @@ module _ (isomorphisms later : Bool) (source : List ℕ) (m : ℕ) (target : Lis
 
   module _ (a : Accepted m source) (b : Accepted n target) (hm : m ≤ 5) (hn : n ≤ 27) (size : length before ≡ 5) where
     -- None of the questions fails.
-    called-answer : called isomorphisms later source m target n before ≡ answered the-answer (take m before) the-scratch
+    called-answer : (o : Option (List ℕ)) → the-answer ≡ o
+        → called isomorphisms later source m target n before
+        ≡ record {
+          says = gives (sought o);
+          map = mapUnless none o (take m before);
+          scratch = overwritten (marks m n (candidate (kindOf isomorphisms) m (product m source) n (product n target))) (replicate 140 7);
+        }
     unfolding scratchSize
-    called-answer =
+    called-answer o e =
         not-refused (kindOf isomorphisms) (lend source m target n (take m before) (replicate 140 7)) (requestOf later)
         (none-refused m source n target (length (take m before)) 140 (both-pass m source n target (no-refusal m source a) (no-refusal n target b))
         (length-take-le m before (let e = size in omega arith))
         (let e : m * n ≤ 5 * 27 = mul-le-mul hm hn in omega arith))
+        o e
 
     module _ (found : Bool) (after f : List ℕ) (ea : after ≡ behind later before) (e : foundAt found f ≡ earliest (next (take m after)) the-maps) where
       second-answer : the-answer ≡ foundAt found f
-      second-answer = sym (e ∙ ap (λ (l : List ℕ). earliest (next (take m l)) the-maps) ea ∙ sought (a .from-one))
+      second-answer = sym (e ∙ ap (λ (l : List ℕ). earliest (next (take m l)) the-maps) ea ∙ from-zeros (a .filled .order .0))
 
       -- The second search finds a map.
       pub second-found : found ≡ true
           → (100 ≡ saidNumber (called isomorphisms later source m target n before .says)) × (f ++ drop m before ≡ called isomorphisms later source m target n before .map ++ drop m before)
       second-found h =
-          let q : the-answer ≡ some f = second-answer ∙ ap {B = Option (List ℕ)} (λ (x : Bool). foundAt x f) h in
-          let w = called-answer ∙ ap {B = Called} (λ (o : Option (List ℕ)). answered o (take m before) the-scratch) q in
+          let w = called-answer (some f) (second-answer ∙ ap {B = Option (List ℕ)} (λ (x : Bool). foundAt x f) h) in
           (ap (λ (c : Called). saidNumber (c .says)) (sym w), ap (λ (c : Called). c .map ++ drop m before) (sym w))
 
       -- It finds none.
       pub second-none : found ≡ false
           → (0 ≡ saidNumber (called isomorphisms later source m target n before .says)) × (before ≡ called isomorphisms later source m target n before .map ++ drop m before)
       second-none h =
-          let q : the-answer ≡ none = second-answer ∙ ap {B = Option (List ℕ)} (λ (x : Bool). foundAt x f) h in
-          let w = called-answer ∙ ap {B = Called} (λ (o : Option (List ℕ)). answered o (take m before) the-scratch) q in
+          let w = called-answer none (second-answer ∙ ap {B = Option (List ℕ)} (λ (x : Bool). foundAt x f) h) in
           (ap (λ (c : Called). saidNumber (c .says)) (sym w), sym (take-append-drop m before) ∙ ap (λ (c : Called). c .map ++ drop m before) (sym w))
 
     -- The scratch buffer holds the marks either way.
     pub scratch-marked : called isomorphisms later source m target n before .scratch ≡ the-scratch
-    scratch-marked = ap (λ (c : Called). c .scratch) called-answer ∙ go the-answer
-      where
-        go : (o : Option (List ℕ)) → answered o (take m before) the-scratch .scratch ≡ the-scratch
-        go none = refl
-        go (some f) = refl
+    scratch-marked =
+        ap (λ (c : Called). c .scratch) (called-answer the-answer refl)
+        ∙ sym (scratch-written m n (candidate (kindOf isomorphisms) m (product m source) n (product n target)) (replicate 140 7))
 
 -- What is said, the map buffer and scratch agree.
 pub all-agree : (said number : ℕ) (map scratch : Bool) → said ≡ number → map ≡ true → scratch ≡ true → ((eqb said number && map) && scratch) ≡ true

@@ -7,7 +7,6 @@ use borrow.Author.Needs.{needs}
 use denote.Ref.{now}
 use lib.ListN.{length}
 use lib.Seq.{length-take-le}
-use Rattle.tables.proofs.Questions.{accepted-filled}
 use Rattle.cases.proofs.Walking.{behind, behind-next, behind-zeros, behind-long, second-found, second-none}
 use Rattle.cases.proofs.walk.expected.Statement.{statement}
 use Rattle.cases.proofs.walk.expected.Tie as tie
@@ -52,7 +51,7 @@ next-map-requires c κs =
     let s = start (c .before .before) in
     let few = s .pre .1 .1 .0 in
     let after = length-take-le _ _ (after-room (c .before .before)) in
-    (accepted-filled _ _ (s .pre .0), (accepted-filled _ _ (s .pre .1 .0), (omega arith, (after, length-take-le _ _ (map-room s)))))
+    (s .pre .0 .filled, (s .pre .1 .0 .filled, (omega arith, (after, length-take-le _ _ (map-room s)))))
 
 returns : tie.Need-returns
 returns c =

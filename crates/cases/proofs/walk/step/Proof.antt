@@ -9,7 +9,6 @@ use denote.Ref.{now}
 use lib.ListN.{length, drop}
 use lib.Seq.{length-take-le, length-front}
 use Rattle.semigroups.specs.Scratch.{scratchSize}
-use Rattle.tables.proofs.Questions.{accepted-filled}
 use Rattle.cases.specs.Said.{saidNumber}
 use Rattle.cases.proofs.Walking.{scratch-marked, all-agree}
 use borrow.Author.Needs.{needs}
@@ -49,7 +48,7 @@ slice-aggregate-write-marks : tie.Need-slice-aggregate-write-marks
 slice-aggregate-write-marks c = search needs
 
 write-marks-requires : tie.Need-write-marks-requires
-write-marks-requires c κs = let s = c .before .before .before .before .before .before .before .before .before .before .before in (accepted-filled _ _ (s .pre .0), (accepted-filled _ _ (s .pre .1 .0), marks-room s))
+write-marks-requires c κs = let s = c .before .before .before .before .before .before .before .before .before .before .before in (s .pre .0 .filled, (s .pre .1 .0 .filled, marks-room s))
 
 slice-aggregate-same : tie.Need-slice-aggregate-same
 slice-aggregate-same c =
