@@ -75,8 +75,8 @@ enough =
       scratch-room = omega arith;
     }
 
-answered : call embeddings theFirst (lent 8) .says ≡ gives (sought (answerOf embeddings theFirst (lent 8)))
-answered = demand-1 .search embeddings theFirst (lent 8) .given-exactly .1 enough
+enough-given : call embeddings theFirst (lent 8) .says ≡ gives (sought (answerOf embeddings theFirst (lent 8)))
+enough-given = demand-1 .search embeddings theFirst (lent 8) .given-exactly .1 enough
 
 -- Seven are not: question 6 is the earliest that fails, and both buffers stay as they are.
 short : refusalOf embeddings theFirst (lent 7) ≡ some (no 6 [])
