@@ -4,7 +4,7 @@ use mathlib.Core.Path.{_≡_, refl}
 use mathlib.Core.Bool.{true, false}
 use mathlib.Core.Logic.{_↔_}
 use mathlib.Core.List.{List, [], _∷_}
-use mathlib.Core.Option.{Option, none, some}
+use mathlib.Core.Option.{Option, none, some, Option·some-ne-none}
 use Prim.Native.Nat.{ℕ, zero, suc, _≤_}
 use native.Mathlib.Omega.{arith}
 use lib.ListN.{length, getD}
@@ -60,7 +60,7 @@ abbrev pub Tells : List ℕ → Option Refusal → Type 0
 Tells words q = (getD words 0 0 ≡ 0) ↔ (q ≡ none)
 
 refusal-told : (r : Refusal) → 1 ≤ r .number → Tells (refusalWords r) (some r)
-refusal-told r h = (λ e. absurd (let y : ⊥ = omega arith in y), λ e. absurd (let y : _≡_ {A = ℕ} 0 1 = cc in let x : ⊥ = omega arith in x))
+refusal-told r h = (λ e. absurd (let y : ⊥ = omega arith in y), λ e. absurd (Option·some-ne-none r e))
 
 questions-told : {q : Option Refusal} → Numbered q → Tells (questionWords q) q
 questions-told passed = (λ e. refl, λ e. refl)

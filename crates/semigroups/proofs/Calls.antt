@@ -1,5 +1,5 @@
 -- What a call says and leaves behind its questions, from its refusal. Assumes nothing.
-use mathlib.Core.Path.{_≡_, refl, ap}
+use mathlib.Core.Path.{_≡_, refl, sym, ap}
 use mathlib.Core.Logic.{_⊎_, inl, inr, _↔_}
 use mathlib.Core.List.{List}
 use mathlib.Core.Option.{Option, none, some, Option·none-ne-some, Option·some-ne-none}
@@ -23,7 +23,7 @@ module _ {A : Type 0} (value : A) where
 
   pub given-by : (q : Option Refusal) → (givenUnless q value ≡ gives value) ↔ (q ≡ none)
   given-by none = ((λ e. refl), λ e. refl)
-  given-by (some r) = ((λ e. absurd (let z : _≡_ {A = ℕ} 0 1 = cc in let y : ⊥ = omega arith in y)), λ e. absurd (Option·some-ne-none r e))
+  given-by (some r) = ((λ e. absurd (gives-ne-refused r (sym e))), λ e. absurd (Option·some-ne-none r e))
 
   -- A refusal changes no byte of a buffer that is written.
   pub refused-keeps : (q : Option Refusal) (r : Refusal) → givenUnless q value ≡ refused r → (written before : List ℕ) → writtenUnless q written before ≡ before

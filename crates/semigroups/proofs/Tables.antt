@@ -3,7 +3,7 @@
 use mathlib.Core.Path.{_≡_, refl, sym, ap, ap₂, _∙_, subst}
 use mathlib.Core.Bool.{Bool, true, false, not}
 use mathlib.Core.Logic.{_⊎_, inl, inr, ⊎-elim, _↔_}
-use mathlib.Core.Option.{Option, none, some, orElse, map-eq-none-iff}
+use mathlib.Core.Option.{Option, none, some, orElse, map-eq-none-iff, Option·none-ne-some}
 use mathlib.Core.List.{List, [], _∷_, map, List·Memᴰ·not-nil, List·Memᴰ·cases-cons}
 use Prim.Native.Nat.{ℕ, suc, _+_, _-_, _*_, _≤_, _<_}
 use native.Mathlib.Nat.{mul-le-mul-right, suc-mul}
@@ -215,5 +215,5 @@ module _ (n : ℕ) (cells : List ℕ) where
   refused r = (go judged, refusal-said r)
     where
       go : Judged → tableRefusal n cells ≡ some r → Refused n cells r
-      go (passes a) e = let q = no-refusal a in absurd (let y : _≡_ {A = ℕ} 0 1 = cc in let x : ⊥ = omega arith in x)
+      go (passes a) e = absurd (Option·none-ne-some r (sym (no-refusal a) ∙ e))
       go (fails q h) e = let w = refusal-said q h in subst (Refused n cells) (let s : q ≡ r = cc in s) h
