@@ -14,14 +14,17 @@ use lib.Seq.{length-take-le, take-at}
 use Rattle.semigroups.specs.Lists.{earlier, find, sum, count, Increasing}
 use Rattle.semigroups.specs.Tables.{Product, product, IsList, Accepted, Element}
 use Rattle.semigroups.proofs.Candidates.{size-most}
-use Rattle.semigroups.specs.Maps.{Kind, maps, first, next, beyond, earliest}
+use Rattle.semigroups.specs.Maps.{Kind, maps, first, next, beyond, earliest, sought}
 use Rattle.semigroups.proofs.Lists.{find-same, find-some, find-none}
 use Rattle.semigroups.proofs.Sums.{count-same}
 use Rattle.semigroups.proofs.ListOrder.{earlier-head, earlier-irreflexive, earlier-transitive, earlier-asymmetric}
 use Rattle.semigroups.proofs.Maps.{mem-maps, map-embeds, embedding-list, maps-increasing}
+use Rattle.semigroups.specs.Scratch.{marks}
+use Rattle.semigroups.specs.Candidates.{candidate}
+use Rattle.semigroups.specs.Calls.{gives, overwritten, mapUnless}
 use Rattle.semigroups.proofs.Tables.{no-refusal}
 use Rattle.tables.proofs.Questions.{both-pass}
-use Rattle.search.specs.Calls.{Called, lend, askOf, answerOf, scratchOf, answered}
+use Rattle.search.specs.Calls.{Called, lend, askOf, answerOf}
 use Rattle.search.specs.Answers.{requestOf}
 use Rattle.search.proofs.Answering.{none-refused}
 use Rattle.search.proofs.Calls.{not-refused}
@@ -67,14 +70,13 @@ behind-long false before e = refl
 -- ---- what is said and left
 
 -- What is said and left where something is found, and where nothing is.
-module _ (bytes scratch : List ℕ) where
-  said-answered : (o : Option (List ℕ)) → saidNumber (answered o bytes scratch .says) ≡ cond (isFound o) 100 0
-  said-answered none = refl
-  said-answered (some f) = refl
+said-answered : (o : Option (List ℕ)) → saidNumber (gives (sought o)) ≡ cond (isFound o) 100 0
+said-answered none = refl
+said-answered (some f) = refl
 
-  map-answered : (o : Option (List ℕ)) → answered o bytes scratch .map ≡ Option·getD o bytes
-  map-answered none = refl
-  map-answered (some f) = refl
+map-answered : (bytes : List ℕ) (o : Option (List ℕ)) → mapUnless none o bytes ≡ Option·getD o bytes
+map-answered bytes none = refl
+map-answered bytes (some f) = refl
 
 module _ (isomorphisms later : Bool) (source : List ℕ) (m : ℕ) (target : List ℕ) (n : ℕ) (before : List ℕ) where
   abbrev the-maps : List (List ℕ)
@@ -83,11 +85,8 @@ module _ (isomorphisms later : Bool) (source : List ℕ) (m : ℕ) (target : Lis
   abbrev the-answer : Option (List ℕ)
   the-answer = answerOf (kindOf isomorphisms) (requestOf later) (lend source m target n (take m before) (replicate 140 7))
 
-  abbrev the-scratch : List ℕ
-  the-scratch = scratchOf (kindOf isomorphisms) (requestOf later) (lend source m target n (take m before) (replicate 140 7))
-
-  sought : 1 ≤ m → earliest (next (take m (behind later before))) the-maps ≡ the-answer
-  sought h = go later
+  from-zeros : 1 ≤ m → earliest (next (take m (behind later before))) the-maps ≡ the-answer
+  from-zeros h = go later
     where
       go : (b : Bool) → earliest (next (take m (behind b before))) the-maps ≡ earliest (askOf (requestOf b) (take m before)) the-maps
       go true = refl
@@ -95,22 +94,24 @@ module _ (isomorphisms later : Bool) (source : List ℕ) (m : ℕ) (target : Lis
 
   module _ (a : Accepted m source) (b : Accepted n target) (hm : m ≤ 5) (hn : n ≤ 27) (size : length before ≡ 5) where
     -- None of the questions fails.
-    called-answer : called isomorphisms later source m target n before ≡ answered the-answer (take m before) the-scratch
+    called-answer : called isomorphisms later source m target n before
+        ≡ record { says = gives (sought the-answer); map = mapUnless none the-answer (take m before); scratch = overwritten (marks m n (candidate (kindOf isomorphisms) m (product m source) n (product n target))) (replicate 140 7) }
     called-answer =
         not-refused (kindOf isomorphisms) (lend source m target n (take m before) (replicate 140 7)) (requestOf later)
         (none-refused m source n target (length (take m before)) 140 (both-pass m source n target (no-refusal m source a) (no-refusal n target b))
         (length-take-le m before (let e = size in omega arith))
         (let e : m * n ≤ 5 * 27 = mul-le-mul hm hn in omega (arith, size-most m n)))
+        the-answer refl
 
     pub called-says : saidNumber (called isomorphisms later source m target n before .says) ≡ cond (isFound the-answer) 100 0
-    called-says = ap (λ (c : Called). saidNumber (c .says)) called-answer ∙ said-answered (take m before) the-scratch the-answer
+    called-says = ap (λ (c : Called). saidNumber (c .says)) called-answer ∙ said-answered the-answer
 
     pub called-map : called isomorphisms later source m target n before .map ≡ Option·getD the-answer (take m before)
-    called-map = ap (λ (c : Called). c .map) called-answer ∙ map-answered (take m before) the-scratch the-answer
+    called-map = ap (λ (c : Called). c .map) called-answer ∙ map-answered (take m before) the-answer
 
     module _ (after : List ℕ) (ea : after ≡ behind later before) where
       second-answer : earliest (next (take m after)) the-maps ≡ the-answer
-      second-answer = ap (λ (l : List ℕ). earliest (next (take m l)) the-maps) ea ∙ sought (a .from-one)
+      second-answer = ap (λ (l : List ℕ). earliest (next (take m l)) the-maps) ea ∙ from-zeros (a .filled .order .0)
 
       -- What the second search says and leaves.
       pub second-says : (found : Bool) → found ≡ isFound (earliest (next (take m after)) the-maps) → saidNumber (called isomorphisms later source m target n before .says) ≡ cond found 100 0

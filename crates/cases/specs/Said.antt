@@ -3,8 +3,8 @@
 use mathlib.Core.Bool.{Bool, _&&_}
 use Prim.Native.Nat.{ℕ}
 use lib.Dec.{eqb}
-use Rattle.semigroups.specs.Questions.{Refusal}
-use Rattle.semigroups.specs.Walks as walks
+use Rattle.semigroups.specs.Calls.{Answer, refused, gives}
+use Rattle.semigroups.specs.Maps.{Sought, found, nothing}
 use Rattle.plain.specs.declared.Said.{Said}
 
 -- The number and all three values are equal.
@@ -12,7 +12,7 @@ unfoldable pub sameSaid : Said → Said → Bool
 sameSaid a b = eqb (a .number) (b .number) && (eqb (a .first) (b .first) && (eqb (a .second) (b .second) && eqb (a .third) (b .third)))
 
 -- 100 for found, 0 for none, else the number of the question.
-abbrev pub saidNumber : walks.Said Refusal → ℕ
-saidNumber walks.found = 100
-saidNumber walks.nothing = 0
-saidNumber (walks.refused r) = r .number
+abbrev pub saidNumber : Answer Sought → ℕ
+saidNumber (gives found) = 100
+saidNumber (gives nothing) = 0
+saidNumber (refused r) = r .number

@@ -11,12 +11,13 @@ use lib.Seq.{take-at}
 use Rattle.semigroups.specs.Tables.{Filled}
 use Rattle.semigroups.specs.Questions.{Refusal}
 use Rattle.semigroups.proofs.Tables.{no-cells-refusal}
+use Rattle.semigroups.proofs.Calls.{gives-ne-refused}
 use Rattle.csv.specs.Tables.{orderOf, cellsOf, tableText}
 use Rattle.csv.specs.Questions.{loadRefusal}
 use Rattle.semigroups.specs.Calls.{gives, givenUnless, overwritten}
 use Rattle.csv.specs.Passing.{LoadPasses, SavePasses}
 use Rattle.csv.specs.Calls.{loadAnswer, cellsAfter, saveAnswer, textAfter}
-use Rattle.csv.specs.Rounds.{SavedLoads, LoadedSaves, Buffers, given, held, saved, loadedOrder, loadedCells, round, rounds, Unchanged}
+use Rattle.csv.specs.Rounds.{SavedLoads, LoadedSaves, Buffers, given, textHeld, saved, loadedOrder, loadedCells, round, rounds, Unchanged}
 use Rattle.csv.proofs.Writing.{overwritten-length, overwritten-twice}
 use Rattle.csv.proofs.Passing.{load-passes}
 use Rattle.csv.proofs.Loading.{Loadable, load-passed, load-given, cells-length}
@@ -27,7 +28,7 @@ use Rattle.csv.proofs.Accepted.{table-cells, table-order, table-loads, 
 
 pub not-refused : (o : Option Refusal) (x y : ℕ) → givenUnless o x ≡ gives y → (o ≡ none) × (x ≡ y)
 not-refused none x y h = (refl, cc)
-not-refused (some r) x y h = let z : _≡_ {A = ℕ} 0 1 = cc in let w : ⊥ = omega arith in absurd w
+not-refused (some r) x y h = absurd (gives-ne-refused y r (sym h))
 
 -- ---- a table saved loads as the same order and cells
 
@@ -110,20 +111,20 @@ module _ (n : ℕ) (cells before : List ℕ) (f : Filled n cells) (fits : length
   save-over b r = let g = save-given n cells b (no-cells-refusal n cells f) r in (ap given (sym (g .0)), sym (g .1))
 
   module _ (d : Buffers) (s : Settled n cells before d) where
-    held-is : held d ≡ tableText n cells
-    held-is =
+    text-held : textHeld d ≡ tableText n cells
+    text-held =
         ap (take (d .size)) (s .text)
         ∙ take-at (tableText n cells) (drop (length (tableText n cells)) before) (d .size) (sym (s .size))
 
-    reloads : Reloads n cells (held d) (d .cells)
-    reloads = rw held-is (table-reloads n cells (d .cells) f (s .room))
+    reloads : Reloads n cells (textHeld d) (d .cells)
+    reloads = rw text-held (table-reloads n cells (d .cells) f (s .room))
 
     order-is : loadedOrder d ≡ n
     order-is = ap given (reloads .order)
 
     cells-are : loadedCells d ≡ cells
     cells-are =
-        ap (λ (k : ℕ). take (k * k) (cellsAfter (held d) (d .cells))) order-is
+        ap (λ (k : ℕ). take (k * k) (cellsAfter (textHeld d) (d .cells))) order-is
         ∙ ap (take (n * n)) (reloads .same)
         ∙ take-at cells (drop (length cells) (d .cells)) (n * n) (f .size)
 

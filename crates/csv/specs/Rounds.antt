@@ -37,8 +37,8 @@ given (refused r) = 0
 given (gives x) = x
 
 -- The text that stands there.
-abbrev pub held : Buffers → List ℕ
-held b = take (b .size) (b .text)
+abbrev pub textHeld : Buffers → List ℕ
+textHeld b = take (b .size) (b .text)
 
 -- A table is saved.
 unfoldable pub saved : ℕ → List ℕ → Buffers → Buffers
@@ -46,14 +46,14 @@ saved n cells b = record { text = textAfter n cells (b .text); size = given (sav
 
 -- The order and the cells that loading the text gives.
 abbrev pub loadedOrder : Buffers → ℕ
-loadedOrder b = given (loadAnswer (held b) (b .cells))
+loadedOrder b = given (loadAnswer (textHeld b) (b .cells))
 
 abbrev pub loadedCells : Buffers → List ℕ
-loadedCells b = take (loadedOrder b * loadedOrder b) (cellsAfter (held b) (b .cells))
+loadedCells b = take (loadedOrder b * loadedOrder b) (cellsAfter (textHeld b) (b .cells))
 
 -- One round: the text is loaded, and the table that this gives is saved.
 unfoldable pub round : Buffers → Buffers
-round b = saved (loadedOrder b) (loadedCells b) (record { text = b .text; size = b .size; cells = cellsAfter (held b) (b .cells) })
+round b = saved (loadedOrder b) (loadedCells b) (record { text = b .text; size = b .size; cells = cellsAfter (textHeld b) (b .cells) })
 
 unfoldable pub rounds : ℕ → Buffers → Buffers
 rounds zero b = b
@@ -63,5 +63,5 @@ rounds (suc k) b = round (rounds k b)
 pub record Unchanged (n : ℕ) (cells : List ℕ) (first b : Buffers) : Type 0 where
   pub text : b .text ≡ first .text
   pub size : b .size ≡ first .size
-  pub order : loadAnswer (held b) (b .cells) ≡ gives n
+  pub order : loadAnswer (textHeld b) (b .cells) ≡ gives n
   pub cells-same : loadedCells b ≡ cells

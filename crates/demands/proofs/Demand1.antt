@@ -1,6 +1,5 @@
 -- Demand 1 holds. Assumes nothing.
 use mathlib.Core.Path.{_≡_, refl, ap}
-use mathlib.Core.Logic.{_⊎_}
 use mathlib.Core.List.{[], _∷_, flatMap, List·Memᴰ·head, List·Memᴰ·tail}
 use mathlib.Core.Option.{some, orElse}
 use Prim.Native.Nat.{ℕ}
@@ -10,17 +9,18 @@ use Rattle.semigroups.specs.Lists.{range, elements, at, find, firstOf, sum, cou
 use Rattle.semigroups.specs.Tables.{product, grid, isElement, associates, badCell, badTriple}
 use Rattle.semigroups.specs.Scratch.{scratchSize}
 use Rattle.semigroups.specs.Questions.{no, EarliestNo, searchQuestions, searchRefusal, cellsQuestions, cellsRefusal, tableQuestions, tableRefusal, elementQuestions, elementRefusal, tablesQuestions, tablesRefusal, checkQuestions, checkRefusal}
+use Rattle.semigroups.specs.Calls.{refused, gives}
 use Rattle.semigroups.specs.Invariants.{indexPeriod, profile}
-use Rattle.semigroups.specs.Maps.{embeddings, after}
+use Rattle.semigroups.specs.Maps.{embeddings, sought, after}
 use Rattle.semigroups.specs.MapCheck.{checkMap}
 use Rattle.semigroups.specs.Transformations.{transformations as image-lists, transformationOrder, transformation, numberOf, transformationProduct, transformationCells, transformationQuestions, transformationRefusal}
-use Rattle.semigroups.specs.Walks.{refused, found, nothing}
 use Rattle.semigroups.specs.Cases.{swap, two}
+use Rattle.semigroups.proofs.Calls.{refused-keeps}
 use Rattle.semigroups.proofs.Cases.{worked}
-use Rattle.semigroups.proofs.Passing.{cells-pass, table-passes, element-passes, tables-pass, check-passes, transformations-pass}
+use Rattle.semigroups.proofs.Passing.{cells-pass, table-passes, element-passes, tables-pass, check-passes, search-passes, transformations-pass}
 use Rattle.maps.specs.Answers.{mapCheck}
 use Rattle.transformations.specs.Answers as transformations
-use Rattle.search.specs.Calls.{Lent, lend, Called, theFirst, refusalOf, call}
+use Rattle.search.specs.Calls.{Lent, lend, Called, theFirst, refusalOf, answerOf, call}
 use Rattle.search.specs.Wanted.{Passes}
 use Rattle.search.proofs.Calls.{refused-exactly, refused-unchanged, nothing-keeps-map}
 use Rattle.csv.specs.Tables.{orderOf, cellsOf, tableText}
@@ -28,23 +28,25 @@ use Rattle.csv.specs.Questions.{loadQuestions, loadRefusal, saveQuestions, save
 use Rattle.csv.specs.Calls.{loadAnswer, cellsAfter, saveAnswer, textAfter}
 use Rattle.csv.proofs.Passing.{load-passes, save-passes}
 use Rattle.demands.specs.Demand1.{Demand1}
-use Rattle.demands.proofs.Answers.{asks, answers, refused-keeps, searches}
+use Rattle.demands.proofs.Answers.{asks, answers}
 
 pub demand-1 : Demand1
-unfolding cellsRefusal tableRefusal elementRefusal tablesRefusal checkRefusal transformationRefusal loadRefusal saveRefusal mapCheck transformations.transformationSays transformations.transformationCellsAfter loadAnswer cellsAfter saveAnswer textAfter
+unfolding cellsRefusal tableRefusal elementRefusal tablesRefusal checkRefusal searchRefusal transformationRefusal loadRefusal saveRefusal mapCheck call transformations.transformationSays transformations.transformationCellsAfter loadAnswer cellsAfter saveAnswer textAfter
 demand-1 =
     record {
       cells = λ n cells. asks (cellsQuestions n cells) (cells-pass n cells);
       table = λ n cells. asks (tableQuestions n cells) (table-passes n cells);
       two-tables = λ m source n target. asks (tablesQuestions m source n target) (tables-pass m source n target);
       element = λ n cells a. asks (elementQuestions n cells a) (element-passes n cells a);
-      index-period = λ n cells a. answers (indexPeriod n (product n cells) a) (elementQuestions n cells a) (element-passes n cells a);
-      profile-of = λ n cells a. answers (profile n (product n cells) a) (elementQuestions n cells a) (element-passes n cells a);
-      map-check = λ m source n target f. answers (checkMap m (product m source) n (product n target) f) (checkQuestions m source n target (length f)) (check-passes m source n target (length f));
-      search = searches;
-      transformation-table = λ d room. answers (transformationOrder d) (transformationQuestions d room) (transformations-pass d room);
-      load = λ t cells. answers (orderOf t) (loadQuestions t (length cells)) (load-passes t (length cells));
-      save = λ n cells text. answers (length (tableText n cells)) (saveQuestions n cells (length text)) (save-passes n cells (length text));
+      index-period = λ n cells a. answers (elementQuestions n cells a) (element-passes n cells a) (indexPeriod n (product n cells) a);
+      profile-of = λ n cells a. answers (elementQuestions n cells a) (element-passes n cells a) (profile n (product n cells) a);
+      map-check = λ m source n target f. answers (checkQuestions m source n target (length f)) (check-passes m source n target (length f)) (checkMap m (product m source) n (product n target) f);
+      search = λ kind request l.
+          answers (searchQuestions (l .m) (l .source) (l .n) (l .target) (length (l .map)) (length (l .scratch)))
+          (search-passes (l .m) (l .source) (l .n) (l .target) (length (l .map)) (length (l .scratch))) (sought (answerOf kind request l));
+      transformation-table = λ d room. answers (transformationQuestions d room) (transformations-pass d room) (transformationOrder d);
+      load = λ t cells. answers (loadQuestions t (length cells)) (load-passes t (length cells)) (orderOf t);
+      save = λ n cells text. answers (saveQuestions n cells (length text)) (save-passes n cells (length text)) (length (tableText n cells));
       search-refused = λ kind request l r e.
           let u = refused-unchanged kind l request r (refused-exactly kind l request r .0 e) in
           (ap (λ (c : Called). c .map) u, ap (λ (c : Called). c .scratch) u);
@@ -73,8 +75,8 @@ enough =
       scratch-room = omega arith;
     }
 
-answered : (call embeddings theFirst (lent 8) .says ≡ found) ⊎ (call embeddings theFirst (lent 8) .says ≡ nothing)
-answered = demand-1 .search embeddings theFirst (lent 8) .answered-exactly .1 enough
+enough-given : call embeddings theFirst (lent 8) .says ≡ gives (sought (answerOf embeddings theFirst (lent 8)))
+enough-given = demand-1 .search embeddings theFirst (lent 8) .given-exactly .1 enough
 
 -- Seven are not: question 6 is the earliest that fails, and both buffers stay as they are.
 short : refusalOf embeddings theFirst (lent 7) ≡ some (no 6 [])

@@ -9,10 +9,10 @@ use lib.ListN.{getD, replicate}
 use Rattle.semigroups.specs.Lists.{range, elements, at, all, find, firstOf, sum, count, least, member, distinct, earlier, lists, Earliest}
 use Rattle.semigroups.specs.Tables.{product, grid, isElement, badCell}
 use Rattle.semigroups.specs.Invariants.{power, periodFrom, IsIndexPeriod, index, period, indexPeriod, profile}
-use Rattle.semigroups.specs.Maps.{isHomomorphism, isEmbedding, embeddings, after}
+use Rattle.semigroups.specs.Maps.{isHomomorphism, isEmbedding, embeddings, after, found}
+use Rattle.semigroups.specs.Calls.{gives}
 use Rattle.semigroups.specs.Transformations.{transformations, transformationOrder, transformation, numberOf, transformationProduct, transformationCells}
 use Rattle.semigroups.specs.Passing.{ElementPasses}
-use Rattle.semigroups.specs.Walks.{found}
 use Rattle.semigroups.specs.Cases.{swap, two, mat5}
 use Rattle.semigroups.proofs.Tables.{accepted-closed}
 use Rattle.semigroups.proofs.ListOrder.{earlier-exactly}
@@ -66,7 +66,7 @@ swap-wanted : Wanted embeddings (lent 8) theFirst (2 ∷ 3 ∷ [])
 unfolding lent two range elements at all sum count member distinct earlier lists product grid isElement isHomomorphism isEmbedding after transformations transformationOrder transformation numberOf transformationProduct transformationCells flatMap
 swap-wanted = is-embedding (swap .order) (product (swap .order) (swap .cells)) (two .order) (product (two .order) (two .cells)) (2 ∷ 3 ∷ []) refl
 
-swap-found : call embeddings theFirst (lent 8) .says ≡ found
+swap-found : call embeddings theFirst (lent 8) .says ≡ gives found
 swap-found = demand-2 .wanted-found embeddings theFirst (lent 8) enough (2 ∷ 3 ∷ []) swap-wanted
 
 swap-earliest : Earliest (Wanted embeddings (lent 8) theFirst) (call embeddings theFirst (lent 8) .map)

@@ -8,10 +8,10 @@ use Prim.Native.Nat.{ℕ, _*_, _≤_, _<_}
 use lib.ListN.{length, getD}
 use Rattle.semigroups.specs.Lists.{earlier, Earlier, Earliest}
 use Rattle.semigroups.specs.Tables.{product}
+use Rattle.semigroups.specs.Calls.{gives}
 use Rattle.semigroups.specs.Invariants.{IsIndexPeriod, indexPeriod, frequency, diagonalFrequency, rowFrequency, columnFrequency, profile}
-use Rattle.semigroups.specs.Maps.{Kind}
+use Rattle.semigroups.specs.Maps.{Kind, found, nothing}
 use Rattle.semigroups.specs.Passing.{ElementPasses}
-use Rattle.semigroups.specs.Walks.{found, nothing}
 use Rattle.search.specs.Calls.{Lent, Request, call}
 use Rattle.search.specs.Wanted.{Passes, Wanted}
 use Rattle.csv.specs.Tables.{orderOf, cellsOf}
@@ -22,13 +22,13 @@ pub record Demand2 : Type 0 where
   -- By the definitions of arXiv 1603.06204, for two accepted tables the map given is the earliest embedding. The same holds for isomorphisms, and for
   -- the earliest one later than a list handed in: a call finds a map exactly if it is the earliest of its kind that is wanted.
   pub found-exactly : (kind : Kind) (request : Request) (l : Lent) → Passes l → (f : List ℕ)
-      → ((call kind request l .says ≡ found) × (call kind request l .map ≡ f)) ↔ Earliest (Wanted kind l request) f
+      → ((call kind request l .says ≡ gives found) × (call kind request l .map ≡ f)) ↔ Earliest (Wanted kind l request) f
   -- Lists are compared entry by entry from the front.
   pub list-order : (a b : List ℕ) → (earlier a b ≡ true) ↔ Earlier a b
   -- "None" means that no embedding exists, and the same of the others: a call says it exactly if no map is wanted;
-  pub none-exactly : (kind : Kind) (request : Request) (l : Lent) → Passes l → (call kind request l .says ≡ nothing) ↔ ((f : List ℕ) → Wanted kind l request f → ⊥)
+  pub none-exactly : (kind : Kind) (request : Request) (l : Lent) → Passes l → (call kind request l .says ≡ gives nothing) ↔ ((f : List ℕ) → Wanted kind l request f → ⊥)
   -- and where one is, a map is found.
-  pub wanted-found : (kind : Kind) (request : Request) (l : Lent) → Passes l → (f : List ℕ) → Wanted kind l request f → call kind request l .says ≡ found
+  pub wanted-found : (kind : Kind) (request : Request) (l : Lent) → Passes l → (f : List ℕ) → Wanted kind l request f → call kind request l .says ≡ gives found
   -- Index, period and profile are as counted there.
   pub index-period : (n : ℕ) (cells : List ℕ) (a : ℕ) → ElementPasses n cells a → (p r : ℕ)
       → ((indexPeriod n (product n cells) a .index ≡ p) × (indexPeriod n (product n cells) a .period ≡ r)) ↔ IsIndexPeriod (product n cells) a p r

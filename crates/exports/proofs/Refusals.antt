@@ -4,7 +4,7 @@ use mathlib.Core.Path.{_≡_, refl}
 use mathlib.Core.Bool.{true, false}
 use mathlib.Core.Logic.{_↔_}
 use mathlib.Core.List.{List, [], _∷_}
-use mathlib.Core.Option.{Option, none, some}
+use mathlib.Core.Option.{Option, none, some, Option·some-ne-none}
 use Prim.Native.Nat.{ℕ, zero, suc, _≤_}
 use native.Mathlib.Omega.{arith}
 use lib.ListN.{length, getD}
@@ -13,7 +13,7 @@ use Rattle.semigroups.specs.Tables.{product}
 use Rattle.semigroups.specs.Questions.{Question, Refusal, firstNo, numbers, tableQuestions, tableRefusal, elementQuestions, elementRefusal, checkQuestions, checkRefusal, searchQuestions, searchRefusal}
 use Rattle.semigroups.specs.Transformations.{transformationOrder, transformationQuestions, transformationRefusal}
 use Rattle.semigroups.specs.Calls.{givenUnless}
-use Rattle.semigroups.specs.Maps.{Kind}
+use Rattle.semigroups.specs.Maps.{Kind, sought}
 use Rattle.semigroups.specs.MapCheck.{checkMap}
 use Rattle.semigroups.proofs.Booleans.{clash}
 use Rattle.semigroups.proofs.Questions.{number-listed, Listed, listed}
@@ -23,8 +23,8 @@ use Rattle.csv.specs.Tables.{orderOf, tableText}
 use Rattle.csv.specs.Questions.{sizeQuestions, loadQuestions, loadRefusal, saveQuestions, saveRefusal}
 use Rattle.csv.specs.Calls.{loadAnswer, saveAnswer}
 use Rattle.csv.proofs.Loading.{load-listed}
-use Rattle.search.specs.Calls.{Lent, Request, refusalOf, answerOf, scratchOf, answered, asked, call}
-use Rattle.exports.specs.Answers.{refusalWords, questionWords, answerWords, searchWords, checkedValues, numberValues}
+use Rattle.search.specs.Calls.{Lent, Request, refusalOf, answerOf, call}
+use Rattle.exports.specs.Answers.{refusalWords, questionWords, answerWords, checkedValues, soughtValues, numberValues}
 
 -- No question fails, or one with a number from 1 on.
 data Numbered : Option Refusal → Type 0 where
@@ -60,7 +60,7 @@ abbrev pub Tells : List ℕ → Option Refusal → Type 0
 Tells words q = (getD words 0 0 ≡ 0) ↔ (q ≡ none)
 
 refusal-told : (r : Refusal) → 1 ≤ r .number → Tells (refusalWords r) (some r)
-refusal-told r h = (λ e. absurd (let y : ⊥ = omega arith in y), λ e. absurd (let y : _≡_ {A = ℕ} 0 1 = cc in let x : ⊥ = omega arith in x))
+refusal-told r h = (λ e. absurd (let y : ⊥ = omega arith in y), λ e. absurd (Option·some-ne-none r e))
 
 questions-told : {q : Option Refusal} → Numbered q → Tells (questionWords q) q
 questions-told passed = (λ e. refl, λ e. refl)
@@ -69,11 +69,6 @@ questions-told (failed r h) = refusal-told r h
 answer-told : {A : Type 0} (values : A → List ℕ) (x : A) {q : Option Refusal} → Numbered q → Tells (answerWords values (givenUnless q x)) q
 answer-told values x passed = (λ e. refl, λ e. refl)
 answer-told values x (failed r h) = refusal-told r h
-
-said-told : (l : Lent) (o : Option (List ℕ)) (map scratch : List ℕ) {q : Option Refusal} → Numbered q → Tells (searchWords (asked q l (answered o map scratch) .says)) q
-said-told l none map scratch passed = (λ e. refl, λ e. refl)
-said-told l (some f) map scratch passed = (λ e. refl, λ e. refl)
-said-told l o map scratch (failed r h) = refusal-told r h
 
 pub table-told : (n : ℕ) (cells : List ℕ) → Tells (questionWords (tableRefusal n cells)) (tableRefusal n cells)
 unfolding tableRefusal member
@@ -87,10 +82,10 @@ pub map-told : (m : ℕ) (source : List ℕ) (n : ℕ) (target f : List ℕ) →
 unfolding mapCheck checkRefusal member
 map-told m source n target f = answer-told checkedValues (checkMap m (product m source) n (product n target) f) (numbered (checkQuestions m source n target (length f)) refl)
 
-pub search-told : (kind : Kind) (request : Request) (l : Lent) → Tells (searchWords (call kind request l .says)) (refusalOf kind request l)
+pub search-told : (kind : Kind) (request : Request) (l : Lent) → Tells (answerWords soughtValues (call kind request l .says)) (refusalOf kind request l)
 unfolding call searchRefusal member
 search-told kind request l =
-    said-told l (answerOf kind request l) (l .map) (scratchOf kind request l) (numbered (searchQuestions (l .m) (l .source) (l .n) (l .target) (length (l .map)) (length (l .scratch))) refl)
+    answer-told soughtValues (sought (answerOf kind request l)) (numbered (searchQuestions (l .m) (l .source) (l .n) (l .target) (length (l .map)) (length (l .scratch))) refl)
 
 pub transformations-told : (d size : ℕ) → Tells (answerWords numberValues (transformationSays d size)) (transformationRefusal d size)
 unfolding transformationSays transformationRefusal member

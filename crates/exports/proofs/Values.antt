@@ -1,13 +1,12 @@
--- An answer is sixteen numbers exactly where at most fourteen values follow the number and the side; no value is cut; and the numbers of a brief
--- refusal say it whole. Assumes nothing.
+-- An answer is sixteen numbers exactly where at most fourteen values follow the number and the side; and the numbers of a brief refusal say it whole. Assumes nothing.
 use mathlib.Core.Path.{_≡_, refl, ap, _∙_, sym}
 use mathlib.Core.Logic.{_↔_}
 use mathlib.Core.List.{List, [], _∷_, _++_, append-assoc}
 use Prim.Native.Nat.{ℕ, suc, _+_, _-_, _≤_, _<_}
 use native.Mathlib.Omega.{arith}
 use native.Mathlib.Numerals.{add-one}
-use lib.ListN.{length, getD, take, drop, set, replicate, length-append, length-replicate}
-use lib.Seq.{take-at, take-suc, length-take-le, set-append-seam}
+use lib.ListN.{length, getD, take, set, replicate, length-append, length-replicate}
+use lib.Seq.{take-suc, length-take-le, set-append-seam}
 use Rattle.semigroups.specs.Questions.{Refusal, naming}
 use Rattle.tables.specs.Answers.{sideOf, refusalNumbers, numbersNaming, Brief}
 use Rattle.tables.specs.declared.Refusal.{Refusal as Numbers}
@@ -22,9 +21,6 @@ module _ (number side : ℕ) where
 
     pub sixteen : (length (words number side values) ≡ 16) ↔ (length values ≤ 14)
     sixteen = (λ e. let l = long in omega arith, λ few. let l = long in omega arith)
-
-    pub values-kept : take (length values) (drop 2 (words number side values)) ≡ values
-    values-kept = take-at values (replicate (14 - length values) 0) (length values) refl
 
   -- ---- one value more
 

@@ -8,7 +8,7 @@ use Rattle.semigroups.specs.Questions.{Refusal}
 use Rattle.semigroups.specs.Calls.{Answer, refused, gives}
 use Rattle.semigroups.specs.Invariants.{IndexPeriod, Profile}
 use Rattle.semigroups.specs.MapCheck.{Checked, holds, outside, equalImages, wrongProduct}
-use Rattle.semigroups.specs.Walks as walks
+use Rattle.semigroups.specs.Maps.{Sought, found, nothing}
 use Rattle.tables.specs.Answers.{sideOf}
 use Rattle.tables.specs.declared.Refusal.{Refusal as Numbers}
 
@@ -42,12 +42,6 @@ abbrev pub answerWords : {A : Type 0} → (A → List ℕ) → Answer A → List
 answerWords values (refused r) = refusalWords r
 answerWords values (gives x) = valueWords (values x)
 
--- Of a search: 1 for found, 0 for none.
-abbrev pub searchWords : walks.Said Refusal → List ℕ
-searchWords (walks.refused r) = refusalWords r
-searchWords walks.found = valueWords (1 ∷ [])
-searchWords walks.nothing = valueWords (0 ∷ [])
-
 -- ---- values
 
 -- The two numbers of an index-period.
@@ -64,6 +58,11 @@ checkedValues holds = 0 ∷ []
 checkedValues (outside i) = 1 ∷ i ∷ []
 checkedValues (equalImages pair) = 2 ∷ pair
 checkedValues (wrongProduct pair) = 3 ∷ pair
+
+-- 1 for found, 0 for none.
+abbrev pub soughtValues : Sought → List ℕ
+soughtValues found = 1 ∷ []
+soughtValues nothing = 0 ∷ []
 
 -- An order or a length.
 abbrev pub numberValues : ℕ → List ℕ

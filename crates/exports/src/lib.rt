@@ -16,7 +16,7 @@ ghost use Rattle.search.specs.Answers.{searchAnswerSays};
 ghost use Rattle.transformations.specs.Answers.{transformationSays, transformationCellsAfter, transformationAnswerSays};
 ghost use Rattle.csv.specs.Calls.{loadAnswer, cellsAfter, saveAnswer, textAfter};
 ghost use Rattle.text.specs.Answers.{loadedAnswer, savedAnswer};
-ghost use Rattle.exports.specs.Answers.{words, numbersWords, questionWords, answerWords, searchWords, indexPeriodValues, profileValues, checkedValues, numberValues};
+ghost use Rattle.exports.specs.Answers.{words, numbersWords, questionWords, answerWords, indexPeriodValues, profileValues, checkedValues, soughtValues, numberValues};
 use invariants::IndexPeriodAnswer;
 use invariants::ProfileAnswer;
 use maps::MapAnswer;
@@ -104,7 +104,7 @@ fn map_words(said: MapAnswer) -> [u64; 16]
 }
 
 fn search_words(said: SearchAnswer) -> [u64; 16]
-    ensures answer { λ r. ⌜ r ≡ searchWords (searchAnswerSays said) ⌝ }
+    ensures answer { λ r. ⌜ r ≡ answerWords soughtValues (searchAnswerSays said) ⌝ }
 {
     match said {
         SearchAnswer::Found => words(0, 0, &[1]),
@@ -209,7 +209,7 @@ pub extern "C" fn tickdrizzle_first_embedding(
     scratch: &mut [u8],
     answer: &mut [u64; 16],
 )
-    ensures answer { λ _. ⌜ now (answer .exit) ≡ searchWords (call embeddings theFirst (lend (now (source .entry)) m (now (target .entry)) n (now (map .entry)) (now (scratch .entry))) .says) ⌝ }
+    ensures answer { λ _. ⌜ now (answer .exit) ≡ answerWords soughtValues (call embeddings theFirst (lend (now (source .entry)) m (now (target .entry)) n (now (map .entry)) (now (scratch .entry))) .says) ⌝ }
     ensures map { λ _. ⌜ now (map .exit) ≡ call embeddings theFirst (lend (now (source .entry)) m (now (target .entry)) n (now (map .entry)) (now (scratch .entry))) .map ⌝ }
     ensures scratch { λ _. ⌜ now (scratch .exit) ≡ call embeddings theFirst (lend (now (source .entry)) m (now (target .entry)) n (now (map .entry)) (now (scratch .entry))) .scratch ⌝ }
 {
@@ -227,7 +227,7 @@ pub extern "C" fn tickdrizzle_next_embedding(
     scratch: &mut [u8],
     answer: &mut [u64; 16],
 )
-    ensures answer { λ _. ⌜ now (answer .exit) ≡ searchWords (call embeddings theNext (lend (now (source .entry)) m (now (target .entry)) n (now (map .entry)) (now (scratch .entry))) .says) ⌝ }
+    ensures answer { λ _. ⌜ now (answer .exit) ≡ answerWords soughtValues (call embeddings theNext (lend (now (source .entry)) m (now (target .entry)) n (now (map .entry)) (now (scratch .entry))) .says) ⌝ }
     ensures map { λ _. ⌜ now (map .exit) ≡ call embeddings theNext (lend (now (source .entry)) m (now (target .entry)) n (now (map .entry)) (now (scratch .entry))) .map ⌝ }
     ensures scratch { λ _. ⌜ now (scratch .exit) ≡ call embeddings theNext (lend (now (source .entry)) m (now (target .entry)) n (now (map .entry)) (now (scratch .entry))) .scratch ⌝ }
 {
@@ -245,7 +245,7 @@ pub extern "C" fn tickdrizzle_first_isomorphism(
     scratch: &mut [u8],
     answer: &mut [u64; 16],
 )
-    ensures answer { λ _. ⌜ now (answer .exit) ≡ searchWords (call isomorphisms theFirst (lend (now (source .entry)) m (now (target .entry)) n (now (map .entry)) (now (scratch .entry))) .says) ⌝ }
+    ensures answer { λ _. ⌜ now (answer .exit) ≡ answerWords soughtValues (call isomorphisms theFirst (lend (now (source .entry)) m (now (target .entry)) n (now (map .entry)) (now (scratch .entry))) .says) ⌝ }
     ensures map { λ _. ⌜ now (map .exit) ≡ call isomorphisms theFirst (lend (now (source .entry)) m (now (target .entry)) n (now (map .entry)) (now (scratch .entry))) .map ⌝ }
     ensures scratch { λ _. ⌜ now (scratch .exit) ≡ call isomorphisms theFirst (lend (now (source .entry)) m (now (target .entry)) n (now (map .entry)) (now (scratch .entry))) .scratch ⌝ }
 {
@@ -263,7 +263,7 @@ pub extern "C" fn tickdrizzle_next_isomorphism(
     scratch: &mut [u8],
     answer: &mut [u64; 16],
 )
-    ensures answer { λ _. ⌜ now (answer .exit) ≡ searchWords (call isomorphisms theNext (lend (now (source .entry)) m (now (target .entry)) n (now (map .entry)) (now (scratch .entry))) .says) ⌝ }
+    ensures answer { λ _. ⌜ now (answer .exit) ≡ answerWords soughtValues (call isomorphisms theNext (lend (now (source .entry)) m (now (target .entry)) n (now (map .entry)) (now (scratch .entry))) .says) ⌝ }
     ensures map { λ _. ⌜ now (map .exit) ≡ call isomorphisms theNext (lend (now (source .entry)) m (now (target .entry)) n (now (map .entry)) (now (scratch .entry))) .map ⌝ }
     ensures scratch { λ _. ⌜ now (scratch .exit) ≡ call isomorphisms theNext (lend (now (source .entry)) m (now (target .entry)) n (now (map .entry)) (now (scratch .entry))) .scratch ⌝ }
 {

@@ -14,7 +14,7 @@ use Rattle.semigroups.proofs.Questions.{ask-passed, all-passed, failed-before, 
 
 -- A table with no failed question is filled.
 pub table-filled : (n : ℕ) (cells : List ℕ) → tableRefusal n cells ≡ none → Filled n cells
-table-filled n cells e = let t = accepted n cells e in record { order = (t .from-one, t .to-limit); size = t .size; in-range = t .in-range }
+table-filled n cells e = accepted n cells e .filled
 
 module _ (n : ℕ) (cells : List ℕ) (a : ℕ) where
   abbrev element : Question

@@ -9,12 +9,11 @@ use lib.ListN.{length}
 use lib.Seq.{sets}
 use Rattle.semigroups.specs.Tables.{Accepted}
 use Rattle.semigroups.specs.Scratch.{scratchSize}
-use Rattle.semigroups.specs.Maps.{embeddings}
-use Rattle.semigroups.specs.Walks.{found}
-use Rattle.semigroups.specs.Calls.{overwritten}
+use Rattle.semigroups.specs.Maps.{embeddings, found, sought}
+use Rattle.semigroups.specs.Calls.{overwritten, gives, mapUnless}
 use Rattle.semigroups.proofs.Tables.{no-refusal}
 use Rattle.tables.proofs.Questions.{both-pass}
-use Rattle.search.specs.Calls.{Called, theFirst, lend, answerOf, scratchOf, answered, call}
+use Rattle.search.specs.Calls.{Called, theFirst, lend, answerOf, marksOf, call}
 use Rattle.search.specs.Answers.{searchAnswerSays}
 use Rattle.search.specs.declared.SearchAnswer.{SearchAnswer}
 use Rattle.search.specs.declared.SearchAnswer.the-variants.{Found, Nothing, Refused, MapLength, ScratchLength}
@@ -26,12 +25,12 @@ use Rattle.output.specs.Program.{mapRecords, answerRecords}
 use Rattle.output.proofs.Records.{Written, one-written, first-short}
 
 -- What is said where something was looked for: found with this map, or nothing.
-module _ (m n : ℕ) (bytes scratch : List ℕ) where
-  found-map : (o : Option (List ℕ)) → found ≡ answered o bytes scratch .says → mapRecords m n o ≡ foundRecords m n (answered o bytes scratch .map)
+module _ (m n : ℕ) (bytes : List ℕ) where
+  found-map : (o : Option (List ℕ)) → gives found ≡ gives (sought o) → mapRecords m n o ≡ foundRecords m n (mapUnless none o bytes)
   found-map none e = let z : _≡_ {A = ℕ} 0 1 = cc in let w : ⊥ = omega arith in absurd w
   found-map (some f) e = refl
 
-  not-found : (o : Option (List ℕ)) (said : SearchAnswer) → (said ≡ Found → ⊥) → searchAnswerSays said ≡ answered o bytes scratch .says → mapRecords m n o ≡ noneRecords m n
+  not-found : (o : Option (List ℕ)) (said : SearchAnswer) → (said ≡ Found → ⊥) → searchAnswerSays said ≡ gives (sought o) → mapRecords m n o ≡ noneRecords m n
   not-found none said h e = refl
   not-found (some f) Found h e = absurd (h refl)
   not-found (some f) Nothing h e = let z : _≡_ {A = ℕ} 0 1 = cc in let w : ⊥ = omega arith in absurd w
@@ -44,29 +43,26 @@ module _ (source : List ℕ) (m : ℕ) (target : List ℕ) (n : ℕ) (map scratc
   abbrev c : Called
   c = call embeddings theFirst (lend source m target n map scratch)
 
-  abbrev left : List ℕ
-  left = scratchOf embeddings theFirst (lend source m target n map scratch)
-
   abbrev earliest-map : Option (List ℕ)
   earliest-map = answerOf embeddings theFirst (lend source m target n map scratch)
 
-  answers : c ≡ answered earliest-map map left
+  answers : c ≡ record { says = gives (sought earliest-map); map = mapUnless none earliest-map map; scratch = overwritten (marksOf embeddings theFirst (lend source m target n map scratch)) scratch }
   answers =
       let pass = both-pass m source n target (no-refusal m source a) (no-refusal n target b) in
-      not-refused embeddings (lend source m target n map scratch) theFirst (none-refused m source n target (length map) (length scratch) pass size marks)
+      not-refused embeddings (lend source m target n map scratch) theFirst (none-refused m source n target (length map) (length scratch) pass size marks) earliest-map refl
 
-  found-records : found ≡ c .says → answerRecords m source n target ≡ foundRecords m n (c .map)
+  found-records : gives found ≡ c .says → answerRecords m source n target ≡ foundRecords m n (c .map)
   unfolding answerRecords
-  found-records = rw answers (found-map m n map left earliest-map)
+  found-records = rw answers (found-map m n map earliest-map)
 
   none-records : (said : SearchAnswer) → (said ≡ Found → ⊥) → searchAnswerSays said ≡ c .says → answerRecords m source n target ≡ firstRecord noneWord m n ∷ []
   unfolding answerRecords noneRecords
-  none-records = rw answers (not-found m n map left earliest-map)
+  none-records = rw answers (not-found m n map earliest-map)
 
   -- ---- once the records are written
 
   module _ (before : List ℕ) {p : ℕ} {out : List ℕ} where
-    pub found-answer : (f : List ℕ) → found ≡ c .says → f ≡ c .map → length f ≡ m
+    pub found-answer : (f : List ℕ) → gives found ≡ c .says → f ≡ c .map → length f ≡ m
         → p ≡ length (rowsText (foundRecords (length f) n f)) → out ≡ overwritten (rowsText (foundRecords (length f) n f)) before
         → Written before (answerRecords m source n target) p out
     found-answer f e same whole q w = rw (found-records e, ← same, ← whole) (record { size = q; text = w })

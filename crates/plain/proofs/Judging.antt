@@ -8,7 +8,7 @@ use Rattle.semigroups.specs.Questions.{Refusal, Refused, tableRefusal, wrong-or
 use Rattle.semigroups.specs.Tables.{Filled, Accepted, badCell}
 use Rattle.semigroups.proofs.Lists.{find-some, mem-range}
 use Rattle.semigroups.proofs.Tables.{accepted, refused}
-use Rattle.tables.proofs.Questions.{accepted-filled, cells-refused}
+use Rattle.tables.proofs.Questions.{cells-refused}
 use Rattle.plain.specs.declared.Said.{Said}
 use Rattle.plain.specs.Said.{refusalSaid, saidOf}
 
@@ -49,4 +49,4 @@ module _ (n : ℕ) (cells : List ℕ) where
       go (some q) w h = absurd (number-positive (refused n cells q .0 w) h)
 
   pub judged-filled : (r : Said) → r ≡ saidOf (tableRefusal n cells) → r .number ≡ 0 → Filled n cells
-  judged-filled r e z = accepted-filled n cells (judged-accepted r e z)
+  judged-filled r e z = judged-accepted r e z .filled

@@ -12,20 +12,21 @@ use Rattle.semigroups.specs.Lists.{at, find, firstOf}
 use Rattle.semigroups.specs.Tables.{Product, product, Element, Closed}
 use Rattle.semigroups.specs.Scratch.{scratchSize, marked}
 use Rattle.semigroups.specs.Questions.{Question, ask, Refusal, no, firstNo, tablesQuestions, tablesRefusal, searchRefusal}
-use Rattle.semigroups.specs.Calls.{scratchAfter}
-use Rattle.semigroups.specs.Maps.{Embedding, Kind, embeddings, isomorphisms, maps, Ask, earliest}
+use Rattle.semigroups.specs.Calls.{scratchAfter, gives, mapUnless}
+use Rattle.semigroups.specs.Maps.{Embedding, Kind, embeddings, isomorphisms, maps, Ask, earliest, sought}
 use Rattle.semigroups.specs.Candidates.{candidate}
 use Rattle.semigroups.specs.Search.{search as searched}
 use Rattle.semigroups.proofs.Questions.{failed-before, passed-before}
 use Rattle.semigroups.proofs.Maps.{map-embeds, earliest-found, no-embedding, no-isomorphism, one-order}
-use Rattle.semigroups.proofs.Candidates.{index-period-sound, profile-sound, marked-candidate}
+use Rattle.semigroups.proofs.Candidates.{index-period-sound, profile-sound, scratch-written, marked-candidate}
 use Rattle.semigroups.proofs.Search.{search-earliest}
-use Rattle.semigroups.specs.Walks.{found, nothing}
 use Rattle.backtrack.specs.declared.Found.{Found}
 use Rattle.backtrack.specs.State.{foundIn, bounded}
 use Rattle.backtrack.proofs.Extending.{none-found}
-use Rattle.search.specs.Calls.{Lent, Request, askOf, answerOf, scratchOf, answered}
+use Rattle.search.specs.Calls.{Lent, Called, Request, askOf, answerOf, call}
+use Rattle.search.specs.Wanted.{Passes}
 use Rattle.search.specs.Answers.{requestOf, orderFits}
+use Rattle.search.proofs.Calls.{not-refused, passed}
 
 -- ---- the questions
 
@@ -109,7 +110,7 @@ module _ (kind : Kind) (later : Bool) (l : Lent) (source : Closed (l .m) (produc
   answer-unfit e = unfit kind (l .m) (product (l .m) (l .source)) (l .n) (product (l .n) (l .target)) e (askOf request (l .map))
 
   -- Else the map that the marked search finds is the map asked for.
-  module _ (fits : orderFits kind (l .m) (l .n) ≡ true) (scratch : List ℕ) (filled : scratch ≡ scratchOf kind request l) (r : Found)
+  module _ (fits : orderFits kind (l .m) (l .n) ≡ true) (scratch : List ℕ) (filled : scratch ≡ scratchAfter (l .m) (l .n) (candidate kind (l .m) (product (l .m) (l .source)) (l .n) (product (l .n) (l .target))) (l .scratch)) (r : Found)
       (finding : r ≡ foundIn (searched (product (l .m) (l .source)) (product (l .n) (l .target)) (marked (l .n) scratch) (bounded later (l .map)) (l .n) (l .m) [])) where
     answer-found : r ≡ foundIn (answerOf kind request l)
     answer-found =
@@ -134,16 +135,17 @@ module _ (kind : Kind) (later : Bool) (l : Lent) (source : Closed (l .m) (produc
 
 -- ---- what is said and left
 
-module _ (o : Option (List ℕ)) (bytes scratch : List ℕ) where
-  pub nothing-left : o ≡ none → (nothing ≡ answered o bytes scratch .says) × (bytes ≡ answered o bytes scratch .map)
-  nothing-left e = (ap (λ (q : Option (List ℕ)). answered q bytes scratch .says) (sym e), ap (λ (q : Option (List ℕ)). answered q bytes scratch .map) (sym e))
+-- Scratch and the map buffer as they are left where no question fails.
+pub record Left (kind : Kind) (request : Request) (l : Lent) (o : Option (List ℕ)) : Type 0 where
+  pub says : gives (sought o) ≡ call kind request l .says
+  pub map : mapUnless none o (l .map) ≡ call kind request l .map
+  pub scratch : scratchAfter (l .m) (l .n) (candidate kind (l .m) (product (l .m) (l .source)) (l .n) (product (l .n) (l .target))) (l .scratch) ≡ call kind request l .scratch
 
-  pub found-left : (f : List ℕ) → o ≡ some f → (found ≡ answered o bytes scratch .says) × (f ≡ answered o bytes scratch .map)
-  found-left f e = (ap (λ (q : Option (List ℕ)). answered q bytes scratch .says) (sym e), ap (λ (q : Option (List ℕ)). answered q bytes scratch .map) (sym e))
-
-  pub scratch-left : answered o bytes scratch .scratch ≡ scratch
-  scratch-left = go o
-    where
-      go : (q : Option (List ℕ)) → answered q bytes scratch .scratch ≡ scratch
-      go none = refl
-      go (some f) = refl
+pub left : (kind : Kind) (request : Request) (l : Lent) → Passes l → (o : Option (List ℕ)) → answerOf kind request l ≡ o → Left kind request l o
+left kind request l p o e =
+    let w = sym (not-refused kind l request (passed kind l request p) o e) in
+    record {
+      says = ap (λ (c : Called). c .says) w;
+      map = ap (λ (c : Called). c .map) w;
+      scratch = scratch-written (l .m) (l .n) (candidate kind (l .m) (product (l .m) (l .source)) (l .n) (product (l .n) (l .target))) (l .scratch) ∙ ap (λ (c : Called). c .scratch) w;
+    }

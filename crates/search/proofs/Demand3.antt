@@ -9,15 +9,16 @@ use Rattle.semigroups.specs.Lists.{range, elements, at, all, find, keep, firstO
 use Rattle.semigroups.specs.Tables.{product, grid, Accepted, isElement, associates, badCell, badTriple}
 use Rattle.semigroups.specs.Scratch.{scratchSize}
 use Rattle.semigroups.specs.Questions.{Refusal, no, naming, searchRefusal}
-use Rattle.semigroups.specs.Maps.{isHomomorphism, isEmbedding, isIsomorphism, isomorphisms, maps, next, earliest, after}
-use Rattle.semigroups.specs.Walks.{refused, found, nothing, Outcome, held, outcomeOf, nextOutcome, walk, claim, finally}
+use Rattle.semigroups.specs.Calls.{refused, gives, givenUnless, mapUnless}
+use Rattle.semigroups.specs.Maps.{isHomomorphism, isEmbedding, isIsomorphism, isomorphisms, maps, next, earliest, found, nothing, sought, after}
+use Rattle.semigroups.specs.Walks.{Outcome, held, nextOutcome, walk, claim, finally}
 use Rattle.semigroups.specs.Transformations.{transformations, transformationOrder, transformation, numberOf, transformationProduct, transformationCells}
 use Rattle.semigroups.specs.Cases.{swap, left, right, two}
 use Rattle.semigroups.proofs.Tables.{accepted-closed}
 use Rattle.semigroups.proofs.Walks.{held-start}
 use Rattle.semigroups.proofs.Cases.{worked}
 use Rattle.semigroups.proofs.Maps.{maps-increasing, maps-exactly}
-use Rattle.search.specs.Calls.{Called, theNext, refusalOf, answerOf, scratchOf, answered, asked, call}
+use Rattle.search.specs.Calls.{theNext, refusalOf, answerOf, call}
 use Rattle.search.specs.Walks.{Beside, lentOn, nextIsomorphism, refusal, Lends, IsWalk, zeros, fullList, Demand3}
 use Rattle.search.proofs.Calls.{refused-exactly, refused-unchanged, answered-exactly}
 use Rattle.semigroups.proofs.Isomorphisms as iso
@@ -33,18 +34,10 @@ next-answers : (m : ℕ) (source target : List ℕ) (c : Beside) → (refusal m 
     → nextIsomorphism c bytes ≡ nextOutcome (refusal m c) (fullList m source target) bytes
 unfolding nextIsomorphism call
 next-answers m source target c lends bytes size =
-    ap {B = Outcome Refusal} (λ (q : Option Refusal). left (asked q (lentOn c bytes) answer)) (same-refusal m c bytes size)
-    ∙ by-refusal (refusal m c) lends
+    ap (λ (q : Option Refusal). left q (answerOf isomorphisms theNext (lentOn c bytes))) (same-refusal m c bytes size) ∙ by-refusal (refusal m c) lends
   where
-    left : Called → Outcome Refusal
-    left r = record { says = r .says; buffer = r .map }
-
-    answer : Called
-    answer = answered (answerOf isomorphisms theNext (lentOn c bytes)) bytes (scratchOf isomorphisms theNext (lentOn c bytes))
-
-    by-answer : (o : Option (List ℕ)) (scratch : List ℕ) → left (answered o bytes scratch) ≡ outcomeOf o bytes
-    by-answer none scratch = refl
-    by-answer (some f) scratch = refl
+    left : Option Refusal → Option (List ℕ) → Outcome
+    left q o = record { says = givenUnless q (sought o); buffer = mapUnless q o bytes }
 
     full : Lends m source target c → answerOf isomorphisms theNext (lentOn c bytes) ≡ earliest (next bytes) (fullList m source target)
     full h =
@@ -54,9 +47,9 @@ next-answers m source target c lends bytes size =
         let e4 = h .target-order in
         ap (earliest (next bytes)) (cc)
 
-    by-refusal : (q : Option Refusal) → (q ≡ none → Lends m source target c) → left (asked q (lentOn c bytes) answer) ≡ nextOutcome q (fullList m source target) bytes
+    by-refusal : (q : Option Refusal) → (q ≡ none → Lends m source target c) → left q (answerOf isomorphisms theNext (lentOn c bytes)) ≡ nextOutcome q (fullList m source target) bytes
     by-refusal (some r) h = refl
-    by-refusal none h = by-answer (answerOf isomorphisms theNext (lentOn c bytes)) (scratchOf isomorphisms theNext (lentOn c bytes)) ∙ ap (λ (o : Option (List ℕ)). outcomeOf {R = Refusal} o bytes) (full (h refl))
+    by-refusal none h = ap (left none) (full (h refl))
 
 -- Demand 3.
 pub demand-3 : (m : ℕ) (source target : List ℕ) → Accepted m source → Accepted m target → Demand3 m source target
@@ -64,8 +57,8 @@ demand-3 m source target a b =
     record {
       increasing = maps-increasing isomorphisms m s m t;
       exactly = maps-exactly isomorphisms m s m t;
-      walks = λ cs w. walks.walks isomorphisms m s m t (a .from-one) nextIsomorphism (refusal m) cs (answers cs w);
-      ends = λ cs w. walks.walk-ends isomorphisms m s m t (a .from-one) nextIsomorphism (refusal m) cs (answers cs w);
+      walks = λ cs w. walks.walks isomorphisms m s m t (a .filled .order .0) nextIsomorphism (refusal m) cs (answers cs w);
+      ends = λ cs w. walks.walk-ends isomorphisms m s m t (a .filled .order .0) nextIsomorphism (refusal m) cs (answers cs w);
       refused-exactly = exactly-refused;
       refused-unchanged = λ c bytes size r e. refused-unchanged isomorphisms (lentOn c bytes) theNext r (same-refusal m c bytes size ∙ e);
       answered-exactly = λ c bytes. unfold nextIsomorphism in answered-exactly isomorphisms (lentOn c bytes) theNext;
@@ -123,12 +116,12 @@ calls : List Beside
 calls = onto (replicate 16 0) ∷ onto (replicate 15 0) ∷ too-few ∷ not-associative ∷ onto (replicate 20 7) ∷ onto (replicate 16 9) ∷ onto [] ∷ onto (replicate 16 0) ∷ []
 
 -- Two maps are found, with three refused calls between; then there is none each time, with a refused call between.
-answers : List (Outcome Refusal)
+answers : List (Outcome)
 answers =
-    record { says = found; buffer = 1 ∷ 2 ∷ 3 ∷ 4 ∷ [] } ∷ record { says = refused (no 6 []); buffer = 1 ∷ 2 ∷ 3 ∷ 4 ∷ [] }
+    record { says = gives found; buffer = 1 ∷ 2 ∷ 3 ∷ 4 ∷ [] } ∷ record { says = refused (no 6 []); buffer = 1 ∷ 2 ∷ 3 ∷ 4 ∷ [] }
     ∷ record { says = refused (no 5 []); buffer = 1 ∷ 2 ∷ 3 ∷ 4 ∷ [] } ∷ record { says = refused (naming 1 (no 4 (1 ∷ 1 ∷ 2 ∷ []))); buffer = 1 ∷ 2 ∷ 3 ∷ 4 ∷ [] }
-    ∷ record { says = found; buffer = 4 ∷ 2 ∷ 3 ∷ 1 ∷ [] } ∷ record { says = nothing; buffer = 4 ∷ 2 ∷ 3 ∷ 1 ∷ [] }
-    ∷ record { says = refused (no 6 []); buffer = 4 ∷ 2 ∷ 3 ∷ 1 ∷ [] } ∷ record { says = nothing; buffer = 4 ∷ 2 ∷ 3 ∷ 1 ∷ [] } ∷ []
+    ∷ record { says = gives found; buffer = 4 ∷ 2 ∷ 3 ∷ 1 ∷ [] } ∷ record { says = gives nothing; buffer = 4 ∷ 2 ∷ 3 ∷ 1 ∷ [] }
+    ∷ record { says = refused (no 6 []); buffer = 4 ∷ 2 ∷ 3 ∷ 1 ∷ [] } ∷ record { says = gives nothing; buffer = 4 ∷ 2 ∷ 3 ∷ 1 ∷ [] } ∷ []
 
 refusals : (refusal (two .order) (onto (replicate 15 0)) ≡ some (no 6 [])) × (refusal (two .order) too-few ≡ some (no 5 [])) × (refusal (two .order) not-associative ≡ some (naming 1 (no 4 (1 ∷ 1 ∷ 2 ∷ [])))) × (refusal (two .order) (onto []) ≡ some (no 6 []))
 unfolding onto lending too-few not-associative refusal two range elements at find count sum earlier lists product grid isElement associates badCell badTriple firstOf searchRefusal scratchSize after transformations transformationOrder transformation numberOf transformationProduct transformationCells orElse flatMap
@@ -165,8 +158,8 @@ across scratch = lending 2 (left .cells) (right .cells) scratch
 calls-across : List Beside
 calls-across = across (replicate 4 0) ∷ across (replicate 3 0) ∷ across (replicate 5 7) ∷ []
 
-answers-across : List (Outcome Refusal)
-answers-across = record { says = nothing; buffer = 0 ∷ 0 ∷ [] } ∷ record { says = refused (no 6 []); buffer = 0 ∷ 0 ∷ [] } ∷ record { says = nothing; buffer = 0 ∷ 0 ∷ [] } ∷ []
+answers-across : List (Outcome)
+answers-across = record { says = gives nothing; buffer = 0 ∷ 0 ∷ [] } ∷ record { says = refused (no 6 []); buffer = 0 ∷ 0 ∷ [] } ∷ record { says = gives nothing; buffer = 0 ∷ 0 ∷ [] } ∷ []
 
 across-is-walk : IsWalk 2 (left .cells) (right .cells) calls-across
 unfolding calls-across across

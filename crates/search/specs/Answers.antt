@@ -4,9 +4,9 @@ use mathlib.Core.Bool.{Bool, true, false}
 use mathlib.Core.List.{[]}
 use Prim.Native.Nat.{ℕ}
 use lib.Dec.{eqb, leb}
-use Rattle.semigroups.specs.Questions.{Refusal, no, naming}
+use Rattle.semigroups.specs.Questions.{no, naming}
+use Rattle.semigroups.specs.Calls.{Answer, refused, gives}
 use Rattle.semigroups.specs.Maps as maps
-use Rattle.semigroups.specs.Walks as said
 use Rattle.tables.specs.Answers.{faultRefusal, sideNumber}
 use Rattle.search.specs.Calls.{Request, theFirst, theNext}
 use Rattle.search.specs.declared.Kind.{Kind}
@@ -15,12 +15,12 @@ use Rattle.search.specs.declared.SearchAnswer.{SearchAnswer}
 use Rattle.search.specs.declared.SearchAnswer.the-variants.{Found, Nothing, Refused, MapLength, ScratchLength}
 
 -- 1 to 4 name their side and carry the cell or the triple; 5 and 6 name none and carry nothing.
-abbrev pub searchAnswerSays : SearchAnswer → said.Said Refusal
-searchAnswerSays Found = said.found
-searchAnswerSays Nothing = said.nothing
-searchAnswerSays (Refused side fault) = said.refused (naming (sideNumber side) (faultRefusal fault))
-searchAnswerSays MapLength = said.refused (no 5 [])
-searchAnswerSays ScratchLength = said.refused (no 6 [])
+abbrev pub searchAnswerSays : SearchAnswer → Answer maps.Sought
+searchAnswerSays Found = gives maps.found
+searchAnswerSays Nothing = gives maps.nothing
+searchAnswerSays (Refused side fault) = refused (naming (sideNumber side) (faultRefusal fault))
+searchAnswerSays MapLength = refused (no 5 [])
+searchAnswerSays ScratchLength = refused (no 6 [])
 
 abbrev pub kindOf : Kind → maps.Kind
 kindOf Embeddings = maps.embeddings

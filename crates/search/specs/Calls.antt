@@ -1,15 +1,16 @@
 -- A call of a search (01, "Maps" and "The questions"): from all that is lent to all that is said and every byte that is left.
 -- Assumes nothing.
 use mathlib.Core.List.{List}
-use mathlib.Core.Option.{Option, none, some}
+use mathlib.Core.Option.{Option}
 use Prim.Native.Nat.{ℕ}
 use lib.ListN.{length}
 use Rattle.semigroups.specs.Tables.{product}
 use Rattle.semigroups.specs.Calls.{scratchAfter}
+use Rattle.semigroups.specs.Scratch.{marks}
 use Rattle.semigroups.specs.Questions.{Refusal, searchRefusal}
-use Rattle.semigroups.specs.Maps.{Kind, maps, Ask, first, next, earliest}
+use Rattle.semigroups.specs.Calls.{Answer, givenUnless, writtenUnless, mapUnless}
+use Rattle.semigroups.specs.Maps.{Kind, maps, Ask, first, next, earliest, Sought, sought}
 use Rattle.semigroups.specs.Candidates.{candidate}
-use Rattle.semigroups.specs.Walks.{Said, refused, found, nothing}
 
 -- All that a call lends: two tables, the map buffer and the scratch buffer, of any content and any length.
 pub record Lent : Type 0 where
@@ -25,7 +26,7 @@ lend source m target n map scratch = record { source = source; m = m; target = t
 
 -- What a call says, and the two buffers as it leaves them.
 pub record Called : Type 0 where
-  pub says : Said Refusal
+  pub says : Answer Sought
   pub map : List ℕ
   pub scratch : List ℕ
 
@@ -47,24 +48,13 @@ module _ (kind : Kind) (request : Request) (l : Lent) where
   abbrev pub answerOf : Option (List ℕ)
   answerOf = earliest (askOf request (l .map)) (maps kind (l .m) (product (l .m) (l .source)) (l .n) (product (l .n) (l .target)))
 
-  -- The scratch buffer with the candidates of this kind.
-  abbrev pub scratchOf : List ℕ
-  scratchOf = scratchAfter (l .m) (l .n) (candidate kind (l .m) (product (l .m) (l .source)) (l .n) (product (l .n) (l .target))) (l .scratch)
-
--- Found: the map buffer holds the map. None: it keeps its bytes. Scratch holds the candidates after both.
-abbrev pub answered : Option (List ℕ) → List ℕ → List ℕ → Called
-answered (some f) bytes scratch = record { says = found; map = f; scratch = scratch }
-answered none bytes scratch = record { says = nothing; map = bytes; scratch = scratch }
-
--- Refused: every lent byte stays as it was.
-abbrev pub asked : Option Refusal → Lent → Called → Called
-asked (some r) l c = record { says = refused r; map = l .map; scratch = l .scratch }
-asked none l c = c
-
--- A call behind its questions.
-abbrev pub behind : Kind → Request → Lent → Called
-behind kind request l = answered (answerOf kind request l) (l .map) (scratchOf kind request l)
+  -- The marks of the candidates of this kind.
+  abbrev pub marksOf : List ℕ
+  marksOf = marks (l .m) (l .n) (candidate kind (l .m) (product (l .m) (l .source)) (l .n) (product (l .n) (l .target)))
 
 -- A call of a search.
 unfoldable pub call : Kind → Request → Lent → Called
-call kind request l = let answer = behind kind request l in asked (refusalOf kind request l) l answer
+call kind request l =
+    let refusal = refusalOf kind request l in
+    let answer = answerOf kind request l in
+    record { says = givenUnless refusal (sought answer); map = mapUnless refusal answer (l .map); scratch = writtenUnless refusal (marksOf kind request l) (l .scratch) }

@@ -9,9 +9,10 @@ use lib.ListN.{length, replicate}
 use Rattle.semigroups.specs.Lists.{Increasing}
 use Rattle.semigroups.specs.Tables.{product}
 use Rattle.semigroups.specs.Questions.{Refusal, searchRefusal}
+use Rattle.semigroups.specs.Calls.{refused}
 use Rattle.semigroups.specs.Maps.{Isomorphism, isomorphisms, maps}
 use Rattle.semigroups.specs.Isomorphisms.{IsGroup, EachOnce}
-use Rattle.semigroups.specs.Walks.{refused, Outcome, held, walk, claim, answered, finally}
+use Rattle.semigroups.specs.Walks.{Outcome, held, walk, claim, answered, finally}
 use Rattle.search.specs.Calls.{Lent, theNext, call}
 use Rattle.search.specs.Wanted.{Passes}
 
@@ -28,7 +29,7 @@ abbrev pub lentOn : Beside → List ℕ → Lent
 lentOn c bytes = record { source = c .source; m = c .m; target = c .target; n = c .n; map = bytes; scratch = c .scratch }
 
 -- What a "next" call for isomorphisms says, and the map buffer as it leaves it.
-unfoldable pub nextIsomorphism : Beside → List ℕ → Outcome Refusal
+unfoldable pub nextIsomorphism : Beside → List ℕ → Outcome
 nextIsomorphism c bytes = let r = call isomorphisms theNext (lentOn c bytes) in record { says = r .says; buffer = r .map }
 
 -- The earliest failed question of a call on a map buffer of k bytes.

@@ -8,7 +8,7 @@ ghost use Rattle.semigroups.specs.Scratch.{scratchSize};
 ghost use Rattle.semigroups.specs.Calls.{scratchAfter};
 ghost use Rattle.semigroups.specs.Maps.{embeddings, isomorphisms};
 ghost use Rattle.semigroups.specs.Candidates.{candidate};
-ghost use Rattle.search.specs.Calls.{theFirst, theNext, lend, behind, call};
+ghost use Rattle.search.specs.Calls.{theFirst, theNext, lend, call};
 ghost use Rattle.search.specs.Answers.{searchAnswerSays, kindOf, requestOf, orderFits};
 use tables::Fault;
 use tables::PairVerdict;
@@ -76,9 +76,9 @@ fn answer(
 ) -> SearchAnswer
     requires { ⌜ Accepted m (now source) × Accepted n (now target) ⌝ }
     requires { ⌜ (length (now map) ≡ m) × (scratchSize m n ≤ length (now scratch)) ⌝ }
-    ensures answer { λ r. ⌜ searchAnswerSays r ≡ behind (kindOf kind) (requestOf next) (lend (now (source .entry)) m (now (target .entry)) n (now (map .entry)) (now (scratch .entry))) .says ⌝ }
-    ensures map { λ _. ⌜ now (map .exit) ≡ behind (kindOf kind) (requestOf next) (lend (now (source .entry)) m (now (target .entry)) n (now (map .entry)) (now (scratch .entry))) .map ⌝ }
-    ensures scratch { λ _. ⌜ now (scratch .exit) ≡ behind (kindOf kind) (requestOf next) (lend (now (source .entry)) m (now (target .entry)) n (now (map .entry)) (now (scratch .entry))) .scratch ⌝ }
+    ensures answer { λ r. ⌜ searchAnswerSays r ≡ call (kindOf kind) (requestOf next) (lend (now (source .entry)) m (now (target .entry)) n (now (map .entry)) (now (scratch .entry))) .says ⌝ }
+    ensures map { λ _. ⌜ now (map .exit) ≡ call (kindOf kind) (requestOf next) (lend (now (source .entry)) m (now (target .entry)) n (now (map .entry)) (now (scratch .entry))) .map ⌝ }
+    ensures scratch { λ _. ⌜ now (scratch .exit) ≡ call (kindOf kind) (requestOf next) (lend (now (source .entry)) m (now (target .entry)) n (now (map .entry)) (now (scratch .entry))) .scratch ⌝ }
 {
     fill(kind, source, m, target, n, scratch);
     if !order_fits(kind, m, n) {
@@ -93,8 +93,8 @@ fn answer(
     SearchAnswer::Found
 }
 
-// A search: the questions about the two tables and the two buffers, then the answer.
-fn search(
+// A search by its kind, for the first map or with `next` for the next: the questions about the two tables and the two buffers, then the answer.
+pub fn search(
     kind: Kind,
     next: bool,
     source: &[u8],

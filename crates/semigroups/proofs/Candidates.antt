@@ -1,8 +1,7 @@
--- Candidates lose no map: an embedding keeps the index-period, an isomorphism the profile. So the search with them finds what first and next mean.
--- Scratch marks read back as the candidates. Assumes nothing.
+-- Candidates lose no map: an embedding keeps the index-period, an isomorphism the profile. Scratch marks read back as the candidates. Assumes nothing.
 use mathlib.Core.Path.{_≡_, refl, sym, ap, _∙_}
 use mathlib.Core.Bool.{Bool, true, false, cond}
-use mathlib.Core.List.{List, []}
+use mathlib.Core.List.{List, _++_}
 use Prim.Native.Nat.{ℕ, _*_, _≤_, _<_}
 use native.Mathlib.Nat.{le-refl, mul-le-mul, mul-le-mul-right}
 use native.Mathlib.Omega.{arith}
@@ -10,15 +9,13 @@ use lib.Dec.{eqb}
 use lib.ListN.{length, drop, length-append, length-drop, List·getD-append}
 use Rattle.semigroups.specs.Tables.{Product, Element, Closed, cellPlace}
 use Rattle.semigroups.specs.Scratch.{scratchSize, marks, marked}
-use Rattle.semigroups.specs.Calls.{scratchAfter}
-use Rattle.semigroups.specs.Maps.{embeddings, isomorphisms, maps, Ask, earliest}
+use Rattle.semigroups.specs.Calls.{scratchAfter, overwritten}
+use Rattle.semigroups.specs.Maps.{embeddings, isomorphisms}
 use Rattle.semigroups.specs.Candidates.{candidate}
-use Rattle.semigroups.specs.Search.{search}
 use Rattle.semigroups.proofs.Tables.{place-below, length-grid, grid-at}
-use Rattle.semigroups.proofs.Maps.{one-order}
 use Rattle.semigroups.proofs.IndexPeriod.{index-period-kept}
 use Rattle.semigroups.proofs.Frequencies.{profile-kept}
-use Rattle.semigroups.proofs.Search.{Sound, search-earliest}
+use Rattle.semigroups.proofs.Search.{Sound}
 
 -- ---- no map is lost
 
@@ -27,16 +24,10 @@ module _ (m : ℕ) (s : Product) (n : ℕ) (t : Product) (source : Closed m s) (
   unfolding candidate
   index-period-sound f F i h = index-period-kept m s n t f F source i h target
 
-  pub search-embeddings : (ask : Ask) → search s t (candidate embeddings m s n t) ask n m [] ≡ earliest ask (maps embeddings m s n t)
-  search-embeddings ask = search-earliest m s n t source (candidate embeddings m s n t) index-period-sound ask
-
 module _ (n : ℕ) (s t : Product) (source : Closed n s) (target : Closed n t) where
   pub profile-sound : Sound n s n t source (candidate isomorphisms n s n t)
   unfolding candidate
   profile-sound f F i h = profile-kept n s t f F source i h target
-
-  pub search-isomorphisms : (ask : Ask) → search s t (candidate isomorphisms n s n t) ask n n [] ≡ earliest ask (maps isomorphisms n s n t)
-  search-isomorphisms ask = search-earliest n s n t source (candidate isomorphisms n s n t) profile-sound ask ∙ ap (earliest ask) (sym (one-order n s t))
 
 -- ---- marks
 
@@ -58,6 +49,11 @@ module _ (m n : ℕ) (p : ℕ → ℕ → Bool) (scratch : List ℕ) where
   pub length-marks : length (marks m n p) ≡ scratchSize m n
   unfolding marks scratchSize
   length-marks = length-grid m n (λ i j. cond (p i j) 1 0)
+
+  -- The marks are written over the buffer's start.
+  pub scratch-written : scratchAfter m n p scratch ≡ overwritten (marks m n p) scratch
+  unfolding scratchAfter
+  scratch-written = refl
 
   -- The buffer keeps its length.
   pub length-scratch : scratchSize m n ≤ length scratch → length (scratchAfter m n p scratch) ≡ length scratch

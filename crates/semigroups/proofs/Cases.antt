@@ -1,4 +1,4 @@
--- The worked table under one claim: thirteen cases, each question's answer by the definitions the one that stands beside it, and the tables they
+-- The worked table under one claim: thirteen cases, each query's result by the definitions the one that stands beside it, and the tables they
 -- name. Assumes nothing.
 use mathlib.Core.Path.{_≡_, refl, sym, ap, _∙_}
 use mathlib.Core.List.{List, _∷_, map, flatMap, List·Memᴰ, List·Memᴰ·head, List·Memᴰ·tail, head-eq-of-cons-eq, tail-eq-of-cons-eq}
@@ -9,7 +9,7 @@ use Rattle.semigroups.specs.Questions.{tableRefusal}
 use Rattle.semigroups.specs.Invariants.{power, periodFrom, index, period, indexPeriod, frequency, diagonalFrequency, rowFrequency, columnFrequency, profile}
 use Rattle.semigroups.specs.Maps.{isHomomorphism, isEmbedding, isIsomorphism, maps, earliest, after}
 use Rattle.semigroups.specs.Transformations.{transformations, transformationOrder, transformation, numberOf, transformationProduct, transformationCells}
-use Rattle.semigroups.specs.Cases.{Table, left, two, tables, Case, answer, cases, Worked}
+use Rattle.semigroups.specs.Cases.{Table, left, two, tables, Case, result, cases, Worked}
 use Rattle.semigroups.proofs.Tables.{accepted}
 
 -- Two functions that agree over a list agree at each entry.
@@ -17,8 +17,8 @@ each : {A B : Type 0} (f g : A → B) (l : List A) → map f l ≡ map g l → (
 each f g (x ∷ xs) e c (List·Memᴰ·head q) = ap f q ∙ head-eq-of-cons-eq e ∙ sym (ap g q)
 each f g (x ∷ xs) e c (List·Memᴰ·tail m) = each f g xs (tail-eq-of-cons-eq e) c m
 
-computed : map (λ (c : Case). answer (c .asks)) cases ≡ map (λ (c : Case). c .says) cases
-unfolding answer cases two range elements at all find keep sum count least member distinct earlier lists product grid isElement associates badCell badTriple firstOf tableRefusal power periodFrom index period indexPeriod frequency diagonalFrequency rowFrequency columnFrequency profile isHomomorphism isEmbedding isIsomorphism maps earliest after transformations transformationOrder transformation numberOf transformationProduct transformationCells orElse flatMap
+computed : map (λ (c : Case). result (c .asks)) cases ≡ map (λ (c : Case). c .says) cases
+unfolding result cases two range elements at all find keep sum count least member distinct earlier lists product grid isElement associates badCell badTriple firstOf tableRefusal power periodFrom index period indexPeriod frequency diagonalFrequency rowFrequency columnFrequency profile isHomomorphism isEmbedding isIsomorphism maps earliest after transformations transformationOrder transformation numberOf transformationProduct transformationCells orElse flatMap
 computed = refl
 
 -- Whether each table has no failed question.
@@ -30,7 +30,7 @@ pub worked : Worked
 worked =
     record {
       thirteen = unfold cases in refl;
-      answers = each (λ (x : Case). answer (x .asks)) (λ (x : Case). x .says) cases computed;
+      results = each (λ (x : Case). result (x .asks)) (λ (x : Case). x .says) cases computed;
       accepted = λ t m. accepted (t .order) (t .cells) (each (λ (x : Table). tableRefusal (x .order) (x .cells)) (λ (x : Table). none) tables passed t m);
       two-printed = unfold two range elements at sum count earlier lists grid after transformations transformationOrder transformation numberOf transformationProduct transformationCells flatMap in refl;
       degrees-printed = unfold range elements lists grid transformations transformationOrder transformationCells flatMap in refl;

@@ -2,7 +2,7 @@
 -- and the search itself go by these laws. Assumes nothing.
 use mathlib.Core.Path.{_≡_, refl, sym, ap, ap₂, _∙_}
 use mathlib.Core.Bool.{Bool, true, false, _&&_, cond}
-use mathlib.Core.Option.{Option, none, some, orElse}
+use mathlib.Core.Option.{Option, none, some, orElse, Option·some-ne-none}
 use mathlib.Core.List.{List, [], _∷_, _++_, map, flatMap, append-assoc, append-nil, List·Memᴰ, List·Memᴰ·head, List·Memᴰ·tail}
 use Prim.Native.Nat.{ℕ, suc, _+_, _-_, _≤_, _<_}
 use native.Mathlib.Nat.{add-sub-cancel}
@@ -79,7 +79,7 @@ module _ {A : Type 0} where
   pub orElse-none : (a b : Option A) → orElse a b ≡ none → (a ≡ none) × (b ≡ none)
   unfolding orElse
   orElse-none none b e = (refl, e)
-  orElse-none (some x) b e = absurd (let z : _≡_ {A = ℕ} 0 1 = cc in let y : ⊥ = omega arith in y)
+  orElse-none (some x) b e = absurd (Option·some-ne-none x e)
 
 pub firstOf-append : {A B : Type 0} (g : A → Option B) (l k : List A) → firstOf g (l ++ k) ≡ orElse (firstOf g l) (firstOf g k)
 unfolding firstOf

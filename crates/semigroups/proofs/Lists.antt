@@ -267,10 +267,6 @@ module _ (n : ℕ) (p : ℕ → Bool) where
       go none e h = absurd (let z : ⊥ = omega arith in z)
       go (some x) e h = let r = find-some p (range 1 n) x e in (mem-elements n x (r .0), r .1)
 
-  -- Where the least is n + 1, none passes.
-  pub least-none : n < least n p → (j : ℕ) → Element n j → p j ≡ false
-  least-none h j e = untrue (p j) (λ t. let r = least-first j e t in let r0 = r .0 in let z : ⊥ = omega arith in z)
-
 -- ---- membership as a test
 
 pub member-mem : (x : ℕ) (l : List ℕ) → member x l ≡ true → List·Memᴰ x l

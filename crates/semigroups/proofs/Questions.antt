@@ -4,9 +4,8 @@ use mathlib.Core.Path.{_≡_, refl, sym, ap, _∙_, subst}
 use mathlib.Core.Bool.{Bool, true, false}
 use mathlib.Core.Logic.{_↔_}
 use mathlib.Core.List.{List, [], _∷_, _++_, map, List·Memᴰ, List·Memᴰ·head, Memᴰ·append-right, Memᴰ·map}
-use mathlib.Core.Option.{Option, none, some, Option·map, orElse}
+use mathlib.Core.Option.{Option, none, some, Option·map, orElse, Option·none-ne-some, Option·some-ne-none}
 use Prim.Native.Nat.{ℕ}
-use native.Mathlib.Omega.{arith}
 use Rattle.semigroups.specs.Lists.{all, firstOf, member}
 use Rattle.semigroups.specs.Questions.{Question, ask, onSide, Refusal, naming, refusalBy, firstNo, Passed, EarliestNo, numbers}
 use Rattle.semigroups.proofs.Lists.{all-at, member-mem, mem-member}
@@ -20,7 +19,7 @@ knowing q fails = record { number = q .number; side = q .side; fails = fails }
 
 pub ask-passed : (number : ℕ) (passes : Bool) → ask number passes .fails ≡ none → passes ≡ true
 ask-passed number true e = refl
-ask-passed number false e = absurd (let z : _≡_ {A = ℕ} 0 1 = cc in let y : ⊥ = omega arith in y)
+ask-passed number false e = absurd (Option·some-ne-none [] e)
 
 -- ---- no "no"
 
@@ -31,7 +30,7 @@ passes (q ∷ qs) e = go (passes qs) (q .fails) refl e
   where
     go : (firstNo qs ≡ none → Passed qs) → (o : Option (List ℕ)) → q .fails ≡ o → orElse (refusalBy (knowing q o)) (firstNo qs) ≡ none → Passed (q ∷ qs)
     go later none p e = (p, later e)
-    go later (some values) p e = absurd (let z : _≡_ {A = ℕ} 0 1 = cc in let y : ⊥ = omega arith in y)
+    go later (some values) p e = absurd (Option·some-ne-none _ e)
 
 unrefused : (qs : List Question) → Passed qs → firstNo qs ≡ none
 unfolding firstOf orElse
@@ -46,7 +45,7 @@ all-passed qs = (passes qs, unrefused qs)
 
 first-no : (qs : List Question) (r : Refusal) → firstNo qs ≡ some r → EarliestNo qs r
 unfolding firstOf orElse
-first-no [] r e = absurd (let z : _≡_ {A = ℕ} 0 1 = cc in let y : ⊥ = omega arith in y)
+first-no [] r e = absurd (Option·none-ne-some r e)
 first-no (q ∷ qs) r e = go (first-no qs r) (q .fails) refl e
   where
     go : (firstNo qs ≡ some r → EarliestNo qs r) → (o : Option (List ℕ)) → q .fails ≡ o → orElse (refusalBy (knowing q o)) (firstNo qs) ≡ some r → EarliestNo (q ∷ qs) r

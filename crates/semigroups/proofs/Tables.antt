@@ -3,7 +3,7 @@
 use mathlib.Core.Path.{_≡_, refl, sym, ap, ap₂, _∙_, subst}
 use mathlib.Core.Bool.{Bool, true, false, not}
 use mathlib.Core.Logic.{_⊎_, inl, inr, ⊎-elim, _↔_}
-use mathlib.Core.Option.{Option, none, some, orElse, map-eq-none-iff}
+use mathlib.Core.Option.{Option, none, some, orElse, map-eq-none-iff, Option·none-ne-some}
 use mathlib.Core.List.{List, [], _∷_, map, List·Memᴰ·not-nil, List·Memᴰ·cases-cons}
 use Prim.Native.Nat.{ℕ, suc, _+_, _-_, _*_, _≤_, _<_}
 use native.Mathlib.Nat.{mul-le-mul-right, suc-mul}
@@ -55,7 +55,7 @@ unfolding product
 product-element n cells e h i j hi hj = h (cellPlace n i j) (let b = place-below n n i j hi hj in omega arith)
 
 pub accepted-closed : (n : ℕ) (cells : List ℕ) → Accepted n cells → Closed n (product n cells)
-accepted-closed n cells a = product-element n cells (a .size) (a .in-range)
+accepted-closed n cells a = product-element n cells (a .filled .size) (a .filled .in-range)
 
 -- ---- question 3
 
@@ -170,19 +170,13 @@ module _ (n : ℕ) (cells : List ℕ) where
   unfolding tableRefusal
   accepted e =
       let p = both-passed (cellsQuestions n cells) (tripleQuestion n cells ∷ []) e in
-      let f = filled (unfold cellsRefusal in p .0) in
-      record {
-        from-one = f .order .0;
-        to-limit = f .order .1;
-        size = f .size;
-        in-range = f .in-range;
-        associative = associative-of n (product n cells) (all-passed (tripleQuestion n cells ∷ []) .0 (p .1) .0);
-      }
+      record { filled = filled (unfold cellsRefusal in p .0); associative = associative-of n (product n cells) (all-passed (tripleQuestion n cells ∷ []) .0 (p .1) .0) }
 
   pub no-refusal : Accepted n cells → tableRefusal n cells ≡ none
   unfolding tableRefusal firstOf orElse
   no-refusal a =
-      rw (element-is 120 n (a .from-one, a .to-limit), eq-eqb (length cells) (n * n) (a .size), no-bad-cell n cells (a .in-range), no-bad-triple n (product n cells) (a .associative))
+      let f = a .filled in
+      rw (element-is 120 n (f .order), eq-eqb (length cells) (n * n) (f .size), no-bad-cell n cells (f .in-range), no-bad-triple n (product n cells) (a .associative))
 
   -- What is said of a table that is refused.
   refusal-said : (r : Refusal) → Refused n cells r → tableRefusal n cells ≡ some r
@@ -201,7 +195,7 @@ module _ (n : ℕ) (cells : List ℕ) where
   judged = by-order (either (isElement 120 n))
     where
       by-triple : Element 120 n → length cells ≡ n * n → ((k : ℕ) → k < length cells → Element n (getD cells k 0)) → (o : Option (List ℕ)) → badTriple n (product n cells) ≡ o → Judged
-      by-triple o z i none e = passes (record { from-one = o .0; to-limit = o .1; size = z; in-range = i; associative = associative-of n (product n cells) e })
+      by-triple o z i none e = passes (record { filled = record { order = o; size = z; in-range = i }; associative = associative-of n (product n cells) e })
       by-triple o z i (some l) e = fails (no 4 l) (wrong-triple l o z i (bad-triple-first n (product n cells) l e))
 
       by-cell : Element 120 n → length cells ≡ n * n → (o : Option ℕ) → badCell n cells ≡ o → Judged
@@ -221,5 +215,5 @@ module _ (n : ℕ) (cells : List ℕ) where
   refused r = (go judged, refusal-said r)
     where
       go : Judged → tableRefusal n cells ≡ some r → Refused n cells r
-      go (passes a) e = let q = no-refusal a in absurd (let y : _≡_ {A = ℕ} 0 1 = cc in let x : ⊥ = omega arith in x)
+      go (passes a) e = absurd (Option·none-ne-some r (sym (no-refusal a) ∙ e))
       go (fails q h) e = let w = refusal-said q h in subst (Refused n cells) (let s : q ≡ r = cc in s) h

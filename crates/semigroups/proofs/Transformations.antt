@@ -124,10 +124,7 @@ module _ (d : ℕ) where
       let p = transformationProduct d in
       let table : (i j : ℕ) → Element n i → Element n j → product n (transformationCells d) i j ≡ p i j = table-product in
       record {
-        from-one = h .0;
-        to-limit = h .1;
-        size = length-cells;
-        in-range = λ k u. cell-in-range (getD (transformationCells d) k 0) (place-mem 0 (transformationCells d) k u);
+        filled = record { order = h; size = length-cells; in-range = λ k u. cell-in-range (getD (transformationCells d) k 0) (place-mem 0 (transformationCells d) k u) };
         associative = λ i j k hi hj hk.
             ap (λ (x : ℕ). product n (transformationCells d) x k) (table i j hi hj) ∙ table (p i j) k (transformations-closed i j hi hj) hk ∙ transformations-associative i j k hi hj hk
             ∙ sym (table i (p j k) hi (transformations-closed j k hj hk)) ∙ ap (product n (transformationCells d) i) (sym (table j k hj hk));

@@ -12,8 +12,10 @@ use lib.Dec.{leb}
 use lib.ListN.{length, getD, replicate, length-replicate}
 use Rattle.semigroups.specs.Lists.{find, earlier, Increasing}
 use Rattle.semigroups.specs.Tables.{Product, Element}
-use Rattle.semigroups.specs.Maps.{Embedding, Kind, maps, next, earliest}
-use Rattle.semigroups.specs.Walks.{found, nothing, Outcome, held, outcomeOf, nextOutcome, counted, claimed, walk, claim, answered, finally}
+use Rattle.semigroups.specs.Maps.{Embedding, Kind, maps, next, earliest, found, nothing, sought}
+use Rattle.semigroups.specs.Questions.{Refusal}
+use Rattle.semigroups.specs.Calls.{gives, mapUnless}
+use Rattle.semigroups.specs.Walks.{Outcome, held, nextOutcome, counted, claimed, walk, claim, answered, finally}
 use Rattle.semigroups.proofs.Booleans.{trichotomy}
 use Rattle.semigroups.proofs.Lists.{at-suc, none-find}
 use Rattle.semigroups.proofs.NoRepeats.{mem-place, place-mem, sorted-places}
@@ -86,55 +88,42 @@ module _ (z : List ℕ) (l : List (List ℕ)) (s : Increasing (z ∷ l)) where
   unfolding held
   held-length u k = ⊎-elim (λ e. ap length e) (λ m. u (held z l k) m) (List·Memᴰ·cases-cons (place-mem z (z ∷ l) (min k (length l)) (omega arith)))
 
-  module _ {R : Type 0} where
-    step : (k : ℕ) → outcomeOf {R = R} (earliest (next (held z l k)) l) (held z l k) ≡ record { says = cond (leb (suc k) (length l)) found nothing; buffer = held z l (suc k) }
-    step k = go (leb (suc k) (length l)) refl
-      where
-        left : List ℕ → Outcome R
-        left b = outcomeOf {R = R} (earliest (next b) l) b
+  step : (k : ℕ) (o : Option Refusal) → nextOutcome o l (held z l k) ≡ claimed z l k o
+  step k (some r) = refl
+  step k none = go (leb (suc k) (length l)) refl
+    where
+      left : Option (List ℕ) → List ℕ → Outcome
+      left f b = record { says = gives (sought f); buffer = mapUnless none f b }
 
-        go : (b : Bool) → leb (suc k) (length l) ≡ b → outcomeOf {R = R} (earliest (next (held z l k)) l) (held z l k) ≡ record { says = cond b found nothing; buffer = held z l (suc k) }
-        go true e =
-            let h = leb-true (suc k) (length l) e in
-            let hn = held-at z l (suc k) h in
-            ap left (held-at z l k (omega arith)) ∙ ap (λ (o : Option (List ℕ)). outcomeOf {R = R} o (entry k)) (next-entry k h)
-            ∙ ap {B = Outcome R} (λ (b : List ℕ). record { says = found; buffer = b }) (sym hn)
-        go false e =
-            let h = leb-false (suc k) (length l) e in
-            let hn = held-end z l (suc k) (omega arith) in
-            ap left (held-end z l k (omega arith)) ∙ ap (λ (o : Option (List ℕ)). outcomeOf {R = R} o (entry (length l))) next-nothing
-            ∙ ap {B = Outcome R} (λ (b : List ℕ). record { says = nothing; buffer = b }) (sym hn)
+      go : (b : Bool) → leb (suc k) (length l) ≡ b → nextOutcome none l (held z l k) ≡ record { says = gives (cond b found nothing); buffer = held z l (suc k) }
+      go true e =
+          let h = leb-true (suc k) (length l) e in
+          let hn = held-at z l (suc k) h in
+          ap (nextOutcome none l) (held-at z l k (omega arith)) ∙ ap (λ (f : Option (List ℕ)). left f (entry k)) (next-entry k h)
+          ∙ ap {B = Outcome} (λ (b : List ℕ). record { says = gives found; buffer = b }) (sym hn)
+      go false e =
+          let h = leb-false (suc k) (length l) e in
+          let hn = held-end z l (suc k) (omega arith) in
+          ap (nextOutcome none l) (held-end z l k (omega arith)) ∙ ap (λ (f : Option (List ℕ)). left f (entry (length l))) next-nothing
+          ∙ ap {B = Outcome} (λ (b : List ℕ). record { says = gives nothing; buffer = b }) (sym hn)
 
-    asked : (k : ℕ) (o : Option R) → nextOutcome o l (held z l k) ≡ claimed z l k o
-    asked k (some r) = refl
-    asked k none = step k
+  -- ---- the whole walk
 
-    claimed-buffer : (k : ℕ) (o : Option R) → claimed z l k o .buffer ≡ held z l (counted k o)
-    claimed-buffer k (some r) = refl
-    claimed-buffer k none = refl
-
-    -- ---- the whole walk
-
-    module _ {C : Type 0} (call : C → List ℕ → Outcome R) (refusal : C → Option R) where
-      -- From k calls not refused on.
-      walk-from : ((f : List ℕ) → List·Memᴰ f l → length f ≡ length z) → (cs : List C) → ((c : C) → List·Memᴰ c cs → (b : List ℕ) → length b ≡ length z → call c b ≡ nextOutcome (refusal c) l b)
-          → (k : ℕ) → walk call cs (held z l k) ≡ claim refusal z l k cs
-      walk-from u [] h k = refl
-      walk-from u (c ∷ cs) h k =
-          let o = refusal c in
-          let a : call c (held z l k) ≡ claimed z l k o = h c (List·Memᴰ·head refl) (held z l k) (held-length u k) ∙ asked k o in
-          ap {B = List (Outcome R)} (λ (x : Outcome R). x ∷ walk call cs (x .buffer)) a
-          ∙ ap {B = List (Outcome R)} (λ (b : List ℕ). claimed z l k o ∷ walk call cs b) (claimed-buffer k o)
-          ∙ ap {B = List (Outcome R)} (λ (r : List (Outcome R)). claimed z l k o ∷ r) (walk-from u cs (λ d m. h d (List·Memᴰ·tail m)) (counted k o))
+  module _ {C : Type 0} (call : C → List ℕ → Outcome) (refusal : C → Option Refusal) where
+    -- From k calls not refused on.
+    walk-from : ((f : List ℕ) → List·Memᴰ f l → length f ≡ length z) → (cs : List C) → ((c : C) → List·Memᴰ c cs → (b : List ℕ) → length b ≡ length z → call c b ≡ nextOutcome (refusal c) l b)
+        → (k : ℕ) → walk call cs (held z l k) ≡ claim refusal z l k cs
+    walk-from u [] h k = refl
+    walk-from u (c ∷ cs) h k =
+        let o = refusal c in
+        let a : call c (held z l k) ≡ claimed z l k o = h c (List·Memᴰ·head refl) (held z l k) (held-length u k) ∙ step k o in
+        ap {B = List Outcome} (λ (x : Outcome). x ∷ walk call cs (x .buffer)) a
+        ∙ ap {B = List Outcome} (λ (r : List Outcome). claimed z l k o ∷ r) (walk-from u cs (λ d m. h d (List·Memᴰ·tail m)) (counted k o))
 
 -- What the buffer holds after the claim's calls.
-pub claim-finally : {R C : Type 0} (refusal : C → Option R) (z : List ℕ) (l : List (List ℕ)) (cs : List C) (k : ℕ) → finally (held z l k) (claim refusal z l k cs) ≡ held z l (answered refusal k cs)
+pub claim-finally : {C : Type 0} (refusal : C → Option Refusal) (z : List ℕ) (l : List (List ℕ)) (cs : List C) (k : ℕ) → finally (held z l k) (claim refusal z l k cs) ≡ held z l (answered refusal k cs)
 claim-finally refusal z l [] k = refl
-claim-finally {R} {C} refusal z l (c ∷ cs) k = go (refusal c) (λ j. claim-finally refusal z l cs j)
-  where
-    go : (o : Option R) → ((j : ℕ) → finally (held z l j) (claim refusal z l j cs) ≡ held z l (answered refusal j cs)) → finally (claimed z l k o .buffer) (claim refusal z l (counted k o) cs) ≡ held z l (answered refusal (counted k o) cs)
-    go (some r) below = below k
-    go none below = below (suc k)
+claim-finally refusal z l (c ∷ cs) k = claim-finally refusal z l cs (counted k (refusal c))
 
 -- ---- the full lists
 
@@ -149,7 +138,7 @@ module _ (kind : Kind) (m : ℕ) (s : Product) (n : ℕ) (t : Product) (h : 1 �
   embeds f k = map-embeds m s n t f kind (mem-maps kind m s n t f k)
 
   -- One claim about a whole walk on a buffer of zeros, for calls that answer as "next" is defined or are refused.
-  pub walks : {R C : Type 0} (call : C → List ℕ → Outcome R) (refusal : C → Option R) (cs : List C)
+  pub walks : {C : Type 0} (call : C → List ℕ → Outcome) (refusal : C → Option Refusal) (cs : List C)
       → ((c : C) → List·Memᴰ c cs → (b : List ℕ) → length b ≡ m → call c b ≡ nextOutcome (refusal c) (maps kind m s n t) b)
       → walk call cs (replicate m 0) ≡ claim refusal (replicate m 0) (maps kind m s n t) 0 cs
   walks call refusal cs g =
@@ -160,7 +149,7 @@ module _ (kind : Kind) (m : ℕ) (s : Product) (n : ℕ) (t : Product) (h : 1 �
       ∙ walk-from (replicate m 0) l sorted call refusal (λ f k. embeds f k .homomorphism .size ∙ sym long) cs (λ c k b e. g c k b (e ∙ long)) 0
 
   -- What the buffer holds at the end.
-  pub walk-ends : {R C : Type 0} (call : C → List ℕ → Outcome R) (refusal : C → Option R) (cs : List C)
+  pub walk-ends : {C : Type 0} (call : C → List ℕ → Outcome) (refusal : C → Option Refusal) (cs : List C)
       → ((c : C) → List·Memᴰ c cs → (b : List ℕ) → length b ≡ m → call c b ≡ nextOutcome (refusal c) (maps kind m s n t) b)
       → finally (replicate m 0) (walk call cs (replicate m 0)) ≡ held (replicate m 0) (maps kind m s n t) (answered refusal 0 cs)
   walk-ends call refusal cs g =

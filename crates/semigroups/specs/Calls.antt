@@ -29,3 +29,9 @@ scratchAfter m n candidate scratch = overwritten (marks m n candidate) scratch
 abbrev pub writtenUnless : Option Refusal → List ℕ → List ℕ → List ℕ
 writtenUnless none written before = overwritten written before
 writtenUnless (some r) written before = before
+
+-- A map buffer after a search: the map that it finds; where it finds none or is refused, no byte changes.
+abbrev pub mapUnless : Option Refusal → Option (List ℕ) → List ℕ → List ℕ
+mapUnless none (some f) before = f
+mapUnless none none before = before
+mapUnless (some r) answer before = before

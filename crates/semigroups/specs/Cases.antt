@@ -1,4 +1,4 @@
--- The worked table of 01: thirteen cases, each a question and its answer. The questions are answered by the definitions that contracts cite.
+-- The worked table of 01: thirteen cases, each a query and its result. The results come from the definitions that contracts cite.
 -- Assumes nothing.
 use mathlib.Core.Path.{_≡_}
 use mathlib.Core.List.{List, [], _∷_, map, List·Memᴰ}
@@ -44,56 +44,56 @@ mat5 = record { order = 5; cells = 1 ∷ 1 ∷ 1 ∷ 1 ∷ 1 ∷ 1 ∷ 2 ∷ 3 �
 abbrev pub tables : List Table
 tables = one ∷ swap ∷ left ∷ right ∷ null3 ∷ two ∷ mat5 ∷ []
 
--- ---- the questions
+-- ---- the queries
 
-pub data Question : Type 0 where
-  isAccepted : Table → Question
-  indexPeriodOf : Table → ℕ → Question
-  profileOf : Table → ℕ → Question
+pub data Query : Type 0 where
+  isAccepted : Table → Query
+  indexPeriodOf : Table → ℕ → Query
+  profileOf : Table → ℕ → Query
   -- the maps of a kind from one table to another, asked for in turn
-  mapsOf : Kind → Table → Table → List Ask → Question
+  mapsOf : Kind → Table → Table → List Ask → Query
 
-pub data Answer : Type 0 where
-  refusal : Option Refusal → Answer
-  anIndexPeriod : IndexPeriod → Answer
-  aProfile : Profile → Answer
-  found : List (Option (List ℕ)) → Answer
+pub data Result : Type 0 where
+  aRefusal : Option Refusal → Result
+  anIndexPeriod : IndexPeriod → Result
+  aProfile : Profile → Result
+  mapsInTurn : List (Option (List ℕ)) → Result
 
-unfoldable pub answer : Question → Answer
-answer (isAccepted t) = refusal (tableRefusal (t .order) (t .cells))
-answer (indexPeriodOf t a) = anIndexPeriod (indexPeriod (t .order) (product (t .order) (t .cells)) a)
-answer (profileOf t a) = aProfile (profile (t .order) (product (t .order) (t .cells)) a)
-answer (mapsOf kind s t asks) =
+unfoldable pub result : Query → Result
+result (isAccepted t) = aRefusal (tableRefusal (t .order) (t .cells))
+result (indexPeriodOf t a) = anIndexPeriod (indexPeriod (t .order) (product (t .order) (t .cells)) a)
+result (profileOf t a) = aProfile (profile (t .order) (product (t .order) (t .cells)) a)
+result (mapsOf kind s t asks) =
     let l = maps kind (s .order) (product (s .order) (s .cells)) (t .order) (product (t .order) (t .cells)) in
-    found (map (λ ask. earliest ask l) asks)
+    mapsInTurn (map (λ ask. earliest ask l) asks)
 
 pub record Case : Type 0 where
-  pub asks : Question
-  pub says : Answer
+  pub asks : Query
+  pub says : Result
 
 unfoldable pub cases : List Case
 cases =
-    record { asks = isAccepted (record { order = 2; cells = 2 ∷ 1 ∷ 1 ∷ 1 ∷ [] }); says = refusal (some (no 4 (1 ∷ 1 ∷ 2 ∷ []))) }
-    ∷ record { asks = isAccepted (record { order = 2; cells = 1 ∷ 3 ∷ 1 ∷ 1 ∷ [] }); says = refusal (some (no 3 (2 ∷ []))) }
-    ∷ record { asks = isAccepted (record { order = 0; cells = [] }); says = refusal (some (no 1 [])) }
+    record { asks = isAccepted (record { order = 2; cells = 2 ∷ 1 ∷ 1 ∷ 1 ∷ [] }); says = aRefusal (some (no 4 (1 ∷ 1 ∷ 2 ∷ []))) }
+    ∷ record { asks = isAccepted (record { order = 2; cells = 1 ∷ 3 ∷ 1 ∷ 1 ∷ [] }); says = aRefusal (some (no 3 (2 ∷ []))) }
+    ∷ record { asks = isAccepted (record { order = 0; cells = [] }); says = aRefusal (some (no 1 [])) }
     ∷ record { asks = indexPeriodOf mat5 3; says = anIndexPeriod (record { index = 2; period = 1 }) }
     ∷ record { asks = profileOf mat5 4; says = aProfile (record { powers = record { index = 1; period = 1 }; frequency = 3; diagonal = 1; row = 2; column = 2 }) }
-    ∷ record { asks = mapsOf embeddings swap two (first ∷ next (2 ∷ 3 ∷ []) ∷ []); says = found (some (2 ∷ 3 ∷ []) ∷ none ∷ []) }
-    ∷ record { asks = mapsOf embeddings right two (first ∷ next (1 ∷ 4 ∷ []) ∷ next (4 ∷ 1 ∷ []) ∷ []); says = found (some (1 ∷ 4 ∷ []) ∷ some (4 ∷ 1 ∷ []) ∷ none ∷ []) }
-    ∷ record { asks = mapsOf embeddings left two (first ∷ []); says = found (none ∷ []) }
-    ∷ record { asks = mapsOf embeddings one two (first ∷ next (1 ∷ []) ∷ next (2 ∷ []) ∷ next (4 ∷ []) ∷ []); says = found (some (1 ∷ []) ∷ some (2 ∷ []) ∷ some (4 ∷ []) ∷ none ∷ []) }
-    ∷ record { asks = mapsOf isomorphisms two two (first ∷ next (1 ∷ 2 ∷ 3 ∷ 4 ∷ []) ∷ next (4 ∷ 2 ∷ 3 ∷ 1 ∷ []) ∷ []); says = found (some (1 ∷ 2 ∷ 3 ∷ 4 ∷ []) ∷ some (4 ∷ 2 ∷ 3 ∷ 1 ∷ []) ∷ none ∷ []) }
-    ∷ record { asks = mapsOf isomorphisms null3 null3 (first ∷ next (1 ∷ 2 ∷ 3 ∷ []) ∷ next (1 ∷ 3 ∷ 2 ∷ []) ∷ next (1 ∷ 2 ∷ 200 ∷ []) ∷ []); says = found (some (1 ∷ 2 ∷ 3 ∷ []) ∷ some (1 ∷ 3 ∷ 2 ∷ []) ∷ none ∷ some (1 ∷ 3 ∷ 2 ∷ []) ∷ []) }
-    ∷ record { asks = mapsOf isomorphisms mat5 mat5 (first ∷ next (1 ∷ 2 ∷ 3 ∷ 4 ∷ 5 ∷ []) ∷ []); says = found (some (1 ∷ 2 ∷ 3 ∷ 4 ∷ 5 ∷ []) ∷ none ∷ []) }
-    ∷ record { asks = mapsOf embeddings two swap (first ∷ []); says = found (none ∷ []) }
+    ∷ record { asks = mapsOf embeddings swap two (first ∷ next (2 ∷ 3 ∷ []) ∷ []); says = mapsInTurn (some (2 ∷ 3 ∷ []) ∷ none ∷ []) }
+    ∷ record { asks = mapsOf embeddings right two (first ∷ next (1 ∷ 4 ∷ []) ∷ next (4 ∷ 1 ∷ []) ∷ []); says = mapsInTurn (some (1 ∷ 4 ∷ []) ∷ some (4 ∷ 1 ∷ []) ∷ none ∷ []) }
+    ∷ record { asks = mapsOf embeddings left two (first ∷ []); says = mapsInTurn (none ∷ []) }
+    ∷ record { asks = mapsOf embeddings one two (first ∷ next (1 ∷ []) ∷ next (2 ∷ []) ∷ next (4 ∷ []) ∷ []); says = mapsInTurn (some (1 ∷ []) ∷ some (2 ∷ []) ∷ some (4 ∷ []) ∷ none ∷ []) }
+    ∷ record { asks = mapsOf isomorphisms two two (first ∷ next (1 ∷ 2 ∷ 3 ∷ 4 ∷ []) ∷ next (4 ∷ 2 ∷ 3 ∷ 1 ∷ []) ∷ []); says = mapsInTurn (some (1 ∷ 2 ∷ 3 ∷ 4 ∷ []) ∷ some (4 ∷ 2 ∷ 3 ∷ 1 ∷ []) ∷ none ∷ []) }
+    ∷ record { asks = mapsOf isomorphisms null3 null3 (first ∷ next (1 ∷ 2 ∷ 3 ∷ []) ∷ next (1 ∷ 3 ∷ 2 ∷ []) ∷ next (1 ∷ 2 ∷ 200 ∷ []) ∷ []); says = mapsInTurn (some (1 ∷ 2 ∷ 3 ∷ []) ∷ some (1 ∷ 3 ∷ 2 ∷ []) ∷ none ∷ some (1 ∷ 3 ∷ 2 ∷ []) ∷ []) }
+    ∷ record { asks = mapsOf isomorphisms mat5 mat5 (first ∷ next (1 ∷ 2 ∷ 3 ∷ 4 ∷ 5 ∷ []) ∷ []); says = mapsInTurn (some (1 ∷ 2 ∷ 3 ∷ 4 ∷ 5 ∷ []) ∷ none ∷ []) }
+    ∷ record { asks = mapsOf embeddings two swap (first ∷ []); says = mapsInTurn (none ∷ []) }
     ∷ []
 
 -- ---- the claim that they share
 
 pub record Worked : Type 0 where
   pub thirteen : length cases ≡ 13
-  -- By the definitions each question's answer is the one that stands beside it.
-  pub answers : (c : Case) → List·Memᴰ c cases → answer (c .asks) ≡ c .says
+  -- By the definitions each query's result is the one that stands beside it.
+  pub results : (c : Case) → List·Memᴰ c cases → result (c .asks) ≡ c .says
   -- Each table that is named is accepted.
   pub accepted : (t : Table) → List·Memᴰ t tables → Accepted (t .order) (t .cells)
   -- The degree 2 table has the cells that 01 prints.

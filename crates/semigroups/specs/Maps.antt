@@ -4,7 +4,7 @@
 use mathlib.Core.Path.{_≡_}
 use mathlib.Core.Bool.{Bool, true, _&&_}
 use mathlib.Core.List.{List, map}
-use mathlib.Core.Option.{Option}
+use mathlib.Core.Option.{Option, none, some}
 use Prim.Native.Nat.{ℕ}
 use lib.Dec.{eqb}
 use lib.ListN.{length}
@@ -76,6 +76,15 @@ beyond (next b) f = earlier b f
 
 unfoldable pub earliest : Ask → List (List ℕ) → Option (List ℕ)
 earliest ask l = find (beyond ask) l
+
+-- What a search gives: a map is found, or there is none.
+pub data Sought : Type 0 where
+  found : Sought
+  nothing : Sought
+
+abbrev pub sought : Option (List ℕ) → Sought
+sought (some f) = found
+sought none = nothing
 
 -- ---- identity, composite, inverse (01, "Walks")
 

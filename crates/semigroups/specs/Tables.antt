@@ -58,10 +58,7 @@ pub record Filled (n : ℕ) (cells : List ℕ) : Type 0 where
 
 -- A table is accepted (01, "Tables and elements").
 pub record Accepted (n : ℕ) (cells : List ℕ) : Type 0 where
-  pub from-one : 1 ≤ n
-  pub to-limit : n ≤ 120
-  pub size : length cells ≡ n * n
-  pub in-range : (k : ℕ) → k < length cells → Element n (getD cells k 0)
+  pub filled : Filled n cells
   pub associative : Associative n (product n cells)
 
 -- ---- tests that compute

@@ -150,9 +150,6 @@ module _ (n : ℕ) (cells : List ℕ) where
   unfolding tableRefusal cellsRefusal firstOf
   cells-pass e = passed-before (cellsQuestions n cells) (tripleQuestion n cells ∷ []) e ∙ orElse-nothing (refusalBy (tripleQuestion n cells))
 
-pub accepted-filled : (n : ℕ) (cells : List ℕ) → Accepted n cells → Filled n cells
-accepted-filled n cells a = record { order = (a .from-one, a .to-limit); size = a .size; in-range = a .in-range }
-
 -- ---- the questions about two tables
 
 module _ (m : ℕ) (source : List ℕ) (n : ℕ) (target : List ℕ) where

@@ -2,7 +2,7 @@
 use mathlib.Core.Path.{sym, ap, _∙_}
 use borrow.Author.Needs.{needs}
 use Rattle.tables.specs.Answers.{pairRefusal}
-use Rattle.tables.proofs.Questions.{tables-accepted, accepted-filled}
+use Rattle.tables.proofs.Questions.{tables-accepted}
 use Rattle.maps.proofs.Faults.{call-refused, call-length, call-checked}
 use Rattle.maps.proofs.check.Statement.{statement}
 use Rattle.maps.proofs.check.Tie as tie
@@ -30,7 +30,7 @@ examine-requires : tie.Need-examine-requires
 examine-requires c κs =
     let t = c .before in
     let a = tables-accepted _ _ _ _ (sym (t .before .before .check-pair .ensures) ∙ ap pairRefusal (t .enum-told .given .1)) in
-    (accepted-filled _ _ (a .0), (accepted-filled _ _ (a .1), c .if1 .left))
+    (a .0 .filled, (a .1 .filled, c .if1 .left))
 
 returns-3 : tie.Need-returns-3
 returns-3 c =

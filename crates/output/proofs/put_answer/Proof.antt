@@ -20,7 +20,7 @@ use Rattle.output.proofs.put_answer.Tie as tie
 
 -- Scratch has room for the marks of two tables of order 120.
 marks-room : (c : tie.Start) → c .args .m * c .args .n ≤ 14400
-marks-room c = mul-le-mul (c .pre .0 .to-limit) (c .pre .1 .to-limit)
+marks-room c = mul-le-mul (c .pre .0 .filled .order .1) (c .pre .1 .filled .order .1)
 
 abbrev map-lent : tie.Start → List ℕ
 map-lent c = take (c .args .m) (replicate 120 0)
@@ -29,7 +29,7 @@ abbrev scratch-lent : tie.Start → List ℕ
 scratch-lent c = take (c .args .m * c .args .n) (replicate 14400 0)
 
 map-size : (c : tie.Start) → length (map-lent c) ≡ c .args .m
-map-size c = length-take-le (c .args .m) (replicate 120 0) (c .pre .0 .to-limit)
+map-size c = length-take-le (c .args .m) (replicate 120 0) (c .pre .0 .filled .order .1)
 
 scratch-size : (c : tie.Start) → scratchSize (c .args .m) (c .args .n) ≤ length (scratch-lent c)
 unfolding scratchSize
@@ -66,7 +66,7 @@ array-borrow-prefix-map : tie.Need-array-borrow-prefix-map
 array-borrow-prefix-map c = search needs
 
 slice-aggregate-first-embedding : tie.Need-slice-aggregate-first-embedding
-slice-aggregate-first-embedding c = sym (length-take-le _ _ (c .before .before .before .pre .0 .to-limit))
+slice-aggregate-first-embedding c = sym (length-take-le _ _ (c .before .before .before .pre .0 .filled .order .1))
 
 array-borrow-prefix-scratch : tie.Need-array-borrow-prefix-scratch
 array-borrow-prefix-scratch c = marks-room (c .before .before .before)
@@ -103,7 +103,7 @@ put-found-requires : tie.Need-put-found-requires
 put-found-requires c κs =
     let searched = c .before .before .before .before .before .before in
     let z = start-of searched in
-    ((omega (arith, front searched, z .pre .0 .to-limit), z .pre .1 .to-limit), search needs)
+    ((omega (arith, front searched, z .pre .0 .filled .order .1), z .pre .1 .filled .order .1), search needs)
 
 returns-2 : tie.Need-returns-2
 returns-2 c =

@@ -1,14 +1,24 @@
 -- `answer` meets its contract: scratch holds the candidates, and the marked search finds the map asked for. Assumes nothing.
 use mathlib.Core.Path.{sym, _∙_}
+use mathlib.Core.Option.{none, some}
 use borrow.Author.Tests.{not-true, not-false}
 use borrow.Author.Needs.{needs}
 use lib.ListN.{take}
 use Rattle.semigroups.proofs.Tables.{accepted-closed}
-use Rattle.search.specs.Calls.{lend, answerOf, scratchOf}
+use Rattle.search.specs.Calls.{Lent, lend}
+use Rattle.search.specs.Wanted.{Passes}
 use Rattle.search.specs.Answers.{kindOf, requestOf}
-use Rattle.search.proofs.Answering.{answer-unfit, answer-none, answer-some, nothing-left, found-left, scratch-left}
+use Rattle.search.proofs.Answering.{answer-unfit, answer-none, answer-some, left}
 use Rattle.search.proofs.answer.Statement.{statement}
 use Rattle.search.proofs.answer.Tie as tie
+
+-- What is lent, and that no question fails.
+module _ (z : tie.Start) where
+  abbrev lent : Lent
+  lent = let a = z .args in lend (a .source .now) (a .m) (a .target .now) (a .n) (a .map .now) (a .scratch .now)
+
+  passes : Passes lent
+  passes = record { check = record { source-table = z .pre .0 .0; target-table = z .pre .0 .1; map-size = z .pre .1 .0 }; scratch-room = z .pre .1 .1 }
 
 fill-requires : tie.Need-fill-requires
 fill-requires c κs = search needs
@@ -23,13 +33,13 @@ returns : tie.Need-returns
 returns c =
     let z = c .before .before .before .before .before .before .before .before .before .before in
     let a = z .args in
-    let l = lend (a .source .now) (a .m) (a .target .now) (a .n) (a .map .now) (a .scratch .now) in
+    let l = lent z in
     let kind = kindOf (a .kind) in
     let request = requestOf (a .next) in
     let o = c .before .order-fits in
     let e = answer-unfit kind (a .next) l (accepted-closed (a .m) (a .source .now) (z .pre .0 .0)) (accepted-closed (a .n) (a .target .now) (z .pre .0 .1)) (sym (o .ensures) ∙ not-true (o .result) (c .if1 .taken)) in
-    let left = nothing-left (answerOf kind request l) (a .map .now) (scratchOf kind request l) e in
-    (left .0, (left .1, c .before .before .before .before .fill .ensures ∙ sym (scratch-left (answerOf kind request l) (a .map .now) (scratchOf kind request l))))
+    let w = left kind request l (passes z) none e in
+    (w .says, (w .map, c .before .before .before .before .fill .ensures ∙ w .scratch))
 
 find-requires : tie.Need-find-requires
 find-requires c κs = search needs
@@ -44,15 +54,15 @@ returns-2 : tie.Need-returns-2
 returns-2 c =
     let z = c .before .before .before .before .before .before .before .before .before .before .before .before .before .before .before in
     let a = z .args in
-    let l = lend (a .source .now) (a .m) (a .target .now) (a .n) (a .map .now) (a .scratch .now) in
+    let l = lent z in
     let kind = kindOf (a .kind) in
     let request = requestOf (a .next) in
     let o = c .before .before .before .before .before .before .order-fits in
     let f = c .before .before .find in
     let filled = c .before .before .before .before .before .before .before .before .before .fill .ensures in
     let e = answer-none kind (a .next) l (accepted-closed (a .m) (a .source .now) (z .pre .0 .0)) (accepted-closed (a .n) (a .target .now) (z .pre .0 .1)) (sym (o .ensures) ∙ not-false (o .result) (c .before .before .before .before .before .if1 .left)) _ filled (f .result) (f .ensures) (not-true (f .result .ok) (c .if2 .taken)) in
-    let left = nothing-left (answerOf kind request l) (a .map .now) (scratchOf kind request l) e in
-    (left .0, (left .1, filled ∙ sym (scratch-left (answerOf kind request l) (a .map .now) (scratchOf kind request l))))
+    let w = left kind request l (passes z) none e in
+    (w .says, (w .map, filled ∙ w .scratch))
 
 write-map-requires : tie.Need-write-map-requires
 write-map-requires c κs = search needs
@@ -67,7 +77,7 @@ returns-3 : tie.Need-returns-3
 returns-3 c =
     let z = c .before .before .before .before .before .before .before .before .before .before .before .before .before .before .before .before .before .before .before .before .before in
     let a = z .args in
-    let l = lend (a .source .now) (a .m) (a .target .now) (a .n) (a .map .now) (a .scratch .now) in
+    let l = lent z in
     let kind = kindOf (a .kind) in
     let request = requestOf (a .next) in
     let o = c .before .before .before .before .before .before .before .before .before .before .before .before .order-fits in
@@ -75,8 +85,8 @@ returns-3 c =
     let filled = c .before .before .before .before .before .before .before .before .before .before .before .before .before .before .before .fill .ensures in
     let ok = not-false (f .result .ok) (c .before .before .before .before .before .before .if2 .left) in
     let e = answer-some kind (a .next) l (accepted-closed (a .m) (a .source .now) (z .pre .0 .0)) (accepted-closed (a .n) (a .target .now) (z .pre .0 .1)) (sym (o .ensures) ∙ not-false (o .result) (c .before .before .before .before .before .before .before .before .before .before .before .if1 .left)) _ filled (f .result) (f .ensures) ok in
-    let left = found-left (answerOf kind request l) (a .map .now) (scratchOf kind request l) (take (a .m) (f .result .image)) e in
-    (left .0, (c .before .before .write-map .ensures ∙ left .1, filled ∙ sym (scratch-left (answerOf kind request l) (a .map .now) (scratchOf kind request l))))
+    let w = left kind request l (passes z) (some (take (a .m) (f .result .image))) e in
+    (w .says, (c .before .before .write-map .ensures ∙ w .map, filled ∙ w .scratch))
 
 pub answer-spec : {M : Type 1} → statement M
 answer-spec =

@@ -7,8 +7,8 @@ use Rattle.tables.specs.Answers.{pairRefusal}
 use Rattle.tables.proofs.Questions.{tables-accepted}
 use Rattle.search.specs.Calls.{Called, lend}
 use Rattle.search.specs.Answers.{kindOf, requestOf}
-use Rattle.search.proofs.Answering.{tables-refused, map-refused, scratch-refused, none-refused}
-use Rattle.search.proofs.Calls.{refused-unchanged, not-refused}
+use Rattle.search.proofs.Answering.{tables-refused, map-refused, scratch-refused}
+use Rattle.search.proofs.Calls.{refused-unchanged}
 use Rattle.search.proofs.search.Statement.{statement}
 use Rattle.search.proofs.search.Tie as tie
 
@@ -42,7 +42,7 @@ scratch-size-requires c κs =
     let z = c .before .before .before .before .before .before .before .before in
     let a = z .args in
     let accepted = tables-accepted (a .m) (a .source .now) (a .n) (a .target .now) (sym (c .before .before .before .check-pair .ensures) ∙ ap pairRefusal (c .before .enum-told .given .1)) in
-    (accepted .0 .to-limit, accepted .1 .to-limit)
+    (accepted .0 .filled .order .1, accepted .1 .filled .order .1)
 
 returns-3 : tie.Need-returns-3
 returns-3 c =
@@ -69,15 +69,7 @@ same-length-2 : tie.Need-same-length-2
 same-length-2 c = search needs
 
 returns-4 : tie.Need-returns-4
-returns-4 c =
-    let z = c .before .before .before .before .before .before .before .before .before .before .before .before .before .before .before .before .before in
-    let a = z .args in
-    let l = lend (a .source .now) (a .m) (a .target .now) (a .n) (a .map .now) (a .scratch .now) in
-    let size = c .before .before .before .before .before .before .before .before .scratch-size .ensures in
-    let room = c .before .before .before .before .before .before .before .if2 .left in
-    let w = c .before .before .before .before .answer .ensures in
-    let e = sym (not-refused (kindOf (a .kind)) l (requestOf (a .next)) (none-refused (a .m) (a .source .now) (a .n) (a .target .now) (length (a .map .now)) (length (a .scratch .now)) (sym (c .before .before .before .before .before .before .before .before .before .before .before .before .check-pair .ensures) ∙ ap pairRefusal (c .before .before .before .before .before .before .before .before .before .before .enum-told .given .1)) (c .before .before .before .before .before .before .before .before .before .if1 .left) (omega arith))) in
-    (w .0 ∙ ap (λ (r : Called). r .says) e, (w .1 .0 ∙ ap (λ (r : Called). r .map) e, w .1 .1 ∙ ap (λ (r : Called). r .scratch) e))
+returns-4 c = c .before .before .before .before .answer .ensures
 
 pub search-spec : {M : Type 1} → statement M
 search-spec =
