@@ -155,12 +155,12 @@ fn field(text: &[u8], said: Said, cell: u8, tally: Tally) -> Tally
     counted(answered, same_bytes(&cells, &[cell, 7]))
 }
 
-// A field of 120 is accepted; 121 gives 25, 0 gives 24 and 0001 gives 23.
+// A field of 120 is accepted; 121 gives 25, 0 and 0001 give 24.
 pub fn fields() -> Tally
     ensures answer { λ r. ⌜ r ≡ agreed 8 empty ⌝ }
 {
     let most = field(b"120\r\n", failed(0, 1), 120, start());
     let above = field(b"121\r\n", failed(25, 0), 7, most);
     let zero = field(b"0\r\n", failed(24, 0), 7, above);
-    field(b"0001\r\n", failed(23, 0), 7, zero)
+    field(b"0001\r\n", failed(24, 0), 7, zero)
 }

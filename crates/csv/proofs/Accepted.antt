@@ -59,7 +59,7 @@ every-at P (x ∷ l) h = (h 0 (omega arith), every-at P l (λ k b. h (suc k) (om
 numeral-passes : (x : ℕ) → Element 120 x → fieldRefusal (numeral x) ≡ none
 numeral-passes x e =
     let s : x < 1000 = omega arith in
-    sym (field-passes (numeral x) (numeral-long x s) (digits-few x) (numeral-leading x (e .0) s) (rw (value-numeral x s) (e .1)))
+    sym (field-passes (numeral x) (numeral-leading x (e .0) s) (numeral-long x s) (digits-few x) (rw (value-numeral x s) (e .1)))
 
 numerals-pass : (l : List ℕ) → Every (Element 120) l → fieldsRefusal (map numeral l) ≡ none
 unfolding orElse

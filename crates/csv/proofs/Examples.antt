@@ -35,13 +35,17 @@ examples =
     -- A field with no byte: an empty record, and one behind a comma.
     ∷ record { text = 13 ∷ 10 ∷ []; room = 1; says = some (no 23 []) }
     ∷ record { text = 49 ∷ 44 ∷ 13 ∷ 10 ∷ 49 ∷ 44 ∷ 49 ∷ 13 ∷ 10 ∷ []; room = 4; says = some (no 23 []) }
-    -- One field: four bytes, a leading 0, above 120.
-    ∷ record { text = 48 ∷ 48 ∷ 48 ∷ 49 ∷ 13 ∷ 10 ∷ []; room = 1; says = some (no 23 []) }
+    -- One field: a leading 0, whatever its length; four bytes; above 120.
     ∷ record { text = 48 ∷ 13 ∷ 10 ∷ []; room = 1; says = some (no 24 []) }
+    ∷ record { text = 48 ∷ 48 ∷ 13 ∷ 10 ∷ []; room = 1; says = some (no 24 []) }
+    ∷ record { text = 48 ∷ 48 ∷ 48 ∷ 49 ∷ 13 ∷ 10 ∷ []; room = 1; says = some (no 24 []) }
+    ∷ record { text = 48 ∷ 48 ∷ 48 ∷ 48 ∷ 13 ∷ 10 ∷ []; room = 1; says = some (no 24 []) }
+    ∷ record { text = 49 ∷ 50 ∷ 51 ∷ 52 ∷ 13 ∷ 10 ∷ []; room = 1; says = some (no 23 []) }
     ∷ record { text = 49 ∷ 50 ∷ 49 ∷ 13 ∷ 10 ∷ []; room = 1; says = some (no 25 []) }
     -- Two fields: the first that fails decides.
     ∷ record { text = 49 ∷ 50 ∷ 49 ∷ 44 ∷ 48 ∷ 13 ∷ 10 ∷ []; room = 1; says = some (no 25 []) }
     ∷ record { text = 49 ∷ 50 ∷ 51 ∷ 52 ∷ 44 ∷ 48 ∷ 13 ∷ 10 ∷ []; room = 1; says = some (no 23 []) }
+    ∷ record { text = 48 ∷ 44 ∷ 49 ∷ 50 ∷ 51 ∷ 52 ∷ 13 ∷ 10 ∷ []; room = 1; says = some (no 24 []) }
     -- A short record, a record too many; a field of the last record that fails is asked before.
     ∷ record { text = 49 ∷ 44 ∷ 50 ∷ 13 ∷ 10 ∷ 49 ∷ 13 ∷ 10 ∷ []; room = 4; says = some (no 26 []) }
     ∷ record { text = 49 ∷ 13 ∷ 10 ∷ 49 ∷ 13 ∷ 10 ∷ []; room = 4; says = some (no 26 []) }

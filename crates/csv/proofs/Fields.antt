@@ -139,26 +139,28 @@ end-passes t l h g = simp (last-place t l, h, g)
 -- ---- questions 23 to 25
 
 module _ (f : List ℕ) where
+  pub field-zero : getD f 0 0 ≡ 48 → some (no 24 []) ≡ fieldRefusal f
+  unfolding fieldRefusal firstOf orElse
+  field-zero h = simp h
+
+  -- A field with no byte passes 24.
   pub field-empty : length f < 1 → some (no 23 []) ≡ fieldRefusal f
   unfolding fieldRefusal firstOf orElse isElement
-  field-empty h = simp (lt-leb _ _ h)
+  field-empty h = simp (List·getD-eq-default f 0 {n = 0} (omega arith), lt-leb _ _ h)
 
-  pub field-long : 3 < length f → some (no 23 []) ≡ fieldRefusal f
-  unfolding fieldRefusal firstOf orElse isElement
-  field-long h = simp (lt-leb _ _ h, and-false)
-
-  module _ (one : 1 ≤ length f) (three : length f ≤ 3) where
-    pub field-zero : getD f 0 0 ≡ 48 → some (no 24 []) ≡ fieldRefusal f
+  module _ (leading : getD f 0 0 ≡ 48 → ⊥) where
+    pub field-long : 3 < length f → some (no 23 []) ≡ fieldRefusal f
     unfolding fieldRefusal firstOf orElse isElement
-    field-zero h = simp (le-leb _ _ one, le-leb _ _ three, h)
+    field-long h = simp (ne-eqb _ _ leading, lt-leb _ _ h, and-false)
 
-    pub field-large : (getD f 0 0 ≡ 48 → ⊥) → 120 < value f → some (no 25 []) ≡ fieldRefusal f
-    unfolding fieldRefusal firstOf orElse isElement
-    field-large h g = simp (le-leb _ _ one, le-leb _ _ three, ne-eqb _ _ h, lt-leb _ _ g)
+    module _ (one : 1 ≤ length f) (three : length f ≤ 3) where
+      pub field-large : 120 < value f → some (no 25 []) ≡ fieldRefusal f
+      unfolding fieldRefusal firstOf orElse isElement
+      field-large h = simp (ne-eqb _ _ leading, le-leb _ _ one, le-leb _ _ three, lt-leb _ _ h)
 
-    pub field-passes : (getD f 0 0 ≡ 48 → ⊥) → value f ≤ 120 → none ≡ fieldRefusal f
-    unfolding fieldRefusal firstOf orElse isElement
-    field-passes h g = simp (le-leb _ _ one, le-leb _ _ three, ne-eqb _ _ h, le-leb _ _ g)
+      pub field-passes : value f ≤ 120 → none ≡ fieldRefusal f
+      unfolding fieldRefusal firstOf orElse isElement
+      field-passes h = simp (ne-eqb _ _ leading, le-leb _ _ one, le-leb _ _ three, le-leb _ _ h)
 
 -- ---- a field that passes
 
@@ -166,11 +168,11 @@ pub field-passed : (f : List ℕ) → fieldRefusal f ≡ none → Number f
 unfolding fieldRefusal
 field-passed f h =
     let p = all-passed (fieldQuestions f) .0 h in
-    let size = is-element 3 (length f) (ask-passed 23 (isElement 3 (length f)) (p .0)) in
+    let size = is-element 3 (length f) (ask-passed 23 (isElement 3 (length f)) (p .1 .0)) in
     record {
       some-byte = size .0;
       short = size .1;
-      leading = eqb-false (getD f 0 0) 48 (not-true (eqb (getD f 0 0) 48) (ask-passed 24 (not (eqb (getD f 0 0) 48)) (p .1 .0)));
+      leading = eqb-false (getD f 0 0) 48 (not-true (eqb (getD f 0 0) 48) (ask-passed 24 (not (eqb (getD f 0 0) 48)) (p .0)));
       small = leb-true (value f) 120 (ask-passed 25 (leb (value f) 120) (p .1 .1 .0));
     }
 

@@ -149,13 +149,13 @@ load-passed t room h =
 
 -- ---- which numbers can come
 
-fields-listed : (ns : List ℕ) → all (λ k. member k ns) (23 ∷ 24 ∷ 25 ∷ []) ≡ true → (fs : List (List ℕ)) → Listed ns (fieldsQuestions fs)
+fields-listed : (ns : List ℕ) → all (λ k. member k ns) (24 ∷ 23 ∷ 25 ∷ []) ≡ true → (fs : List (List ℕ)) → Listed ns (fieldsQuestions fs)
 unfolding fieldsQuestions flatMap
 fields-listed ns h [] = listed ns [] (unfold all in refl)
 fields-listed ns h (f ∷ fs) = listed-append ns (fieldQuestions f) (fieldsQuestions fs) (listed ns (fieldQuestions f) h) (fields-listed ns h fs)
 
 -- 20 to 26, and those of the two questions behind them.
-pub load-listed : (ns : List ℕ) → all (λ k. member k ns) (20 ∷ 21 ∷ 22 ∷ []) ≡ true → all (λ k. member k ns) (23 ∷ 24 ∷ 25 ∷ []) ≡ true → all (λ k. member k ns) (26 ∷ []) ≡ true
+pub load-listed : (ns : List ℕ) → all (λ k. member k ns) (20 ∷ 21 ∷ 22 ∷ []) ≡ true → all (λ k. member k ns) (24 ∷ 23 ∷ 25 ∷ []) ≡ true → all (λ k. member k ns) (26 ∷ []) ≡ true
     → (t : List ℕ) (room : ℕ) → Listed ns (sizeQuestions t room) → Listed ns (loadQuestions t room)
 load-listed ns a b c t room h =
     let begin = ask 20 (isElement longest (length t)) ∷ bytesQuestion t ∷ endQuestion t ∷ [] in

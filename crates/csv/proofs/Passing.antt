@@ -115,7 +115,7 @@ end-asked t = asked 22 (breakAt t (length t - 2)) to from
 
 field-asked : (f : List ℕ) (fs : List (List ℕ)) → fieldsRefusal fs ≡ none → Number f → fieldsRefusal (f ∷ fs) ≡ none
 unfolding orElse
-field-asked f fs e n = fields-first f fs ∙ rw (sym (field-passes f (n .some-byte) (n .short) (n .leading) (n .small))) e
+field-asked f fs e n = fields-first f fs ∙ rw (sym (field-passes f (n .leading) (n .some-byte) (n .short) (n .small))) e
 
 fields-asked : (fs : List (List ℕ)) → (fieldsRefusal fs ≡ none) ↔ ((f : List ℕ) → List·Memᴰ f fs → Number f)
 fields-asked [] = ((λ e f m. absurd (List·Memᴰ·not-nil m)), λ h. no-fields)

@@ -1,4 +1,4 @@
--- The questions about loading and saving a text, in the order of 01, "The questions".
+-- The questions about loading and saving a text, in the order of 01, "The questions", with 24 before 23 (02, (iv)).
 -- Stricter than RFC 4180 by 01, "About loading a text": a length limit (20); digits, commas and line breaks alone, so no header, no quoted field
 -- and no space (21); the last record closed too (22); decimal fields of 1 to 120 with no leading 0 (23 to 25); a square (26) of order 120 at
 -- most (1).
@@ -55,9 +55,9 @@ endRefusal t = firstNo (endQuestion t ∷ [])
 
 -- ---- the fields of a text
 
--- About a field: 23, is it 1 to 3 bytes? 24, is its first byte other than 0? 25, is it at most 120?
+-- About a field: 24, is its first byte other than 0? A field with no byte has none, and passes. 23, is it 1 to 3 bytes? 25, is it at most 120?
 abbrev pub fieldQuestions : List ℕ → List Question
-fieldQuestions f = ask 23 (isElement 3 (length f)) ∷ ask 24 (not (eqb (getD f 0 0) 48)) ∷ ask 25 (leb (value f) 120) ∷ []
+fieldQuestions f = ask 24 (not (eqb (getD f 0 0) 48)) ∷ ask 23 (isElement 3 (length f)) ∷ ask 25 (leb (value f) 120) ∷ []
 
 unfoldable pub fieldRefusal : List ℕ → Option Refusal
 fieldRefusal f = firstNo (fieldQuestions f)
@@ -77,7 +77,7 @@ isSquare n rs = eqb (length rs) n && all (λ r. eqb (length r) n) rs
 abbrev pub squareQuestion : ℕ → List ℕ → Question
 squareQuestion n t = ask 26 (isSquare n (rows t))
 
--- 23 to 25 of each field; then 26 for an order n that is given.
+-- 24, 23 and 25 of each field; then 26 for an order n that is given.
 abbrev pub gridQuestions : ℕ → List ℕ → List Question
 gridQuestions n t = fieldsQuestions (fieldsOf t) ++ squareQuestion n t ∷ []
 
@@ -90,8 +90,8 @@ gridRefusal n t = firstNo (gridQuestions n t)
 abbrev pub sizeQuestions : List ℕ → ℕ → List Question
 sizeQuestions t room = ask 1 (leb (orderOf t) 120) ∷ ask 27 (leb (orderOf t * orderOf t) room) ∷ []
 
--- About loading a text into a buffer of so many cells: 20, is it 1 to 57,720 bytes long? Then 21 to 25; 26, are there as many records as the
--- first has fields, each with that many? Then 1 and 27. Neither 3 nor 4 is asked.
+-- About loading a text into a buffer of so many cells: 20, is it 1 to 57,720 bytes long? Then 21 and 22; 24, 23 and 25 of each field; 26, are
+-- there as many records as the first has fields, each with that many? Then 1 and 27. Neither 3 nor 4 is asked.
 abbrev pub loadQuestions : List ℕ → ℕ → List Question
 loadQuestions t room =
     ask 20 (isElement longest (length t)) ∷ bytesQuestion t ∷ endQuestion t

@@ -152,7 +152,7 @@ fn read_number(text: &[u8], at: usize, end: usize) -> usize
     v
 }
 
-// Questions 23, 24 and 25 about the field of digits from `at` to `end`.
+// Questions 24, 23 and 25 about the field of digits from `at` to `end`. One with no byte passes 24.
 fn judge_field(text: &[u8], at: usize, end: usize) -> Judged
     requires inside { ⌜ at ≤ length (now text) ⌝ }
     requires whole { ⌜ end ≡ fieldEnd (now text) at ⌝ }
@@ -161,11 +161,11 @@ fn judge_field(text: &[u8], at: usize, end: usize) -> Judged
     if end - at < 1 {
         return Judged::Failed(TextFault::FieldLength);
     }
-    if 3 < end - at {
-        return Judged::Failed(TextFault::FieldLength);
-    }
     if text[at] == 48 {
         return Judged::Failed(TextFault::LeadingZero);
+    }
+    if 3 < end - at {
+        return Judged::Failed(TextFault::FieldLength);
     }
     if 120 < read_number(text, at, end) {
         return Judged::Failed(TextFault::FieldValue);
@@ -229,7 +229,7 @@ fn columns(text: &[u8]) -> usize
     n
 }
 
-// Questions 23 to 25 about each field; then, where they pass, 26: are there n records, each with n fields?
+// Questions 24, 23 and 25 about each field; then, where they pass, 26: are there n records, each with n fields?
 fn judge_fields(text: &[u8], n: usize) -> Judged
     requires some { ⌜ 1 ≤ length (now text) ⌝ }
     requires bytes { ⌜ bytesRefusal (now text) ≡ none ⌝ }

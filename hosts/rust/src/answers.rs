@@ -55,9 +55,9 @@ pub enum Question {
     },
     /// 22: does the text end in CR LF?
     TextEnd,
-    /// 23: is each field 1 to 3 bytes long?
+    /// 23: is each field 1 to 3 bytes long? Asked after 24.
     FieldLength,
-    /// 24: is its first byte other than 0?
+    /// 24: is its first byte other than 0? An empty field has none.
     FieldStart,
     /// 25: is it at most 120?
     FieldRange,

@@ -1,15 +1,34 @@
--- `judge_field` answers questions 23, 24 and 25 about the digits at a place.
+-- `judge_field` answers questions 24, 23 and 25 about the digits at a place.
 -- Assumes nothing.
-use mathlib.Core.Path.{sym, _∙_}
-use Prim.Native.Nat.{_≤_}
+use mathlib.Core.List.{List}
+use mathlib.Core.Path.{_≡_, sym, _∙_}
+use Prim.Native.Nat.{ℕ, _≤_}
 use native.Mathlib.Omega.{arith}
-use lib.ListN.{length, drop}
+use lib.ListN.{length, getD, drop}
 use denote.Ref.{now}
 use borrow.Author.Needs.{needs}
 use Rattle.csv.specs.Decimals.{digits}
 use Rattle.csv.proofs.Fields.{digit-here, digits-first, field-empty, field-long, field-zero, field-large, field-passes}
 use Rattle.text.proofs.judge_field.Statement.{statement}
 use Rattle.text.proofs.judge_field.Tie as tie
+
+-- The field, where it has a byte.
+module _ (c : tie.Else1) where
+  abbrev start : tie.Start
+  start = c .before .before
+
+  abbrev field : List ℕ
+  field = digits (drop (start .args .at) (now (start .args .text)))
+
+  one : 1 ≤ length field
+  one = let whole = start .pre .1 in omega arith
+
+  first : getD field 0 0 ≡ getD (now (start .args .text)) (start .args .at) 0
+  first = digits-first (now (start .args .text)) (start .args .at) one
+
+-- It starts with no 0.
+leading : (c : tie.Else2) → getD (field (c .before .before)) 0 0 ≡ 48 → ⊥
+leading c e = c .if2 .left (sym (first (c .before .before)) ∙ e)
 
 sub-if1 : tie.Need-sub-if1
 sub-if1 c = search needs
@@ -20,49 +39,39 @@ returns c =
     let whole = s .pre .1 in
     field-empty (digits (drop (s .args .at) (now (s .args .text)))) (omega arith)
 
-sub-if2 : tie.Need-sub-if2
-sub-if2 c = search needs
+shared-slice-read-if2 : tie.Need-shared-slice-read-if2
+shared-slice-read-if2 c =
+    let s = start (c .before) in
+    digit-here (now (s .args .text)) (s .args .at) (one (c .before)) .0
 
 returns-2 : tie.Need-returns-2
 returns-2 c =
-    let s = c .before .before .before in
-    let whole = s .pre .1 in
-    field-long (digits (drop (s .args .at) (now (s .args .text)))) (omega arith)
+    let x = c .before .before in
+    field-zero (field x) (first x ∙ c .if2 .taken)
 
-shared-slice-read-if3 : tie.Need-shared-slice-read-if3
-shared-slice-read-if3 c =
-    let s = c .before .before .before .before in
-    let whole = s .pre .1 in
-    digit-here (now (s .args .text)) (s .args .at) (omega arith) .0
+sub-if3 : tie.Need-sub-if3
+sub-if3 c = search needs
 
 returns-3 : tie.Need-returns-3
 returns-3 c =
-    let s = c .before .before .before .before .before in
-    let whole = s .pre .1 in
-    let f = digits (drop (s .args .at) (now (s .args .text))) in
-    let one : 1 ≤ length f = omega arith in
-    field-zero f one (omega arith) (digits-first (now (s .args .text)) (s .args .at) one ∙ c .if3 .taken)
+    let x = c .before .before .before in
+    let whole = start x .pre .1 in
+    field-long (field x) (leading (c .before)) (omega arith)
 
 read-number-requires : tie.Need-read-number-requires
 read-number-requires c κs = search needs
 
 returns-4 : tie.Need-returns-4
 returns-4 c =
-    let s = c .before .before .before .before .before .before .before in
-    let whole = s .pre .1 in
-    let f = digits (drop (s .args .at) (now (s .args .text))) in
-    let one : 1 ≤ length f = omega arith in
-    field-large f one (omega arith) (λ e. c .before .before .if3 .left (sym (digits-first (now (s .args .text)) (s .args .at) one) ∙ e))
-    (rw (c .before .read-number .ensures) at (c .if4 .taken))
+    let x = c .before .before .before .before .before in
+    let whole = start x .pre .1 in
+    field-large (field x) (leading (c .before .before .before)) (one x) (omega arith) (rw (c .before .read-number .ensures) at (c .if4 .taken))
 
 returns-5 : tie.Need-returns-5
 returns-5 c =
-    let s = c .before .before .before .before .before .before .before in
-    let whole = s .pre .1 in
-    let f = digits (drop (s .args .at) (now (s .args .text))) in
-    let one : 1 ≤ length f = omega arith in
-    field-passes f one (omega arith) (λ e. c .before .before .if3 .left (sym (digits-first (now (s .args .text)) (s .args .at) one) ∙ e))
-    (rw (c .before .read-number .ensures) at (c .if4 .left))
+    let x = c .before .before .before .before .before in
+    let whole = start x .pre .1 in
+    field-passes (field x) (leading (c .before .before .before)) (one x) (omega arith) (rw (c .before .read-number .ensures) at (c .if4 .left))
 
 pub judge-field-spec : {M : Type 1} → statement M
 judge-field-spec =
@@ -70,9 +79,9 @@ judge-field-spec =
     (tie.spec
     sub-if1
     returns
-    sub-if2
+    shared-slice-read-if2
     returns-2
-    shared-slice-read-if3
+    sub-if3
     returns-3
     read-number-requires
     returns-4

@@ -364,10 +364,10 @@ fn is_allowed(text: &[u8], place: usize) -> bool {
     }
 }
 
-/// The number in a field, after questions 23 to 25.
+/// The number in a field, after questions 24, 23 and 25.
 fn field_value(field: &str) -> Result<u8, No> {
-    ask((1..=3).contains(&field.len()), 23)?;
     ask(!field.starts_with('0'), 24)?;
+    ask((1..=3).contains(&field.len()), 23)?;
     let value: usize = field.parse().expect("a field has digits only");
     ask(value <= 120, 25)?;
     Ok(value as u8)

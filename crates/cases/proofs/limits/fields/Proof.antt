@@ -47,7 +47,7 @@ c-cell : sameBytes (cellsAfter (48 ∷ 13 ∷ 10 ∷ []) (7 ∷ 7 ∷ [])) (7 �
 unfolding sameSaid sameBytes at range all find isElement firstOf isDigit value valueFrom isBreak onto records fields rows fieldsOf orderOf cellsOf breakAt inBreak isAllowed firstOther bytesRefusal endRefusal fieldRefusal fieldsRefusal isSquare fieldsQuestions loadRefusal loadAnswer cellsAfter orElse flatMap flatten
 c-cell = refl
 
-d-said : sameSaid (answerSaid (loadAnswer (48 ∷ 48 ∷ 48 ∷ 49 ∷ 13 ∷ 10 ∷ []) (7 ∷ 7 ∷ []))) (record { number = 23; first = 0; second = 0; third = 0 }) ≡ true
+d-said : sameSaid (answerSaid (loadAnswer (48 ∷ 48 ∷ 48 ∷ 49 ∷ 13 ∷ 10 ∷ []) (7 ∷ 7 ∷ []))) (record { number = 24; first = 0; second = 0; third = 0 }) ≡ true
 unfolding sameSaid sameBytes at range all find isElement firstOf isDigit value valueFrom isBreak onto records fields rows fieldsOf orderOf cellsOf breakAt inBreak isAllowed firstOther bytesRefusal endRefusal fieldRefusal fieldsRefusal isSquare fieldsQuestions loadRefusal loadAnswer cellsAfter orElse flatMap flatten
 d-said = refl
 
