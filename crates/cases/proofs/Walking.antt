@@ -14,17 +14,15 @@ use lib.Seq.{length-take-le, take-at}
 use Rattle.semigroups.specs.Lists.{earlier, find, sum, count, Increasing}
 use Rattle.semigroups.specs.Tables.{Product, product, IsList, Accepted, Element}
 use Rattle.semigroups.proofs.Candidates.{size-most}
+use Rattle.semigroups.specs.Calls.{gives, overwritten, mapUnless}
 use Rattle.semigroups.specs.Maps.{Kind, maps, first, next, beyond, earliest, sought}
 use Rattle.semigroups.proofs.Lists.{find-same, find-some, find-none}
 use Rattle.semigroups.proofs.Sums.{count-same}
 use Rattle.semigroups.proofs.ListOrder.{earlier-head, earlier-irreflexive, earlier-transitive, earlier-asymmetric}
 use Rattle.semigroups.proofs.Maps.{mem-maps, map-embeds, embedding-list, maps-increasing}
-use Rattle.semigroups.specs.Scratch.{marks}
-use Rattle.semigroups.specs.Candidates.{candidate}
-use Rattle.semigroups.specs.Calls.{gives, overwritten, mapUnless}
 use Rattle.semigroups.proofs.Tables.{no-refusal}
 use Rattle.tables.proofs.Questions.{both-pass}
-use Rattle.search.specs.Calls.{Called, lend, askOf, answerOf}
+use Rattle.search.specs.Calls.{Called, lend, askOf, answerOf, marksOf}
 use Rattle.search.specs.Answers.{requestOf}
 use Rattle.search.proofs.Answering.{none-refused}
 use Rattle.search.proofs.Calls.{not-refused}
@@ -85,6 +83,9 @@ module _ (isomorphisms later : Bool) (source : List ℕ) (m : ℕ) (target : Lis
   abbrev the-answer : Option (List ℕ)
   the-answer = answerOf (kindOf isomorphisms) (requestOf later) (lend source m target n (take m before) (replicate 140 7))
 
+  abbrev the-marks : List ℕ
+  the-marks = marksOf (kindOf isomorphisms) (requestOf later) (lend source m target n (take m before) (replicate 140 7))
+
   from-zeros : 1 ≤ m → earliest (next (take m (behind later before))) the-maps ≡ the-answer
   from-zeros h = go later
     where
@@ -95,7 +96,7 @@ module _ (isomorphisms later : Bool) (source : List ℕ) (m : ℕ) (target : Lis
   module _ (a : Accepted m source) (b : Accepted n target) (hm : m ≤ 5) (hn : n ≤ 27) (size : length before ≡ 5) where
     -- None of the questions fails.
     called-answer : called isomorphisms later source m target n before
-        ≡ record { says = gives (sought the-answer); map = mapUnless none the-answer (take m before); scratch = overwritten (marks m n (candidate (kindOf isomorphisms) m (product m source) n (product n target))) (replicate 140 7) }
+        ≡ record { says = gives (sought the-answer); map = mapUnless none the-answer (take m before); scratch = overwritten the-marks (replicate 140 7) }
     called-answer =
         not-refused (kindOf isomorphisms) (lend source m target n (take m before) (replicate 140 7)) (requestOf later)
         (none-refused m source n target (length (take m before)) 140 (both-pass m source n target (no-refusal m source a) (no-refusal n target b))

@@ -8,9 +8,9 @@ use native.Mathlib.Omega.{arith}
 use lib.ListN.{getD, replicate}
 use Rattle.semigroups.specs.Lists.{range, elements, at, all, find, firstOf, sum, count, least, member, distinct, earlier, lists, Earliest}
 use Rattle.semigroups.specs.Tables.{product, grid, isElement, badCell}
-use Rattle.semigroups.specs.Invariants.{power, periodFrom, IsIndexPeriod, index, period, indexPeriod, profile}
-use Rattle.semigroups.specs.Maps.{isHomomorphism, isEmbedding, embeddings, after, found}
 use Rattle.semigroups.specs.Calls.{gives}
+use Rattle.semigroups.specs.Invariants.{power, periodFrom, IsIndexPeriod, index, period, indexPeriod, profile}
+use Rattle.semigroups.specs.Maps.{isHomomorphism, isEmbedding, embeddings, found, after}
 use Rattle.semigroups.specs.Transformations.{transformations, transformationOrder, transformation, numberOf, transformationProduct, transformationCells}
 use Rattle.semigroups.specs.Passing.{ElementPasses}
 use Rattle.semigroups.specs.Cases.{swap, two, mat5}

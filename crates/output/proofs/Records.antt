@@ -11,7 +11,7 @@ use Rattle.semigroups.specs.Lists.{range, elements, at}
 use Rattle.semigroups.specs.Questions.{Refusal}
 use Rattle.csv.specs.Decimals.{numeral}
 use Rattle.csv.specs.Records.{lineText, rowsText}
-use Rattle.semigroups.specs.Calls.{refused, overwritten}
+use Rattle.semigroups.specs.Calls.{overwritten}
 use Rattle.csv.proofs.Decimals.{digits-few}
 use Rattle.csv.proofs.Writing.{Writing, write-first, write-last, sets-overwritten}
 use Rattle.lines.proofs.Lines.{written, three-fields, two-fields}

@@ -10,7 +10,7 @@ use lib.Seq.{sets}
 use Rattle.semigroups.specs.Tables.{Accepted}
 use Rattle.semigroups.specs.Scratch.{scratchSize}
 use Rattle.semigroups.specs.Maps.{embeddings, found, sought}
-use Rattle.semigroups.specs.Calls.{overwritten, gives, mapUnless}
+use Rattle.semigroups.specs.Calls.{gives, overwritten, mapUnless}
 use Rattle.semigroups.proofs.Tables.{no-refusal}
 use Rattle.tables.proofs.Questions.{both-pass}
 use Rattle.search.specs.Calls.{Called, theFirst, lend, answerOf, marksOf, call}
@@ -46,7 +46,12 @@ module _ (source : List ℕ) (m : ℕ) (target : List ℕ) (n : ℕ) (map scratc
   abbrev earliest-map : Option (List ℕ)
   earliest-map = answerOf embeddings theFirst (lend source m target n map scratch)
 
-  answers : c ≡ record { says = gives (sought earliest-map); map = mapUnless none earliest-map map; scratch = overwritten (marksOf embeddings theFirst (lend source m target n map scratch)) scratch }
+  answers : c
+      ≡ record {
+        says = gives (sought earliest-map);
+        map = mapUnless none earliest-map map;
+        scratch = overwritten (marksOf embeddings theFirst (lend source m target n map scratch)) scratch;
+      }
   answers =
       let pass = both-pass m source n target (no-refusal m source a) (no-refusal n target b) in
       not-refused embeddings (lend source m target n map scratch) theFirst (none-refused m source n target (length map) (length scratch) pass size marks) earliest-map refl

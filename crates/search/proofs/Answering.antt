@@ -12,13 +12,13 @@ use Rattle.semigroups.specs.Lists.{at, find, firstOf}
 use Rattle.semigroups.specs.Tables.{Product, product, Element, Closed}
 use Rattle.semigroups.specs.Scratch.{scratchSize, marked}
 use Rattle.semigroups.specs.Questions.{Question, ask, Refusal, no, firstNo, tablesQuestions, tablesRefusal, searchRefusal}
-use Rattle.semigroups.specs.Calls.{scratchAfter, gives, mapUnless}
+use Rattle.semigroups.specs.Calls.{gives, scratchAfter, mapUnless}
 use Rattle.semigroups.specs.Maps.{Embedding, Kind, embeddings, isomorphisms, maps, Ask, earliest, sought}
 use Rattle.semigroups.specs.Candidates.{candidate}
 use Rattle.semigroups.specs.Search.{search as searched}
 use Rattle.semigroups.proofs.Questions.{failed-before, passed-before}
 use Rattle.semigroups.proofs.Maps.{map-embeds, earliest-found, no-embedding, no-isomorphism, one-order}
-use Rattle.semigroups.proofs.Candidates.{index-period-sound, profile-sound, scratch-written, marked-candidate}
+use Rattle.semigroups.proofs.Candidates.{index-period-sound, profile-sound, marked-candidate}
 use Rattle.semigroups.proofs.Search.{search-earliest}
 use Rattle.backtrack.specs.declared.Found.{Found}
 use Rattle.backtrack.specs.State.{foundIn, bounded}
@@ -135,17 +135,18 @@ module _ (kind : Kind) (later : Bool) (l : Lent) (source : Closed (l .m) (produc
 
 -- ---- what is said and left
 
--- Scratch and the map buffer as they are left where no question fails.
+-- What a call says and leaves where no question fails, from the map asked for.
 pub record Left (kind : Kind) (request : Request) (l : Lent) (o : Option (List ℕ)) : Type 0 where
   pub says : gives (sought o) ≡ call kind request l .says
   pub map : mapUnless none o (l .map) ≡ call kind request l .map
   pub scratch : scratchAfter (l .m) (l .n) (candidate kind (l .m) (product (l .m) (l .source)) (l .n) (product (l .n) (l .target))) (l .scratch) ≡ call kind request l .scratch
 
 pub left : (kind : Kind) (request : Request) (l : Lent) → Passes l → (o : Option (List ℕ)) → answerOf kind request l ≡ o → Left kind request l o
+unfolding scratchAfter
 left kind request l p o e =
     let w = sym (not-refused kind l request (passed kind l request p) o e) in
     record {
       says = ap (λ (c : Called). c .says) w;
       map = ap (λ (c : Called). c .map) w;
-      scratch = scratch-written (l .m) (l .n) (candidate kind (l .m) (product (l .m) (l .source)) (l .n) (product (l .n) (l .target))) (l .scratch) ∙ ap (λ (c : Called). c .scratch) w;
+      scratch = ap (λ (c : Called). c .scratch) w;
     }

@@ -5,7 +5,6 @@ use mathlib.Core.Option.{Option}
 use Prim.Native.Nat.{ℕ}
 use lib.ListN.{length}
 use Rattle.semigroups.specs.Tables.{product}
-use Rattle.semigroups.specs.Calls.{scratchAfter}
 use Rattle.semigroups.specs.Scratch.{marks}
 use Rattle.semigroups.specs.Questions.{Refusal, searchRefusal}
 use Rattle.semigroups.specs.Calls.{Answer, givenUnless, writtenUnless, mapUnless}

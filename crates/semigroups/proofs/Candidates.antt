@@ -1,7 +1,7 @@
 -- Candidates lose no map: an embedding keeps the index-period, an isomorphism the profile. Scratch marks read back as the candidates. Assumes nothing.
-use mathlib.Core.Path.{_≡_, refl, sym, ap, _∙_}
+use mathlib.Core.Path.{_≡_, refl, ap, _∙_}
 use mathlib.Core.Bool.{Bool, true, false, cond}
-use mathlib.Core.List.{List, _++_}
+use mathlib.Core.List.{List}
 use Prim.Native.Nat.{ℕ, _*_, _≤_, _<_}
 use native.Mathlib.Nat.{le-refl, mul-le-mul, mul-le-mul-right}
 use native.Mathlib.Omega.{arith}
@@ -9,7 +9,7 @@ use lib.Dec.{eqb}
 use lib.ListN.{length, drop, length-append, length-drop, List·getD-append}
 use Rattle.semigroups.specs.Tables.{Product, Element, Closed, cellPlace}
 use Rattle.semigroups.specs.Scratch.{scratchSize, marks, marked}
-use Rattle.semigroups.specs.Calls.{scratchAfter, overwritten}
+use Rattle.semigroups.specs.Calls.{scratchAfter}
 use Rattle.semigroups.specs.Maps.{embeddings, isomorphisms}
 use Rattle.semigroups.specs.Candidates.{candidate}
 use Rattle.semigroups.proofs.Tables.{place-below, length-grid, grid-at}
@@ -49,11 +49,6 @@ module _ (m n : ℕ) (p : ℕ → ℕ → Bool) (scratch : List ℕ) where
   pub length-marks : length (marks m n p) ≡ scratchSize m n
   unfolding marks scratchSize
   length-marks = length-grid m n (λ i j. cond (p i j) 1 0)
-
-  -- The marks are written over the buffer's start.
-  pub scratch-written : scratchAfter m n p scratch ≡ overwritten (marks m n p) scratch
-  unfolding scratchAfter
-  scratch-written = refl
 
   -- The buffer keeps its length.
   pub length-scratch : scratchSize m n ≤ length scratch → length (scratchAfter m n p scratch) ≡ length scratch
