@@ -1,20 +1,18 @@
 -- A list of entries from 1 to n as a number in base n: its entries less one are the digits. This number is the list's place, from 0, among all lists
--- of its length; so it is one less than the number of a transformation. Assumes nothing.
+-- of its length. Assumes nothing.
 use mathlib.Core.Path.{_≡_, refl, sym, ap, _∙_, subst}
 use mathlib.Core.List.{List, [], _∷_, _++_, map, List·Memᴰ·head, List·Memᴰ·tail}
 use Prim.Native.Nat.{ℕ, zero, suc, _+_, _-_, _*_, _/_, _%_, _^_, _≤_, _<_}
 use native.Mathlib.Nat.{zero-mul, suc-mul, add-mul, mul-assoc, mul-le-mul-right, mul-add-div-right, div-eq-of-lt, mul-add-mod-self-right, mod-eq-of-lt}
-use native.Mathlib.Nat.{pow-zero, pow-succ', pow-suc}
+use native.Mathlib.Nat.{pow-zero, pow-succ'}
 use native.Mathlib.Omega.{arith}
 use lib.ListN.{length, take, getD, length-map}
 use lib.Seq.{take-suc}
 use Rattle.semigroups.specs.Lists.{elements, at, lists}
 use Rattle.semigroups.specs.Tables.{Element, IsList}
-use Rattle.semigroups.specs.Transformations.{transformations, transformationOrder, transformation, numberOf}
 use Rattle.semigroups.proofs.Lists.{length-elements, at-elements}
 use Rattle.semigroups.proofs.FlatMap.{getD-flatMap}
 use Rattle.semigroups.proofs.ListOrder.{length-lists}
-use Rattle.semigroups.proofs.Transformations.{transformation-list, number-transformation}
 
 -- The number whose digits in base n are those of a, then the entries of the list less one.
 unfoldable pub digits : ℕ → ℕ → List ℕ → ℕ
@@ -48,13 +46,6 @@ module _ (n : ℕ) where
       let zeros : (0 * n + y) * p ≡ y * p = ap (λ (q : ℕ). (q + y) * p) (zero-mul n) ∙ ap (λ (q : ℕ). q * p) (let z : 0 + y ≡ y = omega arith in z) in
       omega (arith, add-mul (a * n) y p, mul-assoc a n p)
 
-  -- A digit more keeps a number below the next power.
-  pub digit-below : (a k x : ℕ) → a < n ^ k → Element n x → a * n + (x - 1) < n ^ (k + 1)
-  digit-below a k x h e =
-      let b : suc a * n ≤ n ^ k * n = mul-le-mul-right n h in
-      let p : n ^ (k + 1) ≡ n ^ k * n = ap (λ (q : ℕ). n ^ q) (let z : k + 1 ≡ suc k = omega arith in z) ∙ pow-suc n k in
-      omega (arith, suc-mul a n)
-
   -- The list stands at that place among all lists of its length.
   pub list-place : (m : ℕ) (f : List ℕ) → IsList m n f → (digits n 0 f < n ^ m) × (getD (lists m n) (digits n 0 f) [] ≡ f)
   unfolding digits lists
@@ -81,21 +72,6 @@ module _ (n : ℕ) where
             ∙ ap (λ (y : ℕ). y ∷ getD (lists m n) (digits n 0 f) []) (element-place n x element)
             ∙ ap (λ (l : List ℕ). x ∷ l) (below .1),
       )
-
--- ---- the numbers of transformations
-
-module _ (d : ℕ) where
-  pub number-digits : (f : List ℕ) → IsList d d f → numberOf d f ≡ digits d 0 f + 1
-  unfolding transformation transformations transformationOrder
-  number-digits f h =
-      let p = list-place d d f h in
-      let small = p .0 in
-      let same : transformation d (digits d 0 f + 1) ≡ f = ap (λ (q : ℕ). getD (lists d d) q []) (let z : digits d 0 f + 1 - 1 ≡ digits d 0 f = omega arith in z) ∙ p .1 in
-      ap (numberOf d) (sym same) ∙ number-transformation d (digits d 0 f + 1) (omega arith)
-
-  module _ (k : ℕ) (hk : Element (transformationOrder d) k) where
-    pub digits-number : digits d 0 (transformation d k) ≡ k - 1
-    digits-number = let e = number-transformation d k hk in let g = number-digits (transformation d k) (transformation-list d k hk) in omega arith
 
 -- ---- the digits one by one
 

@@ -1,13 +1,13 @@
 -- What a call that writes the table of all transformations says and leaves in the buffer, and what its answers mean (01, "Tables of all
 -- transformations" and "The questions"). Assumes nothing.
-use mathlib.Core.List.{List, [], _++_}
-use Prim.Native.Nat.{ℕ, _*_}
-use lib.ListN.{length, drop, replicate}
-use Rattle.semigroups.specs.Lists.{at}
-use Rattle.semigroups.specs.Tables.{grid}
-use Rattle.semigroups.specs.Questions.{no}
+use mathlib.Core.List.{List, [], _∷_}
+use mathlib.Core.Option.{Option}
+use Prim.Native.Nat.{ℕ}
+use lib.Dec.{leb}
+use lib.ListN.{length}
+use Rattle.semigroups.specs.Questions.{Refusal, no, ask, firstNo}
 use Rattle.semigroups.specs.Calls.{Answer, refused, gives, givenUnless, writtenUnless}
-use Rattle.semigroups.specs.Transformations.{transformationOrder, transformation, transformationCells, transformationRefusal}
+use Rattle.semigroups.specs.Transformations.{transformationOrder, transformationCells, transformationRefusal}
 use Rattle.transformations.specs.declared.TransformationAnswer.{TransformationAnswer}
 use Rattle.transformations.specs.declared.TransformationAnswer.the-variants.{Degree, Cells, Order}
 
@@ -25,6 +25,6 @@ transformationAnswerSays Degree = refused (no 8 [])
 transformationAnswerSays Cells = refused (no 9 [])
 transformationAnswerSays (Order n) = gives n
 
--- The image lists of all transformations of d points, one after another, in an array of 81 bytes; later bytes are 0.
-unfoldable pub imageBytes : ℕ → List ℕ
-imageBytes d = grid (transformationOrder d) d (λ k x. at (transformation d k) x) ++ drop (transformationOrder d * d) (replicate 81 0)
+-- Question 9 alone, about a table of `need` cells.
+abbrev pub roomRefusal : ℕ → ℕ → Option Refusal
+roomRefusal need size = firstNo (ask 9 (leb need size) ∷ [])
