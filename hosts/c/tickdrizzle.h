@@ -75,13 +75,15 @@ extern "C" {
    Says no values; writes nothing but the answer. */
 void tickdrizzle_check_table(const uint8_t *cells, size_t cells_length, size_t order, uint64_t *TICKDRIZZLE_RESTRICT answer);
 
-/* The least index p and period r of an element, for which power p + r equals power p (questions 1 to 4, 7).
-   Says index, period; writes nothing but the answer. */
+/* The least index p and period r of an element, for which power p + r equals power p, and the one power that is its own
+   square (questions 1 to 4, 7).
+   Says index, period, that element; writes nothing but the answer. */
 void tickdrizzle_index_period(const uint8_t *cells, size_t cells_length, size_t order, size_t element,
                               uint64_t *TICKDRIZZLE_RESTRICT answer);
 
-/* The profile of an element: index, period, and how often it stands in the table, its diagonal, row and column (1 to 4, 7).
-   Says these six numbers in this order; writes nothing but the answer. */
+/* The profile of an element: index, period, the power that is its own square, and how often the element stands in the table,
+   its diagonal, row and column (1 to 4, 7).
+   Says these seven numbers in this order; writes nothing but the answer. */
 void tickdrizzle_profile(const uint8_t *cells, size_t cells_length, size_t order, size_t element,
                          uint64_t *TICKDRIZZLE_RESTRICT answer);
 

@@ -14,14 +14,14 @@ abbrev pub answerSaid : Answer ℕ → Said
 answerSaid (gives k) = record { number = 0; first = k; second = 0; third = 0 }
 answerSaid (refused r) = refusalSaid r
 
--- Whether the index and the period given are these.
+-- Whether the index, the period and the idempotent power given are these.
 abbrev pub sameGivenPowers : Answer IndexPeriod → IndexPeriod → Bool
-sameGivenPowers (gives p) b = sameIndexPeriod p b
+sameGivenPowers (gives p) b = sameIndexPeriod p b && eqb (p .idempotent) (b .idempotent)
 sameGivenPowers (refused r) b = false
 
--- Whether the profile given is this one.
+-- Whether the profile given is this one, its idempotent power included.
 abbrev pub sameGivenProfile : Answer Profile → Profile → Bool
-sameGivenProfile (gives p) b = sameProfile p b
+sameGivenProfile (gives p) b = sameProfile p b && eqb (p .powers .idempotent) (b .powers .idempotent)
 sameGivenProfile (refused r) b = false
 
 -- Whether two lists of bytes are equal.

@@ -88,26 +88,27 @@ pub fn tables() -> Tally
 
 // ---- elements
 
-// Whether the index and the period of an element are these.
+// Whether the index, the period and the idempotent power of an element are these.
 fn same_powers(a: IndexPeriodAnswer, b: IndexPeriod) -> bool
     ensures answer { λ r. ⌜ r ≡ sameGivenPowers (indexPeriodSays a) (indexPeriodValue b) ⌝ }
 {
     let IndexPeriodAnswer::Value(v) = a else {
         return false;
     };
-    (v.index == b.index) & (v.period == b.period)
+    ((v.index == b.index) & (v.period == b.period)) & (v.idempotent == b.idempotent)
 }
 
-// Whether the profile of an element is this one.
+// Whether the profile of an element is this one, its idempotent power included.
 fn same_profile(a: ProfileAnswer, b: ElementProfile) -> bool
     ensures answer { λ r. ⌜ r ≡ sameGivenProfile (profileSays a) (profileValue b) ⌝ }
 {
     let ProfileAnswer::Value(v) = a else {
         return false;
     };
-    ((v.powers.index == b.powers.index) & (v.powers.period == b.powers.period))
+    (((v.powers.index == b.powers.index) & (v.powers.period == b.powers.period))
         & ((v.frequency == b.frequency)
-            & ((v.diagonal == b.diagonal) & ((v.row == b.row) & (v.column == b.column))))
+            & ((v.diagonal == b.diagonal) & ((v.row == b.row) & (v.column == b.column)))))
+        & (v.powers.idempotent == b.powers.idempotent)
 }
 
 // Cases 4 and 5.
@@ -119,6 +120,7 @@ pub fn elements() -> Tally
         IndexPeriod {
             index: 2,
             period: 1,
+            idempotent: 1,
         },
     );
     let case5 = same_profile(
@@ -127,6 +129,7 @@ pub fn elements() -> Tally
             powers: IndexPeriod {
                 index: 1,
                 period: 1,
+                idempotent: 4,
             },
             frequency: 3,
             diagonal: 1,

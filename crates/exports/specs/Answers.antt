@@ -44,13 +44,13 @@ answerWords values (gives x) = valueWords (values x)
 
 -- ---- values
 
--- The two numbers of an index-period.
+-- The index, the period and the idempotent power.
 abbrev pub indexPeriodValues : IndexPeriod → List ℕ
-indexPeriodValues r = r .index ∷ r .period ∷ []
+indexPeriodValues r = r .index ∷ r .period ∷ r .idempotent ∷ []
 
--- Those of its index-period, then the four counts of a profile.
+-- Those of its index-period, then the four frequencies of a profile.
 abbrev pub profileValues : Profile → List ℕ
-profileValues r = r .powers .index ∷ r .powers .period ∷ r .frequency ∷ r .diagonal ∷ r .row ∷ r .column ∷ []
+profileValues r = r .powers .index ∷ r .powers .period ∷ r .powers .idempotent ∷ r .frequency ∷ r .diagonal ∷ r .row ∷ r .column ∷ []
 
 -- 0 for a map that holds; 1 and the element whose image is outside; 2 and the pair with equal images; 3 and the pair whose product fails.
 abbrev pub checkedValues : Checked → List ℕ

@@ -65,7 +65,11 @@ fn index_period_words(said: IndexPeriodAnswer) -> [u64; 16]
     ensures answer { λ r. ⌜ r ≡ answerWords indexPeriodValues (indexPeriodSays said) ⌝ }
 {
     match said {
-        IndexPeriodAnswer::Value(powers) => words(0, 0, &[powers.index, powers.period]),
+        IndexPeriodAnswer::Value(powers) => words(
+            0,
+            0,
+            &[powers.index, powers.period, powers.idempotent],
+        ),
         IndexPeriodAnswer::Refused(fault) => refusal_words(fault.refusal()),
     }
 }
@@ -80,6 +84,7 @@ fn profile_words(said: ProfileAnswer) -> [u64; 16]
             &[
                 p.powers.index,
                 p.powers.period,
+                p.powers.idempotent,
                 p.frequency,
                 p.diagonal,
                 p.row,
@@ -154,7 +159,7 @@ pub extern "C" fn tickdrizzle_check_table(cells: &[u8], order: usize, answer: &m
     *answer = verdict_words(tables::check(cells, order));
 }
 
-// Values: the index and the period of an element.
+// Values: the index, the period and the idempotent power of an element.
 #[no_mangle]
 pub extern "C" fn tickdrizzle_index_period(
     cells: &[u8],
@@ -167,7 +172,8 @@ pub extern "C" fn tickdrizzle_index_period(
     *answer = index_period_words(invariants::index_period(cells, order, element));
 }
 
-// Values: the profile of an element, that is its index, period, frequency, and frequencies on the diagonal, in its row and in its column.
+// Values: the profile of an element, that is its index, period, idempotent power, frequency, and frequencies on the diagonal, in its row and in its
+// column.
 #[no_mangle]
 pub extern "C" fn tickdrizzle_profile(
     cells: &[u8],

@@ -5,7 +5,7 @@ use mathlib.Core.Option.{Option, none, some, orElse}
 use Prim.Native.Nat.{ℕ, _≤_, _<_}
 use borrow.Author.Tests.{le-leb, lt-leb}
 use Rattle.semigroups.specs.Lists.{firstOf}
-use Rattle.semigroups.specs.Tables.{Element, isElement, Filled}
+use Rattle.semigroups.specs.Tables.{Element, isElement, Filled, Associative, product}
 use Rattle.semigroups.specs.Questions.{Question, ask, Refusal, no, firstNo, tableQuestions, tableRefusal, elementRefusal}
 use Rattle.semigroups.specs.Calls.{Answer, refused, gives, givenUnless}
 use Rattle.semigroups.proofs.Lists.{is-element}
@@ -41,12 +41,12 @@ module _ (n : ℕ) (cells : List ℕ) (a : ℕ) where
     unfolding firstOf orElse isElement
     element-passes l h = element-left ∙ rw (le-leb 1 a l, le-leb a n h)
 
-  -- Where no question failed, the cells fill a table and a is one of its elements.
-  pub asked : elementRefusal n cells a ≡ none → Filled n cells × Element n a
+  -- Where no question failed, the cells fill a table, a is one of its elements, and the table is associative.
+  pub asked : elementRefusal n cells a ≡ none → Filled n cells × Element n a × Associative n (product n cells)
   unfolding elementRefusal tableRefusal
   asked e =
       let p = both-passed (tableQuestions n cells) (element ∷ []) e in
-      (table-filled n cells (p .0), is-element n a (ask-passed 7 (isElement n a) (all-passed (element ∷ []) .0 (p .1) .0)))
+      (table-filled n cells (p .0), is-element n a (ask-passed 7 (isElement n a) (all-passed (element ∷ []) .0 (p .1) .0)), accepted n cells (p .0) .associative)
 
 -- ---- what a call says
 

@@ -33,7 +33,7 @@ elementVerdictRefusal (verdict.Refused fault) = some (elementFaultRefusal fault)
 
 -- The numbers of an index-period.
 abbrev pub indexPeriodValue : IndexPeriod → marks.IndexPeriod
-indexPeriodValue r = record { index = r .index; period = r .period }
+indexPeriodValue r = record { index = r .index; period = r .period; idempotent = r .idempotent }
 
 abbrev pub indexPeriodSays : IndexPeriodAnswer → Answer marks.IndexPeriod
 indexPeriodSays (index-period.Value r) = gives (indexPeriodValue r)

@@ -1,3 +1,4 @@
+pub mod Powers
 pub mod Counts
 pub mod PerElement
 pub mod Answers

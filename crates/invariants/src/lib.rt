@@ -1,15 +1,17 @@
-// Invariants of the elements of a table (arXiv 1603.06204, sections 3 and 4), which 01 calls their marks: index and period, and the profile.
+// Invariants of the elements of a table (arXiv 1603.06204, sections 3 and 4), which 01 calls their marks: index, period and idempotent power, and the
+// profile.
 // `index_period` and `profile` answer for one element of any cells, order and element, behind the questions about them.
 // `all_index_periods` and `all_counts` answer for every element of cells that fill a table.
 ghost use mathlib.Core.Path.{_≡_};
 ghost use Prim.Native.Nat.{_≤_};
-ghost use Rattle.semigroups.specs.Tables.{product, Element, Filled};
+ghost use Rattle.semigroups.specs.Tables.{product, Element, Filled, Associative};
 ghost use Rattle.semigroups.specs.Questions.{elementRefusal};
 ghost use Rattle.semigroups.specs.Invariants.{indexPeriod, rowFrequency, columnFrequency, profile};
 ghost use Rattle.semigroups.specs.Calls.{givenUnless};
 ghost use Rattle.tables.specs.Answers.{refusalNumbers};
 ghost use Rattle.invariants.specs.Answers.{elementFaultRefusal, elementVerdictRefusal, indexPeriodValue, indexPeriodSays, profileValue, profileSays};
 ghost use Rattle.invariants.specs.PerElement.{perElement, AllIndexPeriods, LineCounts, AllCounts};
+ghost use Rattle.invariants.specs.Powers.{settled};
 ghost use Rattle.invariants.specs.Counts.{occurrences, Reached};
 use tables::Fault;
 use tables::Refusal;
@@ -56,11 +58,12 @@ pub fn check_element(cells: &[u8], n: usize, a: usize) -> ElementVerdict
     ElementVerdict::Accepted
 }
 
-// ---- index and period
+// ---- index, period and idempotent power
 
 pub struct IndexPeriod {
     pub index: usize,
     pub period: usize,
+    pub idempotent: usize,
 }
 
 pub enum IndexPeriodAnswer {
@@ -68,25 +71,34 @@ pub enum IndexPeriodAnswer {
     Refused(ElementFault),
 }
 
-// The powers of a are walked until one was met before; `met` holds the exponent at which each element was met first, or 0.
+// The powers of a are walked until one was met before; `met` holds the exponent at which each element was met first, or 0, and `walk` at place k - 1
+// the power k. The walk ends one period behind the index, so the last multiple of the period in it is the first from the index on.
 fn index_period_of(cells: &[u8], n: usize, a: usize) -> IndexPeriod
     requires { ⌜ Filled n (now cells) ⌝ ∗ ⌜ Element n a ⌝ }
-    ensures answer { λ r. ⌜ indexPeriodValue r ≡ indexPeriod n (product n (now (cells .entry))) a ⌝ }
+    ensures answer { λ r. ⌜ indexPeriodValue r ≡ settled n (product n (now (cells .entry))) a ⌝ }
 {
     let mut met = [0u8; 121];
+    let mut walk = [0u8; 120];
     let mut power = a;
     let mut k: usize = 1;
     while met[power] == 0 {
         met[power] = k as u8;
+        walk[k - 1] = power as u8;
         power = tables::times(cells, n, power, a);
         k += 1;
     }
     let index = met[power] as usize;
     let period = k - index;
-    IndexPeriod { index, period }
+    let exponent = (k - 1) / period * period;
+    let idempotent = walk[exponent - 1] as usize;
+    IndexPeriod {
+        index,
+        period,
+        idempotent,
+    }
 }
 
-// The index and the period of element a; or the first question that fails.
+// The index, the period and the idempotent power of element a; or the first question that fails.
 pub fn index_period(cells: &[u8], n: usize, a: usize) -> IndexPeriodAnswer
     ensures answer { λ r. ⌜ indexPeriodSays r ≡ givenUnless (elementRefusal n (now (cells .entry)) a) (indexPeriod n (product n (now (cells .entry))) a) ⌝ }
 {
@@ -209,7 +221,7 @@ pub enum ProfileAnswer {
 }
 
 fn profile_of(cells: &[u8], n: usize, a: usize) -> ElementProfile
-    requires { ⌜ Filled n (now cells) ⌝ ∗ ⌜ Element n a ⌝ }
+    requires { ⌜ Filled n (now cells) ⌝ ∗ ⌜ Element n a ⌝ ∗ ⌜ Associative n (product n (now cells)) ⌝ }
     ensures answer { λ r. ⌜ profileValue r ≡ profile n (product n (now (cells .entry))) a ⌝ }
 {
     ElementProfile {

@@ -41,14 +41,14 @@ module _ (s : Product) (a : ℕ) where
   power-element n c h (suc (suc k)) = c (power s a (suc k)) a (power-element n c h (suc k)) h
 
   -- Equal powers stay equal as both go on.
-  shift : (u v d : ℕ) → 1 ≤ u → 1 ≤ v → power s a u ≡ power s a v → power s a (u + d) ≡ power s a (v + d)
+  pub shift : (u v d : ℕ) → 1 ≤ u → 1 ≤ v → power s a u ≡ power s a v → power s a (u + d) ≡ power s a (v + d)
   shift u v zero hu hv e = ap (power s a) (add-zero u) ∙ e ∙ sym (ap (power s a) (add-zero v))
   shift u v (suc d) hu hv e =
       ap (power s a) (add-suc u d) ∙ power-next (u + d) (omega arith) ∙ ap (λ (x : ℕ). s x a) (shift u v d hu hv e)
       ∙ sym (power-next (v + d) (omega arith)) ∙ sym (ap (power s a) (add-suc v d))
 
   -- Any number of periods further.
-  turns : (u r : ℕ) → 1 ≤ u → Repeats s a u r → (t : ℕ) → power s a (u + t * r) ≡ power s a u
+  pub turns : (u r : ℕ) → 1 ≤ u → Repeats s a u r → (t : ℕ) → power s a (u + t * r) ≡ power s a u
   turns u r hu e zero = ap (power s a) (let z : u + 0 * r ≡ u = omega arith in z)
   turns u r hu e (suc t) =
       ap (power s a) (let z : u + suc t * r ≡ u + r + t * r = omega (arith, suc-mul t r) in z) ∙ shift (u + r) u (t * r) (omega arith) hu e ∙ turns u r hu e t

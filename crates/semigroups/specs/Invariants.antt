@@ -1,4 +1,4 @@
--- Invariants of an element (arXiv 1603.06204, sections 3 and 4), which 01 calls its marks: powers, index and period, profile.
+-- Invariants of an element (arXiv 1603.06204, sections 3 and 4), which 01 calls its marks: powers, index and period, idempotent power, profile.
 -- Assumes nothing.
 use mathlib.Core.Path.{_≡_}
 use mathlib.Core.Bool.{Bool, _&&_}
@@ -35,14 +35,35 @@ pub record IsIndexPeriod (s : Product) (a p r : ℕ) : Type 0 where
   pub least-index : (p′ r′ : ℕ) → 1 ≤ p′ → 1 ≤ r′ → power s a (p′ + r′) ≡ power s a p′ → p ≤ p′
   pub least-period : (p′ r′ : ℕ) → 1 ≤ p′ → 1 ≤ r′ → power s a (p′ + r′) ≡ power s a p′ → r ≤ r′
 
+-- ---- the idempotent power
+
+-- The first of the powers 1 to n of a that is its own square: the cue that a repeat settles on (02, i).
+unfoldable pub idempotentPower : ℕ → Product → ℕ → ℕ
+idempotentPower n s a = power s a (least n (λ k. eqb (s (power s a k) (power s a k)) (power s a k)))
+
+-- e is a power of a, and e·e = e.
+pub record IsIdempotentPower (s : Product) (a e : ℕ) : Type 0 where
+  pub exponent : ℕ
+  pub from-one : 1 ≤ exponent
+  pub is-power : power s a exponent ≡ e
+  pub idempotent : s e e ≡ e
+
+-- e is the one such power: among all powers, whatever their exponents, there is no other.
+pub record TheIdempotentPower (s : Product) (a e : ℕ) : Type 0 where
+  pub is-one : IsIdempotentPower s a e
+  pub only : (d : ℕ) → IsIdempotentPower s a d → d ≡ e
+
+-- ---- the index-period
+
 pub record IndexPeriod : Type 0 where
   pub index : ℕ
   pub period : ℕ
+  pub idempotent : ℕ
 
 unfoldable pub indexPeriod : ℕ → Product → ℕ → IndexPeriod
-indexPeriod n s a = record { index = index n s a; period = period n s a }
+indexPeriod n s a = record { index = index n s a; period = period n s a; idempotent = idempotentPower n s a }
 
--- Definition 3.3: two elements have the same index-period values.
+-- Definition 3.3: two elements have the same index-period values. The idempotent power is an element number and no count: it is not compared.
 unfoldable pub sameIndexPeriod : IndexPeriod → IndexPeriod → Bool
 sameIndexPeriod a b = eqb (a .index) (b .index) && eqb (a .period) (b .period)
 

@@ -156,28 +156,32 @@ impl fmt::Display for Refusal {
 
 impl Error for Refusal {}
 
-/// Index and period of an element.
+/// Index, period and idempotent power of an element.
 #[derive(Clone, Copy, Debug, PartialEq, Eq)]
 pub struct IndexPeriod {
     /// The least p ≥ 1 for which some later power equals power p.
     pub index: usize,
     /// The least r ≥ 1 for which power p + r equals power p.
     pub period: usize,
+    /// The one power that is its own square.
+    pub idempotent: usize,
 }
 
 impl IndexPeriod {
     pub(crate) fn decode(answer: &Answer) -> IndexPeriod {
-        IndexPeriod { index: number(answer, 2), period: number(answer, 3) }
+        IndexPeriod { index: number(answer, 2), period: number(answer, 3), idempotent: number(answer, 4) }
     }
 }
 
-/// The profile of an element: what every isomorphism keeps.
+/// The profile of an element. Every isomorphism keeps its counts, and takes its idempotent power to that of the image.
 #[derive(Clone, Copy, Debug, PartialEq, Eq)]
 pub struct Profile {
     /// The index.
     pub index: usize,
     /// The period.
     pub period: usize,
+    /// The one power that is its own square.
+    pub idempotent: usize,
     /// How often the element stands in the whole table.
     pub frequency: usize,
     /// How often it stands on the diagonal.
@@ -193,10 +197,11 @@ impl Profile {
         Profile {
             index: number(answer, 2),
             period: number(answer, 3),
-            frequency: number(answer, 4),
-            diagonal: number(answer, 5),
-            row: number(answer, 6),
-            column: number(answer, 7),
+            idempotent: number(answer, 4),
+            frequency: number(answer, 5),
+            diagonal: number(answer, 6),
+            row: number(answer, 7),
+            column: number(answer, 8),
         }
     }
 }

@@ -52,12 +52,14 @@ pub fn check_table(cells: &[u8], order: usize) -> Result<(), Refusal> {
     answered(|answer| abi::check_table(cells, order, answer), |_| ())
 }
 
-/// The least index p and period r of an element, for which power p + r equals power p.
+/// The least index p and period r of an element, for which power p + r equals power p, and the one power that is its
+/// own square.
 pub fn index_period(cells: &[u8], order: usize, element: usize) -> Result<IndexPeriod, Refusal> {
     answered(|answer| abi::index_period(cells, order, element, answer), IndexPeriod::decode)
 }
 
-/// The profile of an element: index, period, and how often it stands in the table, its diagonal, row and column.
+/// The profile of an element: index, period, the power that is its own square, and how often the element stands in
+/// the table, its diagonal, row and column.
 pub fn profile(cells: &[u8], order: usize, element: usize) -> Result<Profile, Refusal> {
     answered(|answer| abi::profile(cells, order, element, answer), Profile::decode)
 }

@@ -1,4 +1,4 @@
--- `index_period_words` meets its contract: the index and the period, or the fault.
+-- `index_period_words` meets its contract: the index, the period and the idempotent power, or the fault.
 -- Assumes nothing.
 use Rattle.invariants.proofs.Refusals.{element-fault-brief}
 use Rattle.exports.proofs.Values.{refusal-said}

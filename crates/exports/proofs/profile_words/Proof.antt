@@ -1,4 +1,4 @@
--- `profile_words` meets its contract: the six numbers of the profile, or the fault.
+-- `profile_words` meets its contract: the numbers of the profile, or the fault.
 -- Assumes nothing.
 use Rattle.invariants.proofs.Refusals.{element-fault-brief}
 use Rattle.exports.proofs.Values.{refusal-said}

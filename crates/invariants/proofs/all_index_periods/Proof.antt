@@ -9,6 +9,7 @@ use Rattle.semigroups.specs.Invariants as marks
 use Rattle.semigroups.proofs.Tables.{product-element}
 use Rattle.invariants.proofs.Powers.{index-at-most, period-at-most}
 use Rattle.invariants.specs.PerElement.{perElement}
+use Rattle.invariants.specs.Powers.{settled}
 use Rattle.invariants.proofs.PerElement.{fill-start, fill-step, fill-end}
 use Rattle.invariants.proofs.all_index_periods.Statement.{statement}
 use Rattle.invariants.proofs.all_index_periods.Tie as tie
@@ -41,11 +42,11 @@ module _ (c : tie.After-index-period-of Inv-loop μ-loop) where
   closed = product-element (start .args .n) (now (start .args .cells)) (start .pre .size) (start .pre .in-range)
 
   index-is : c .index-period-of .result .index ≡ marks.index (start .args .n) table (head .loop .a)
-  unfolding marks.indexPeriod
+  unfolding settled
   index-is = ap (λ (v : marks.IndexPeriod). v .index) (c .index-period-of .ensures)
 
   period-is : c .index-period-of .result .period ≡ marks.period (start .args .n) table (head .loop .a)
-  unfolding marks.indexPeriod
+  unfolding settled
   period-is = ap (λ (v : marks.IndexPeriod). v .period) (c .index-period-of .ensures)
 
 loop-holds : tie.Need-loop-holds Inv-loop μ-loop

@@ -1,10 +1,12 @@
--- `index_period` meets its contract: a failed question is the answer; where none failed, the table is filled and a is an element of it. Assumes nothing.
+-- `index_period` meets its contract: a failed question is the answer; where none failed, the table is associative, so the power that the walk settles on is
+-- the idempotent one. Assumes nothing.
 use mathlib.Core.Path.{sym, ap, _∙_}
 use denote.Ref.{now}
 use Rattle.semigroups.specs.Tables.{product}
 use Rattle.semigroups.specs.Questions.{elementRefusal}
 use Rattle.semigroups.specs.Invariants.{indexPeriod}
 use Rattle.invariants.specs.Answers.{elementFaultRefusal, elementVerdictRefusal}
+use Rattle.invariants.proofs.Powers.{settled-idempotent}
 use Rattle.invariants.proofs.Questions.{asked, says-refused, says-given}
 use borrow.Author.Needs.{needs}
 use Rattle.invariants.proofs.index_period.Statement.{statement}
@@ -20,7 +22,9 @@ enum-told : tie.Need-enum-told
 enum-told c = search needs
 
 index-period-of-requires : tie.Need-index-period-of-requires
-index-period-of-requires c κs = asked _ _ _ (sym (c .before .before .check-element .ensures) ∙ ap elementVerdictRefusal (c .enum-told .given .1))
+index-period-of-requires c κs =
+    let q = asked _ _ _ (sym (c .before .before .check-element .ensures) ∙ ap elementVerdictRefusal (c .enum-told .given .1)) in
+    (q .0, q .1)
 
 returns : tie.Need-returns
 returns c =
@@ -35,8 +39,9 @@ returns-2 c =
     let v = c .before in
     let a = v .before .before .before .before .args in
     let cells = now (a .cells) in
-    says-given (elementRefusal (a .n) cells (a .a)) (indexPeriod (a .n) (product (a .n) cells) (a .a)) _
-    (sym (v .before .before .check-element .ensures) ∙ ap elementVerdictRefusal (v .enum-told .given .1)) (c .index-period-of .ensures)
+    let none = sym (v .before .before .check-element .ensures) ∙ ap elementVerdictRefusal (v .enum-told .given .1) in
+    let q = asked (a .n) cells (a .a) none in
+    says-given (elementRefusal (a .n) cells (a .a)) (indexPeriod (a .n) (product (a .n) cells) (a .a)) _ none (c .index-period-of .ensures ∙ settled-idempotent (a .n) cells (a .a) (q .0) (q .2) (q .1))
 
 pub index-period-spec : {M : Type 1} → statement M
 index-period-spec =

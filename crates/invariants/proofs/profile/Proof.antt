@@ -1,4 +1,4 @@
--- `profile` meets its contract: a failed question is the answer; where none failed, the table is filled and a is an element of it. Assumes nothing.
+-- `profile` meets its contract: a failed question is the answer; where none failed, the table is accepted and a is an element of it. Assumes nothing.
 use mathlib.Core.Path.{sym, ap, _∙_}
 use denote.Ref.{now}
 use Rattle.semigroups.specs.Tables.{product}
@@ -20,7 +20,9 @@ enum-told : tie.Need-enum-told
 enum-told c = search needs
 
 profile-of-requires : tie.Need-profile-of-requires
-profile-of-requires c κs = asked _ _ _ (sym (c .before .before .check-element .ensures) ∙ ap elementVerdictRefusal (c .enum-told .given .1))
+profile-of-requires c κs =
+    let q = asked _ _ _ (sym (c .before .before .check-element .ensures) ∙ ap elementVerdictRefusal (c .enum-told .given .1)) in
+    (q .0, (q .1, q .2))
 
 returns : tie.Need-returns
 returns c =

@@ -2,6 +2,7 @@
 use denote.Ref.{now}
 use mathlib.Core.Path.{_∙_}
 use Rattle.semigroups.specs.Invariants as marks
+use Rattle.invariants.proofs.Powers.{settled-idempotent}
 use Rattle.invariants.proofs.Counts.{diagonal-reached, table-counted, diagonal-counted}
 use borrow.Author.Needs.{needs}
 use Rattle.invariants.proofs.profile_of.Statement.{statement}
@@ -31,7 +32,7 @@ returns c =
     let w = c .before .before .before .before in
     let s = w .before .before in
     let a = s .args in
-    let e1 = w .index-period-of .ensures in
+    let e1 = w .index-period-of .ensures ∙ settled-idempotent (a .n) (now (a .cells)) (a .a) (s .pre .0) (s .pre .1 .1) (s .pre .1 .0) in
     let e2 = c .before .before .before .count .ensures ∙ table-counted (a .n) (now (a .cells)) (s .pre .0 .size) (a .a) in
     let e3 = c .before .before .count2 .ensures ∙ diagonal-counted (a .n) (now (a .cells)) (a .a) in
     let e4 = c .before .row-frequency .ensures in

@@ -133,11 +133,11 @@ impl Call {
             Call::CheckTable { table } => encoded(tickdrizzle::check_table(&table.cells, table.order), |()| vec![]),
             Call::IndexPeriod { table, element } => {
                 let answer = tickdrizzle::index_period(&table.cells, table.order, *element);
-                encoded(answer, |answer| vec![answer.index, answer.period])
+                encoded(answer, |answer| vec![answer.index, answer.period, answer.idempotent])
             }
             Call::Profile { table, element } => {
                 let answer = tickdrizzle::profile(&table.cells, table.order, *element);
-                encoded(answer, |p| vec![p.index, p.period, p.frequency, p.diagonal, p.row, p.column])
+                encoded(answer, |p| vec![p.index, p.period, p.idempotent, p.frequency, p.diagonal, p.row, p.column])
             }
             Call::CheckMap { source, target, map } => {
                 let answer = tickdrizzle::check_map(&source.cells, source.order, &target.cells, target.order, map);

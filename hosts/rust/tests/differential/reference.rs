@@ -115,6 +115,12 @@ impl<'a> Table<'a> {
         unreachable!("of n + 1 powers two are equal")
     }
 
+    /// The power that is its own square, by trying one after another.
+    fn idempotent_power(&self, element: usize) -> usize {
+        let idempotent = |&power: &usize| self.product(power, power) == power;
+        self.powers(element).into_iter().find(idempotent).expect("some power is its own square")
+    }
+
     fn count(&self, element: usize, places: impl Fn(usize, usize) -> bool) -> usize {
         let mut count = 0;
         for i in self.elements() {
@@ -127,6 +133,7 @@ impl<'a> Table<'a> {
         count
     }
 
+    /// The counts of a profile, index and period first.
     fn profile(&self, element: usize) -> [usize; 6] {
         let [index, period] = self.index_period(element);
         [
@@ -152,11 +159,18 @@ fn element_of(cells: &[u8], order: usize, element: usize) -> Result<Table<'_>, N
 }
 
 pub fn index_period(cells: &[u8], order: usize, element: usize) -> Answer {
-    answer(element_of(cells, order, element).map(|table| numbers(&table.index_period(element))))
+    answer(element_of(cells, order, element).map(|table| settling(&table, element, &table.index_period(element))))
 }
 
 pub fn profile(cells: &[u8], order: usize, element: usize) -> Answer {
-    answer(element_of(cells, order, element).map(|table| numbers(&table.profile(element))))
+    answer(element_of(cells, order, element).map(|table| settling(&table, element, &table.profile(element))))
+}
+
+/// Counts that start with index and period, as they are said: with the idempotent power behind these two.
+fn settling(table: &Table, element: usize, counts: &[usize]) -> Vec<u64> {
+    let mut values = counts.to_vec();
+    values.insert(2, table.idempotent_power(element));
+    numbers(&values)
 }
 
 /// Embeddings or isomorphisms.

@@ -21,7 +21,7 @@ returns c = search needs
 returns-2 : tie.Need-returns-2
 unfolding sameIndexPeriod
 returns-2 c =
-    let known = c .before .before .before .before .before in
+    let known = c .before .before .before .before .before .before .before in
     let b = known .before .before .args .b in
     sym (ap {B = Bool} (λ (x : IndexPeriodAnswer). sameGivenPowers (indexPeriodSays x) (indexPeriodValue b)) (known .a .given .1))
 
