@@ -81,9 +81,9 @@ void tickdrizzle_check_table(const uint8_t *cells, size_t cells_length, size_t o
 void tickdrizzle_index_period(const uint8_t *cells, size_t cells_length, size_t order, size_t element,
                               uint64_t *TICKDRIZZLE_RESTRICT answer);
 
-/* The profile of an element: index, period, the power that is its own square, and how often the element stands in the table,
-   its diagonal, row and column (1 to 4, 7).
-   Says these seven numbers in this order; writes nothing but the answer. */
+/* The profile of an element: index, period, the power that is its own square, how often the element stands in the table, its
+   diagonal, row and column, and how many elements it commutes with (1 to 4, 7).
+   Says these eight numbers in this order; writes nothing but the answer. */
 void tickdrizzle_profile(const uint8_t *cells, size_t cells_length, size_t order, size_t element,
                          uint64_t *TICKDRIZZLE_RESTRICT answer);
 

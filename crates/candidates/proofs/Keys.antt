@@ -11,7 +11,7 @@ use lib.Dec.{eqb}
 use lib.ListN.{getD, take, replicate}
 use Rattle.semigroups.specs.Lists.{at, all}
 use Rattle.semigroups.specs.Tables.{Product, product, Element, Closed, Filled}
-use Rattle.semigroups.specs.Invariants.{IndexPeriod, Profile, index, period, indexPeriod, sameIndexPeriod, frequency, diagonalFrequency, rowFrequency, columnFrequency, profile, sameProfile}
+use Rattle.semigroups.specs.Invariants.{IndexPeriod, Profile, index, period, indexPeriod, sameIndexPeriod, frequency, diagonalFrequency, rowFrequency, columnFrequency, commuting, profile, sameProfile}
 use Rattle.semigroups.specs.Maps.{embeddings, isomorphisms}
 use Rattle.semigroups.specs.Candidates.{candidate}
 use Rattle.semigroups.specs.Calls.{scratchAfter}
@@ -20,7 +20,7 @@ use Rattle.semigroups.proofs.Tables.{product-element}
 use Rattle.invariants.specs.declared.ElementCounts.{ElementCounts}
 use Rattle.invariants.specs.PerElement.{perElement, AllCounts}
 use Rattle.invariants.proofs.Powers.{index-at-most, period-at-most}
-use Rattle.invariants.proofs.Counts.{frequency-at-most, diagonal-at-most, row-at-most, column-at-most}
+use Rattle.invariants.proofs.Counts.{frequency-at-most, diagonal-at-most, row-at-most, column-at-most, commuting-at-most}
 use Rattle.invariants.proofs.PerElement.{per-element-at, per-element-same, zero-start}
 use Rattle.candidates.specs.Keys.{Part, packed, indexPeriodParts, countParts, indexPeriodKey, profileKey, appended, Room, sameKey}
 use Rattle.candidates.proofs.Marks.{scratch-same}
@@ -113,6 +113,9 @@ module _ (n : ℕ) (cells : List ℕ) (t : Filled n cells) (a : ℕ) (h : Elemen
   pub column-fits : columnFrequency n s a < 256
   column-fits = let l = t .order in omega (arith, column-at-most n cells a)
 
+  pub commuting-fits : commuting n s a < 256
+  commuting-fits = let l = t .order in omega (arith, commuting-at-most n cells a)
+
   pub index-period-key-fits : indexPeriodKey (indexPeriod n s a) < 65536
   unfolding indexPeriodKey packed indexPeriod
   index-period-key-fits = let i = index-fits in let p = period-fits in omega arith
@@ -123,7 +126,7 @@ module _ (n : ℕ) (cells : List ℕ) (t : Filled n cells) (a : ℕ) (h : Elemen
 
   profile-fits : ProfileFits (profile n s a)
   unfolding profile
-  profile-fits = (index-period-fits, (frequency-fits, (diagonal-fits, (row-fits, (column-fits, tt)))))
+  profile-fits = (index-period-fits, (frequency-fits, (diagonal-fits, (row-fits, (column-fits, (commuting-fits, tt))))))
 
 -- ---- the keys of all elements
 
@@ -182,6 +185,10 @@ module _ (n : ℕ) (cells : List ℕ) (t : Filled n cells) (r : ElementCounts) (
   pub append-column : (keys : List ℕ) → AllKeys n (key 3) 281474976710656 keys → Appends n (key 4) 72057594037927936 256 keys (r .column)
   unfolding packed profile
   append-column keys k = append-part n _ 281474976710656 keys k 256 (columnFrequency n (product n cells)) (r .column) (e .column) (column-fits n cells t) (omega arith)
+
+  pub append-commuting : (keys : List ℕ) → AllKeys n (key 4) 72057594037927936 keys → Appends n (key 5) 18446744073709551616 256 keys (r .commuting)
+  unfolding packed profile
+  append-commuting keys k = append-part n _ 72057594037927936 keys k 256 (commuting n (product n cells)) (r .commuting) (e .commuting) (commuting-fits n cells t) (omega arith)
 
 -- ---- candidates
 

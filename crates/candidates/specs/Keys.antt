@@ -29,7 +29,7 @@ indexPeriodParts = byte (λ v. v .index) ∷ byte (λ v. v .period) ∷ []
 
 -- How often an element stands in its table may take two bytes; the other counts are at most 120.
 abbrev pub countParts : List (Part Profile)
-countParts = twoBytes (λ v. v .frequency) ∷ byte (λ v. v .diagonal) ∷ byte (λ v. v .row) ∷ byte (λ v. v .column) ∷ []
+countParts = twoBytes (λ v. v .frequency) ∷ byte (λ v. v .diagonal) ∷ byte (λ v. v .row) ∷ byte (λ v. v .column) ∷ byte (λ v. v .commuting) ∷ []
 
 unfoldable pub indexPeriodKey : IndexPeriod → ℕ
 indexPeriodKey v = packed indexPeriodParts v 0

@@ -87,7 +87,8 @@ fn profile_keys(cells: &[u8], n: usize) -> [u64; 120]
     let frequencies = append(&powers, n, 65536, &counts.frequency);
     let diagonals = append(&frequencies, n, 256, &counts.diagonal);
     let rows = append(&diagonals, n, 256, &counts.row);
-    append(&rows, n, 256, &counts.column)
+    let columns = append(&rows, n, 256, &counts.column);
+    append(&columns, n, 256, &counts.commuting)
 }
 
 // ---- filling

@@ -107,7 +107,8 @@ fn same_profile(a: ProfileAnswer, b: ElementProfile) -> bool
     };
     (((v.powers.index == b.powers.index) & (v.powers.period == b.powers.period))
         & ((v.frequency == b.frequency)
-            & ((v.diagonal == b.diagonal) & ((v.row == b.row) & (v.column == b.column)))))
+            & ((v.diagonal == b.diagonal)
+                & ((v.row == b.row) & ((v.column == b.column) & (v.commuting == b.commuting))))))
         & (v.powers.idempotent == b.powers.idempotent)
 }
 
@@ -135,6 +136,7 @@ pub fn elements() -> Tally
             diagonal: 1,
             row: 2,
             column: 2,
+            commuting: 2,
         },
     );
     counted(counted(start(), case4), case5)

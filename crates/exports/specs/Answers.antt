@@ -48,9 +48,9 @@ answerWords values (gives x) = valueWords (values x)
 abbrev pub indexPeriodValues : IndexPeriod → List ℕ
 indexPeriodValues r = r .index ∷ r .period ∷ r .idempotent ∷ []
 
--- Those of its index-period, then the four frequencies of a profile.
+-- Those of its index-period, then the five counts of a profile.
 abbrev pub profileValues : Profile → List ℕ
-profileValues r = r .powers .index ∷ r .powers .period ∷ r .powers .idempotent ∷ r .frequency ∷ r .diagonal ∷ r .row ∷ r .column ∷ []
+profileValues r = r .powers .index ∷ r .powers .period ∷ r .powers .idempotent ∷ r .frequency ∷ r .diagonal ∷ r .row ∷ r .column ∷ r .commuting ∷ []
 
 -- 0 for a map that holds; 1 and the element whose image is outside; 2 and the pair with equal images; 3 and the pair whose product fails.
 abbrev pub checkedValues : Checked → List ℕ

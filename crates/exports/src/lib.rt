@@ -89,6 +89,7 @@ fn profile_words(said: ProfileAnswer) -> [u64; 16]
                 p.diagonal,
                 p.row,
                 p.column,
+                p.commuting,
             ],
         ),
         ProfileAnswer::Refused(fault) => refusal_words(fault.refusal()),
@@ -172,8 +173,8 @@ pub extern "C" fn tickdrizzle_index_period(
     *answer = index_period_words(invariants::index_period(cells, order, element));
 }
 
-// Values: the profile of an element, that is its index, period, idempotent power, frequency, and frequencies on the diagonal, in its row and in its
-// column.
+// Values: the profile of an element, that is its index, period, idempotent power, frequency, frequencies on the diagonal, in its row and in its
+// column, and how many elements it commutes with.
 #[no_mangle]
 pub extern "C" fn tickdrizzle_profile(
     cells: &[u8],

@@ -13,7 +13,7 @@ use lib.ListN.{length, getD, take, drop, length-drop}
 use lib.Seq.{getD-drop, take-all}
 use Rattle.semigroups.specs.Lists.{range, elements, sum, count}
 use Rattle.semigroups.specs.Tables.{product, Element, Filled}
-use Rattle.semigroups.specs.Invariants.{frequency, diagonalFrequency, rowFrequency, columnFrequency}
+use Rattle.semigroups.specs.Invariants.{frequency, diagonalFrequency, rowFrequency, columnFrequency, commuting}
 use Rattle.semigroups.proofs.Lists.{length-range}
 use Rattle.semigroups.proofs.Sums.{sum-append, count-same, count-at-most}
 use Rattle.semigroups.proofs.Frequencies.{frequency-cells}
@@ -49,6 +49,25 @@ module _ (p : ℕ → Bool) (i : ℕ) where
 
   pub count-below : (k : ℕ) → count p (range i k) ≤ k
   count-below k = let h = count-at-most p (range i k) in omega (arith, length-range i k)
+
+-- The same for a loop over the elements, which stands at b.
+module _ (p : ℕ → Bool) (b : ℕ) (h : 1 ≤ b) where
+  pub count-element-hit : p b ≡ true → count p (elements (b + 1 - 1)) ≡ count p (elements (b - 1)) + 1
+  unfolding elements
+  count-element-hit t = ap (λ (k : ℕ). count p (range 1 k)) (let z : b + 1 - 1 ≡ b - 1 + 1 = omega arith in z) ∙ count-hit p 1 (b - 1) b (omega arith) t
+
+  pub count-element-miss : p b ≡ false → count p (elements (b + 1 - 1)) ≡ count p (elements (b - 1))
+  unfolding elements
+  count-element-miss t = ap (λ (k : ℕ). count p (range 1 k)) (let z : b + 1 - 1 ≡ b - 1 + 1 = omega arith in z) ∙ count-miss p 1 (b - 1) b (omega arith) t
+
+pub count-elements-none : (p : ℕ → Bool) → count p (elements 0) ≡ 0
+unfolding elements
+count-elements-none p = count-none p 1
+
+-- A count over the elements is at most n.
+pub count-elements : (n : ℕ) (p : ℕ → Bool) → count p (elements n) ≤ n
+unfolding elements
+count-elements n p = count-below p 1 n
 
 -- The same numbers, each one further on.
 count-shift : (p q : ℕ → Bool) (i k : ℕ) → ((j : ℕ) → i ≤ j → j < i + k → p j ≡ q (suc j)) → count p (range i k) ≡ count q (range (suc i) k)
@@ -117,22 +136,21 @@ module _ (n : ℕ) (cells : List ℕ) where
       count-same (λ i. eqb (getD cells (i * 1) 0) a) (λ i. eqb (getD cells i 0) a) (range 0 (length cells)) (λ i m. ap (λ (k : ℕ). eqb (getD cells k 0) a) (let z : i * 1 ≡ i = omega arith in z))
       ∙ count-places (λ x. eqb x a) cells ∙ sym (frequency-cells n cells size a)
 
-  -- A count over the elements is at most n.
-  most : (p : ℕ → Bool) → count p (elements n) ≤ n
-  unfolding elements
-  most p = count-below p 1 n
-
   pub diagonal-at-most : (a : ℕ) → diagonalFrequency n (product n cells) a ≤ n
   unfolding diagonalFrequency
-  diagonal-at-most a = most (λ i. eqb (product n cells i i) a)
+  diagonal-at-most a = count-elements n (λ i. eqb (product n cells i i) a)
 
   pub row-at-most : (a : ℕ) → rowFrequency n (product n cells) a ≤ n
   unfolding rowFrequency
-  row-at-most a = most (λ j. eqb (product n cells a j) a)
+  row-at-most a = count-elements n (λ j. eqb (product n cells a j) a)
 
   pub column-at-most : (a : ℕ) → columnFrequency n (product n cells) a ≤ n
   unfolding columnFrequency
-  column-at-most a = most (λ i. eqb (product n cells i a) a)
+  column-at-most a = count-elements n (λ i. eqb (product n cells i a) a)
+
+  pub commuting-at-most : (a : ℕ) → commuting n (product n cells) a ≤ n
+  unfolding commuting
+  commuting-at-most a = count-elements n (λ b. eqb (product n cells a b) (product n cells b a))
 
 -- ---- that these cells are there
 

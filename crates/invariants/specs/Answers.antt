@@ -48,6 +48,7 @@ profileValue r =
       diagonal = r .diagonal;
       row = r .row;
       column = r .column;
+      commuting = r .commuting;
     }
 
 abbrev pub profileSays : ProfileAnswer → Answer marks.Profile

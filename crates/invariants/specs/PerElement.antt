@@ -8,7 +8,7 @@ use Rattle.semigroups.specs.Lists.{elements}
 use Rattle.semigroups.specs.Tables.{Product}
 use Rattle.semigroups.specs.Invariants as marks
 use Rattle.invariants.specs.declared.IndexPeriods.{IndexPeriods}
-use Rattle.invariants.specs.declared.LineFrequencies.{LineFrequencies}
+use Rattle.invariants.specs.declared.LineCounts.{LineCounts}
 use Rattle.invariants.specs.declared.ElementCounts.{ElementCounts}
 
 -- The values of w at the elements 1 to n, element a's at place a - 1; then zeros: 120 entries in all.
@@ -20,10 +20,11 @@ pub record AllIndexPeriods (n : ℕ) (s : Product) (r : IndexPeriods) : Type 0 w
   pub index : r .index ≡ perElement n (marks.index n s)
   pub period : r .period ≡ perElement n (marks.period n s)
 
--- Of every element, the counts that take one row or one column.
-pub record LineCounts (n : ℕ) (s : Product) (r : LineFrequencies) : Type 0 where
+-- Of every element, the counts that take its row and its column.
+pub record AllLineCounts (n : ℕ) (s : Product) (r : LineCounts) : Type 0 where
   pub row : r .row ≡ perElement n (marks.rowFrequency n s)
   pub column : r .column ≡ perElement n (marks.columnFrequency n s)
+  pub commuting : r .commuting ≡ perElement n (marks.commuting n s)
 
 -- The counts of every element's profile.
 pub record AllCounts (n : ℕ) (s : Product) (r : ElementCounts) : Type 0 where
@@ -31,3 +32,4 @@ pub record AllCounts (n : ℕ) (s : Product) (r : ElementCounts) : Type 0 where
   pub diagonal : r .diagonal ≡ perElement n (marks.diagonalFrequency n s)
   pub row : r .row ≡ perElement n (marks.rowFrequency n s)
   pub column : r .column ≡ perElement n (marks.columnFrequency n s)
+  pub commuting : r .commuting ≡ perElement n (marks.commuting n s)

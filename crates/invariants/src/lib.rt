@@ -6,11 +6,11 @@ ghost use mathlib.Core.Path.{_≡_};
 ghost use Prim.Native.Nat.{_≤_};
 ghost use Rattle.semigroups.specs.Tables.{product, Element, Filled, Associative};
 ghost use Rattle.semigroups.specs.Questions.{elementRefusal};
-ghost use Rattle.semigroups.specs.Invariants.{indexPeriod, rowFrequency, columnFrequency, profile};
+ghost use Rattle.semigroups.specs.Invariants.{indexPeriod, rowFrequency, columnFrequency, commuting, profile};
 ghost use Rattle.semigroups.specs.Calls.{givenUnless};
 ghost use Rattle.tables.specs.Answers.{refusalNumbers};
 ghost use Rattle.invariants.specs.Answers.{elementFaultRefusal, elementVerdictRefusal, indexPeriodValue, indexPeriodSays, profileValue, profileSays};
-ghost use Rattle.invariants.specs.PerElement.{perElement, AllIndexPeriods, LineCounts, AllCounts};
+ghost use Rattle.invariants.specs.PerElement.{perElement, AllIndexPeriods, AllLineCounts, AllCounts};
 ghost use Rattle.invariants.specs.Powers.{settled};
 ghost use Rattle.invariants.specs.Counts.{occurrences, Reached};
 use tables::Fault;
@@ -131,7 +131,7 @@ pub fn all_index_periods(cells: &[u8], n: usize) -> IndexPeriods
     IndexPeriods { index, period }
 }
 
-// ---- frequencies
+// ---- counts
 
 // How often a stands among k cells, the first and then each that is `step` further on.
 fn count(cells: &[u8], k: usize, step: usize, a: usize) -> usize
@@ -182,37 +182,62 @@ fn column_frequency(cells: &[u8], n: usize, a: usize) -> usize
     count(&cells[at..], n, n, a)
 }
 
-// Element a's row and column frequency stand at place a - 1; places past the last element hold 0.
-struct LineFrequencies {
-    row: [u16; 120],
-    column: [u16; 120],
+// How many b have a·b = b·a: row a against column a.
+fn commuting(cells: &[u8], n: usize, a: usize) -> usize
+    requires { ⌜ Filled n (now cells) ⌝ ∗ ⌜ Element n a ⌝ }
+    ensures answer { λ r. ⌜ r ≡ commuting n (product n (now (cells .entry))) a ⌝ }
+{
+    let mut found: usize = 0;
+    let mut b: usize = 1;
+    while b <= n {
+        let product = tables::times(cells, n, a, b);
+        let turned = tables::times(cells, n, b, a);
+        if product == turned {
+            found += 1;
+        }
+        b += 1;
+    }
+    found
 }
 
-// The counts that take one row and one column each.
-fn line_frequencies(cells: &[u8], n: usize) -> LineFrequencies
+// Element a's counts over its row and its column stand at place a - 1; places past the last element hold 0.
+struct LineCounts {
+    row: [u16; 120],
+    column: [u16; 120],
+    commuting: [u16; 120],
+}
+
+fn line_counts(cells: &[u8], n: usize) -> LineCounts
     requires { ⌜ Filled n (now cells) ⌝ }
-    ensures answer { λ r. ⌜ LineCounts n (product n (now (cells .entry))) r ⌝ }
+    ensures answer { λ r. ⌜ AllLineCounts n (product n (now (cells .entry))) r ⌝ }
 {
     let mut row = [0u16; 120];
     let mut column = [0u16; 120];
+    let mut commute = [0u16; 120];
     let mut a: usize = 1;
     while a <= n {
         row[a - 1] = row_frequency(cells, n, a) as u16;
         column[a - 1] = column_frequency(cells, n, a) as u16;
+        commute[a - 1] = commuting(cells, n, a) as u16;
         a += 1;
     }
-    LineFrequencies { row, column }
+    LineCounts {
+        row,
+        column,
+        commuting: commute,
+    }
 }
 
 // ---- the profile
 
-// The index-period and the four counts of a profile (definition 4.1).
+// The index-period and the counts of a profile (definition 4.1; 02, x).
 pub struct ElementProfile {
     pub powers: IndexPeriod,
     pub frequency: usize,
     pub diagonal: usize,
     pub row: usize,
     pub column: usize,
+    pub commuting: usize,
 }
 
 pub enum ProfileAnswer {
@@ -230,6 +255,7 @@ fn profile_of(cells: &[u8], n: usize, a: usize) -> ElementProfile
         diagonal: count(cells, n, n + 1, a),
         row: row_frequency(cells, n, a),
         column: column_frequency(cells, n, a),
+        commuting: commuting(cells, n, a),
     }
 }
 
@@ -249,6 +275,7 @@ pub struct ElementCounts {
     pub diagonal: [u16; 120],
     pub row: [u16; 120],
     pub column: [u16; 120],
+    pub commuting: [u16; 120],
 }
 
 // The counts of every element's profile.
@@ -256,13 +283,15 @@ pub fn all_counts(cells: &[u8], n: usize) -> ElementCounts
     requires { ⌜ Filled n (now cells) ⌝ }
     ensures answer { λ r. ⌜ AllCounts n (product n (now (cells .entry))) r ⌝ }
 {
-    let lines = line_frequencies(cells, n);
+    let lines = line_counts(cells, n);
     let row = lines.row;
     let column = lines.column;
+    let commuting = lines.commuting;
     ElementCounts {
         frequency: tally(cells, n, cells.len(), 1),
         diagonal: tally(cells, n, n, n + 1),
         row,
         column,
+        commuting,
     }
 }

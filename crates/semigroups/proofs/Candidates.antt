@@ -1,6 +1,6 @@
 -- Candidates lose no map: an embedding keeps the index-period, an isomorphism the profile. Scratch marks read back as the candidates. Assumes nothing.
 use mathlib.Core.Path.{_≡_, refl, ap, _∙_}
-use mathlib.Core.Bool.{Bool, true, false, cond}
+use mathlib.Core.Bool.{Bool, true, false, cond, _&&_}
 use mathlib.Core.List.{List}
 use Prim.Native.Nat.{ℕ, _*_, _≤_, _<_}
 use native.Mathlib.Nat.{le-refl, mul-le-mul, mul-le-mul-right}
@@ -10,12 +10,18 @@ use lib.ListN.{length, drop, length-append, length-drop, List·getD-append}
 use Rattle.semigroups.specs.Tables.{Product, Element, Closed, cellPlace}
 use Rattle.semigroups.specs.Scratch.{scratchSize, marks, marked}
 use Rattle.semigroups.specs.Calls.{scratchAfter}
+use Rattle.semigroups.specs.Invariants.{index, period, indexPeriod, sameIndexPeriod}
 use Rattle.semigroups.specs.Maps.{embeddings, isomorphisms}
 use Rattle.semigroups.specs.Candidates.{candidate}
 use Rattle.semigroups.proofs.Tables.{place-below, length-grid, grid-at}
 use Rattle.semigroups.proofs.IndexPeriod.{index-period-kept}
 use Rattle.semigroups.proofs.Frequencies.{profile-kept}
 use Rattle.semigroups.proofs.Search.{Sound}
+
+-- Candidates for embeddings have equal index and equal period; nothing else is compared.
+pub embedding-candidate : (m : ℕ) (s : Product) (n : ℕ) (t : Product) (i j : ℕ) → candidate embeddings m s n t i j ≡ (eqb (index m s i) (index n t j) && eqb (period m s i) (period n t j))
+unfolding candidate sameIndexPeriod indexPeriod
+embedding-candidate m s n t i j = refl
 
 -- ---- no map is lost
 

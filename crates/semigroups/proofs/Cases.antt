@@ -6,7 +6,7 @@ use mathlib.Core.Option.{none, orElse}
 use Rattle.semigroups.specs.Lists.{range, elements, at, all, find, keep, firstOf, sum, count, least, member, distinct, earlier, lists}
 use Rattle.semigroups.specs.Tables.{product, grid, isElement, associates, badCell, badTriple}
 use Rattle.semigroups.specs.Questions.{tableRefusal}
-use Rattle.semigroups.specs.Invariants.{power, periodFrom, index, period, idempotentPower, indexPeriod, frequency, diagonalFrequency, rowFrequency, columnFrequency, profile}
+use Rattle.semigroups.specs.Invariants.{power, periodFrom, index, period, idempotentPower, indexPeriod, frequency, diagonalFrequency, rowFrequency, columnFrequency, commuting, profile}
 use Rattle.semigroups.specs.Maps.{isHomomorphism, isEmbedding, isIsomorphism, maps, earliest, after}
 use Rattle.semigroups.specs.Transformations.{transformations, transformationOrder, transformation, numberOf, transformationProduct, transformationCells}
 use Rattle.semigroups.specs.Cases.{Table, left, two, tables, Case, result, cases, Worked}
@@ -18,7 +18,7 @@ each f g (x ∷ xs) e c (List·Memᴰ·head q) = ap f q ∙ head-eq-of-cons-eq e
 each f g (x ∷ xs) e c (List·Memᴰ·tail m) = each f g xs (tail-eq-of-cons-eq e) c m
 
 computed : map (λ (c : Case). result (c .asks)) cases ≡ map (λ (c : Case). c .says) cases
-unfolding result cases two range elements at all find keep sum count least member distinct earlier lists product grid isElement associates badCell badTriple firstOf tableRefusal power periodFrom index period idempotentPower indexPeriod frequency diagonalFrequency rowFrequency columnFrequency profile isHomomorphism isEmbedding isIsomorphism maps earliest after transformations transformationOrder transformation numberOf transformationProduct transformationCells orElse flatMap
+unfolding result cases two range elements at all find keep sum count least member distinct earlier lists product grid isElement associates badCell badTriple firstOf tableRefusal power periodFrom index period idempotentPower indexPeriod frequency diagonalFrequency rowFrequency columnFrequency commuting profile isHomomorphism isEmbedding isIsomorphism maps earliest after transformations transformationOrder transformation numberOf transformationProduct transformationCells orElse flatMap
 computed = refl
 
 -- Whether each table has no failed question.

@@ -1,5 +1,5 @@
--- Frequencies of elements: what they sum to, what an isomorphism keeps, and how they are counted over the cells of a table. The idea: a sum over
--- all elements is one over their images. Assumes nothing.
+-- Frequencies of elements and how many elements commute with one: what frequencies sum to, what an isomorphism keeps, and how frequencies are counted
+-- over the cells of a table. The idea: a sum over all elements is one over their images. Assumes nothing.
 use mathlib.Core.Path.{_≡_, sym, ap, ap₂, _∙_, subst}
 use mathlib.Core.Bool.{true, cond}
 use mathlib.Core.Logic.{_⊎_, inl, inr}
@@ -13,7 +13,7 @@ use lib.ListN.{length, getD, take, drop, length-map, length-drop, take-append-dr
 use lib.Seq.{ext-getD, getD-take, getD-drop, length-take-le, drop-drop}
 use Rattle.semigroups.specs.Lists.{range, elements, at, sum, count, NoRepeats}
 use Rattle.semigroups.specs.Tables.{Product, product, grid, Element, Closed}
-use Rattle.semigroups.specs.Invariants.{frequency, diagonalFrequency, rowFrequency, columnFrequency, profile, sameProfile}
+use Rattle.semigroups.specs.Invariants.{frequency, diagonalFrequency, rowFrequency, columnFrequency, commuting, profile, sameProfile}
 use Rattle.semigroups.specs.Maps.{Embedding}
 use Rattle.semigroups.proofs.Booleans.{equal-or-not}
 use Rattle.semigroups.proofs.Lists.{length-elements, mem-elements, elements-mem, getD-map, at-elements, at-suc}
@@ -45,7 +45,7 @@ module _ (n : ℕ) (s : Product) (c : Closed n s) where
   unfolding diagonalFrequency
   diagonal-frequencies-sum = sum-counts n (λ i. s i i) (elements n) (λ i m. c i i (mem-elements n i m) (mem-elements n i m)) ∙ length-elements n
 
--- ---- an isomorphism keeps the frequencies
+-- ---- an isomorphism keeps the counts
 
 module _ (n : ℕ) (s t : Product) (f : List ℕ) (F : Embedding n s n t f) where
   -- A sum over all elements is one over their images.
@@ -66,14 +66,15 @@ module _ (n : ℕ) (s t : Product) (f : List ℕ) (F : Embedding n s n t f) wher
           let o = onto n f (F .homomorphism .size) (F .homomorphism .within) (F .one-to-one) y (mem-elements n y m) in
           Memᴰ·cast (sym (o .2)) (Memᴰ·map (at f) (elements-mem n (o .0) (o .1)))
 
-  module _ (c : Closed n s) (a : ℕ) (h : Element n a) where
-    same-test : (x : ℕ) → Element n x → eqb (at f x) (at f a) ≡ eqb x a
-    same-test x k = go (equal-or-not x a)
-      where
-        go : (x ≡ a) ⊎ (x ≡ a → ⊥) → eqb (at f x) (at f a) ≡ eqb x a
-        go (inl e) = eq-eqb (at f x) (at f a) (ap (at f) e) ∙ sym (eq-eqb x a e)
-        go (inr ne) = ne-eqb (at f x) (at f a) (λ e. ne (F .one-to-one x a k h e)) ∙ sym (ne-eqb x a ne)
+  -- Images are equal where the elements are.
+  same-image : (x y : ℕ) → Element n x → Element n y → eqb (at f x) (at f y) ≡ eqb x y
+  same-image x y hx hy = go (equal-or-not x y)
+    where
+      go : (x ≡ y) ⊎ (x ≡ y → ⊥) → eqb (at f x) (at f y) ≡ eqb x y
+      go (inl e) = eq-eqb (at f x) (at f y) (ap (at f) e) ∙ sym (eq-eqb x y e)
+      go (inr ne) = ne-eqb (at f x) (at f y) (λ e. ne (F .one-to-one x y hx hy e)) ∙ sym (ne-eqb x y ne)
 
+  module _ (c : Closed n s) (a : ℕ) (h : Element n a) where
     -- How many x have a at g x, where g goes over to g′.
     count-kept : (g g′ : ℕ → ℕ) → ((x : ℕ) → Element n x → Element n (g x)) → ((x : ℕ) → Element n x → at f (g x) ≡ g′ (at f x))
         → count (λ x. eqb (g′ x) (at f a)) (elements n) ≡ count (λ x. eqb (g x) a) (elements n)
@@ -81,7 +82,7 @@ module _ (n : ℕ) (s t : Product) (f : List ℕ) (F : Embedding n s n t f) wher
     count-kept g g′ w e =
         sym (sum-images (λ x. cond (eqb (g′ x) (at f a)) 1 0))
         ∙ count-same (λ x. eqb (g′ (at f x)) (at f a)) (λ x. eqb (g x) a) (elements n)
-        (λ x m. ap (λ (y : ℕ). eqb y (at f a)) (sym (e x (mem-elements n x m))) ∙ same-test (g x) (w x (mem-elements n x m)))
+        (λ x m. ap (λ (y : ℕ). eqb y (at f a)) (sym (e x (mem-elements n x m))) ∙ same-image (g x) a (w x (mem-elements n x m)) h)
 
     pub diagonal-frequency-kept : diagonalFrequency n t (at f a) ≡ diagonalFrequency n s a
     unfolding diagonalFrequency
@@ -102,10 +103,20 @@ module _ (n : ℕ) (s t : Product) (f : List ℕ) (F : Embedding n s n t f) wher
         ∙ sum-same (λ i. count (λ j. eqb (t (at f i) j) (at f a)) (elements n)) (λ i. count (λ j. eqb (s i j) a) (elements n)) (elements n)
         (λ i m. count-kept (λ j. s i j) (λ j. t (at f i) j) (λ x k. c i x (mem-elements n i m) k) (λ x k. F .homomorphism .keeps-product i x (mem-elements n i m) k))
 
+    pub commuting-kept : commuting n t (at f a) ≡ commuting n s a
+    unfolding commuting count
+    commuting-kept =
+        let keeps = F .homomorphism .keeps-product in
+        sym (sum-images (λ b. cond (eqb (t (at f a) b) (t b (at f a))) 1 0))
+        ∙ count-same (λ b. eqb (t (at f a) (at f b)) (t (at f b) (at f a))) (λ b. eqb (s a b) (s b a)) (elements n)
+        (λ b m.
+        let k = mem-elements n b m in
+        ap₂ eqb (sym (keeps a b h k)) (sym (keeps b a k h)) ∙ same-image (s a b) (s b a) (c a b h k) (c b a k h))
+
     -- An isomorphism keeps what is compared of a profile.
     pub profile-kept : Closed n t → sameProfile (profile n s a) (profile n t (at f a)) ≡ true
     unfolding profile sameProfile
-    profile-kept d = rw (index-period-kept n s n t f F c a h d, same frequency-kept, same diagonal-frequency-kept, same row-frequency-kept, same column-frequency-kept)
+    profile-kept d = rw (index-period-kept n s n t f F c a h d, same frequency-kept, same diagonal-frequency-kept, same row-frequency-kept, same column-frequency-kept, same commuting-kept)
       where
         same : {x y : ℕ} → y ≡ x → eqb x y ≡ true
         same {x} {y} e = eq-eqb x y (sym e)

@@ -77,7 +77,7 @@ cases =
     ∷ record { asks = isAccepted (record { order = 2; cells = 1 ∷ 3 ∷ 1 ∷ 1 ∷ [] }); says = aRefusal (some (no 3 (2 ∷ []))) }
     ∷ record { asks = isAccepted (record { order = 0; cells = [] }); says = aRefusal (some (no 1 [])) }
     ∷ record { asks = indexPeriodOf mat5 3; says = anIndexPeriod (record { index = 2; period = 1; idempotent = 1 }) }
-    ∷ record { asks = profileOf mat5 4; says = aProfile (record { powers = record { index = 1; period = 1; idempotent = 4 }; frequency = 3; diagonal = 1; row = 2; column = 2 }) }
+    ∷ record { asks = profileOf mat5 4; says = aProfile (record { powers = record { index = 1; period = 1; idempotent = 4 }; frequency = 3; diagonal = 1; row = 2; column = 2; commuting = 2 }) }
     ∷ record { asks = mapsOf embeddings swap two (first ∷ next (2 ∷ 3 ∷ []) ∷ []); says = mapsInTurn (some (2 ∷ 3 ∷ []) ∷ none ∷ []) }
     ∷ record { asks = mapsOf embeddings right two (first ∷ next (1 ∷ 4 ∷ []) ∷ next (4 ∷ 1 ∷ []) ∷ []); says = mapsInTurn (some (1 ∷ 4 ∷ []) ∷ some (4 ∷ 1 ∷ []) ∷ none ∷ []) }
     ∷ record { asks = mapsOf embeddings left two (first ∷ []); says = mapsInTurn (none ∷ []) }

@@ -67,7 +67,7 @@ indexPeriod n s a = record { index = index n s a; period = period n s a; idempot
 unfoldable pub sameIndexPeriod : IndexPeriod → IndexPeriod → Bool
 sameIndexPeriod a b = eqb (a .index) (b .index) && eqb (a .period) (b .period)
 
--- ---- frequencies (section 4)
+-- ---- counts: frequencies (section 4) and commuting elements
 
 -- How often a stands in the whole table.
 unfoldable pub frequency : ℕ → Product → ℕ → ℕ
@@ -85,6 +85,10 @@ rowFrequency n s a = count (λ j. eqb (s a j) a) (elements n)
 unfoldable pub columnFrequency : ℕ → Product → ℕ → ℕ
 columnFrequency n s a = count (λ i. eqb (s i a) a) (elements n)
 
+-- How many elements b have a·b = b·a (02, x).
+unfoldable pub commuting : ℕ → Product → ℕ → ℕ
+commuting n s a = count (λ b. eqb (s a b) (s b a)) (elements n)
+
 -- ---- the profile
 
 pub record Profile : Type 0 where
@@ -93,6 +97,7 @@ pub record Profile : Type 0 where
   pub diagonal : ℕ
   pub row : ℕ
   pub column : ℕ
+  pub commuting : ℕ
 
 unfoldable pub profile : ℕ → Product → ℕ → Profile
 profile n s a =
@@ -102,13 +107,15 @@ profile n s a =
       diagonal = diagonalFrequency n s a;
       row = rowFrequency n s a;
       column = columnFrequency n s a;
+      commuting = commuting n s a;
     }
 
--- Definition 4.1: two elements have the same element profile.
+-- Definition 4.1, with the count of commuting elements: two elements have the same element profile.
 unfoldable pub sameProfile : Profile → Profile → Bool
 sameProfile a b =
     sameIndexPeriod (a .powers) (b .powers)
     && (eqb (a .frequency) (b .frequency)
     && (eqb (a .diagonal) (b .diagonal)
     && (eqb (a .row) (b .row)
-    && eqb (a .column) (b .column))))
+    && (eqb (a .column) (b .column)
+    && eqb (a .commuting) (b .commuting)))))

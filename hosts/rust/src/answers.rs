@@ -190,6 +190,8 @@ pub struct Profile {
     pub row: usize,
     /// How often it stands in its column.
     pub column: usize,
+    /// How many elements, itself included, it commutes with.
+    pub commuting: usize,
 }
 
 impl Profile {
@@ -202,6 +204,7 @@ impl Profile {
             diagonal: number(answer, 6),
             row: number(answer, 7),
             column: number(answer, 8),
+            commuting: number(answer, 9),
         }
     }
 }

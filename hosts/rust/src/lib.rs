@@ -58,8 +58,8 @@ pub fn index_period(cells: &[u8], order: usize, element: usize) -> Result<IndexP
     answered(|answer| abi::index_period(cells, order, element, answer), IndexPeriod::decode)
 }
 
-/// The profile of an element: index, period, the power that is its own square, and how often the element stands in
-/// the table, its diagonal, row and column.
+/// The profile of an element: index, period, the power that is its own square, how often the element stands in the
+/// table, its diagonal, row and column, and how many elements it commutes with.
 pub fn profile(cells: &[u8], order: usize, element: usize) -> Result<Profile, Refusal> {
     answered(|answer| abi::profile(cells, order, element, answer), Profile::decode)
 }

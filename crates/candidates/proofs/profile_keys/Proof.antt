@@ -8,7 +8,7 @@ use Rattle.semigroups.specs.Invariants.{profile}
 use Rattle.invariants.specs.declared.ElementCounts.{ElementCounts}
 use Rattle.invariants.specs.PerElement.{AllCounts}
 use Rattle.candidates.specs.Keys.{packed, profileKey}
-use Rattle.candidates.proofs.Keys.{AllKeys, Appends, key, powers-keys, append-frequency, append-diagonal, append-row, append-column}
+use Rattle.candidates.proofs.Keys.{AllKeys, Appends, key, powers-keys, append-frequency, append-diagonal, append-row, append-column, append-commuting}
 use Rattle.candidates.proofs.profile_keys.Statement.{statement}
 use Rattle.candidates.proofs.profile_keys.Tie as tie
 
@@ -48,6 +48,9 @@ module _ (c : tie.After-index-period-keys) where
   columns : (keys : List ℕ) → Keys 3 281474976710656 keys → Appends n (key n cells table counts counted 4) 72057594037927936 256 keys (counts .column)
   columns = append-column n cells table counts counted
 
+  commutings : (keys : List ℕ) → Keys 4 72057594037927936 keys → Appends n (key n cells table counts counted 5) 18446744073709551616 256 keys (counts .commuting)
+  commutings = append-commuting n cells table counts counted
+
 with-frequency : (z : tie.After-append) → let c = z .before .before .before .before in Keys c 1 4294967296 (z .append .result)
 with-frequency z = let c = z .before .before .before .before in frequencies c .1 (z .append .result) (z .append .ensures)
 
@@ -62,6 +65,12 @@ with-row z =
     let y = z .before .before .before .before in
     let c = y .before .before .before .before .before .before .before .before in
     rows c (y .append2 .result) (with-diagonal y) .1 (z .append3 .result) (z .append3 .ensures)
+
+with-column : (z : tie.After-append4) → let c = z .before .before .before .before .before .before .before .before .before .before .before .before .before .before .before .before in Keys c 4 72057594037927936 (z .append4 .result)
+with-column z =
+    let y = z .before .before .before .before in
+    let c = y .before .before .before .before .before .before .before .before .before .before .before .before in
+    columns c (y .append3 .result) (with-row y) .1 (z .append4 .result) (z .append4 .ensures)
 
 all-counts-requires : tie.Need-all-counts-requires
 all-counts-requires c κs = search needs
@@ -90,12 +99,18 @@ append-requires-4 z κs =
     let c = y .before .before .before .before .before .before .before .before .before .before .before .before in
     (table c .order .1, columns c (y .append3 .result) (with-row y) .0)
 
+append-requires-5 : tie.Need-append-requires-5
+append-requires-5 z κs =
+    let y = z .before .before .before in
+    let c = y .before .before .before .before .before .before .before .before .before .before .before .before .before .before .before .before in
+    (table c .order .1, commutings c (y .append4 .result) (with-column y) .0)
+
 returns : tie.Need-returns
 unfolding packed profileKey profile
 returns z =
     let y = z .before .before .before .before in
-    let c = y .before .before .before .before .before .before .before .before .before .before .before .before in
-    columns c (y .append3 .result) (with-row y) .1 (z .append4 .result) (z .append4 .ensures) .each
+    let c = y .before .before .before .before .before .before .before .before .before .before .before .before .before .before .before .before in
+    commutings c (y .append4 .result) (with-column y) .1 (z .append5 .result) (z .append5 .ensures) .each
 
 pub profile-keys-spec : {M : Type 1} → statement M
 profile-keys-spec =
@@ -107,4 +122,5 @@ profile-keys-spec =
     append-requires-2
     append-requires-3
     append-requires-4
+    append-requires-5
     returns)

@@ -26,17 +26,21 @@ row-frequency-requires c κs = search needs
 column-frequency-requires : tie.Need-column-frequency-requires
 column-frequency-requires c κs = search needs
 
+commuting-requires : tie.Need-commuting-requires
+commuting-requires c κs = search needs
+
 returns : tie.Need-returns
 unfolding marks.profile
 returns c =
-    let w = c .before .before .before .before in
+    let w = c .before .before .before .before .before in
     let s = w .before .before in
     let a = s .args in
     let e1 = w .index-period-of .ensures ∙ settled-idempotent (a .n) (now (a .cells)) (a .a) (s .pre .0) (s .pre .1 .1) (s .pre .1 .0) in
-    let e2 = c .before .before .before .count .ensures ∙ table-counted (a .n) (now (a .cells)) (s .pre .0 .size) (a .a) in
-    let e3 = c .before .before .count2 .ensures ∙ diagonal-counted (a .n) (now (a .cells)) (a .a) in
-    let e4 = c .before .row-frequency .ensures in
-    let e5 = c .column-frequency .ensures in
+    let e2 = c .before .before .before .before .count .ensures ∙ table-counted (a .n) (now (a .cells)) (s .pre .0 .size) (a .a) in
+    let e3 = c .before .before .before .count2 .ensures ∙ diagonal-counted (a .n) (now (a .cells)) (a .a) in
+    let e4 = c .before .before .row-frequency .ensures in
+    let e5 = c .before .column-frequency .ensures in
+    let e6 = c .commuting .ensures in
     cc
 
 pub profile-of-spec : {M : Type 1} → statement M
@@ -49,4 +53,5 @@ profile-of-spec =
     count-requires-2
     row-frequency-requires
     column-frequency-requires
+    commuting-requires
     returns)

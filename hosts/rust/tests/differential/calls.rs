@@ -137,7 +137,9 @@ impl Call {
             }
             Call::Profile { table, element } => {
                 let answer = tickdrizzle::profile(&table.cells, table.order, *element);
-                encoded(answer, |p| vec![p.index, p.period, p.idempotent, p.frequency, p.diagonal, p.row, p.column])
+                encoded(answer, |p| {
+                    vec![p.index, p.period, p.idempotent, p.frequency, p.diagonal, p.row, p.column, p.commuting]
+                })
             }
             Call::CheckMap { source, target, map } => {
                 let answer = tickdrizzle::check_map(&source.cells, source.order, &target.cells, target.order, map);

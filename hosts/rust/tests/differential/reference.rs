@@ -134,7 +134,7 @@ impl<'a> Table<'a> {
     }
 
     /// The counts of a profile, index and period first.
-    fn profile(&self, element: usize) -> [usize; 6] {
+    fn profile(&self, element: usize) -> [usize; 7] {
         let [index, period] = self.index_period(element);
         [
             index,
@@ -143,6 +143,7 @@ impl<'a> Table<'a> {
             self.count(element, |i, j| i == j),
             self.count(element, |i, _| i == element),
             self.count(element, |_, j| j == element),
+            self.elements().filter(|&b| self.product(element, b) == self.product(b, element)).count(),
         ]
     }
 }

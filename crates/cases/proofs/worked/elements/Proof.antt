@@ -7,7 +7,7 @@ use Rattle.semigroups.specs.Lists.{range, elements, at, find, sum, count, least
 use Rattle.semigroups.specs.Tables.{product, isElement, associates, badCell, badTriple}
 use Rattle.semigroups.specs.Questions.{cellsRefusal, tableRefusal, elementRefusal}
 use Rattle.semigroups.specs.Calls.{Answer, givenUnless}
-use Rattle.semigroups.specs.Invariants.{IndexPeriod, Profile, power, periodFrom, index, period, idempotentPower, indexPeriod, sameIndexPeriod, frequency, diagonalFrequency, rowFrequency, columnFrequency, profile, sameProfile}
+use Rattle.semigroups.specs.Invariants.{IndexPeriod, Profile, power, periodFrom, index, period, idempotentPower, indexPeriod, sameIndexPeriod, frequency, diagonalFrequency, rowFrequency, columnFrequency, commuting, profile, sameProfile}
 use Rattle.cases.specs.Answering.{sameGivenPowers, sameGivenProfile}
 use Rattle.cases.specs.Embedded.{mat5Cells}
 use Rattle.cases.specs.Tally.{empty, counted, agreed}
@@ -21,8 +21,8 @@ fourth : sameGivenPowers (givenUnless (elementRefusal 5 mat5Cells 3) (indexPerio
 unfolding range elements at find sum count least lists product isElement associates badCell badTriple firstOf cellsRefusal tableRefusal elementRefusal power periodFrom index period idempotentPower indexPeriod sameIndexPeriod orElse flatMap
 fourth = refl
 
-fifth : sameGivenProfile (givenUnless (elementRefusal 5 mat5Cells 4) (profile 5 (product 5 mat5Cells) 4)) (record { powers = record { index = 1; period = 1; idempotent = 4 }; frequency = 3; diagonal = 1; row = 2; column = 2 }) ≡ true
-unfolding range elements at find sum count least lists product isElement associates badCell badTriple firstOf cellsRefusal tableRefusal elementRefusal power periodFrom index period idempotentPower frequency diagonalFrequency rowFrequency columnFrequency indexPeriod sameIndexPeriod profile sameProfile orElse flatMap
+fifth : sameGivenProfile (givenUnless (elementRefusal 5 mat5Cells 4) (profile 5 (product 5 mat5Cells) 4)) (record { powers = record { index = 1; period = 1; idempotent = 4 }; frequency = 3; diagonal = 1; row = 2; column = 2; commuting = 2 }) ≡ true
+unfolding range elements at find sum count least lists product isElement associates badCell badTriple firstOf cellsRefusal tableRefusal elementRefusal power periodFrom index period idempotentPower frequency diagonalFrequency rowFrequency columnFrequency commuting indexPeriod sameIndexPeriod profile sameProfile orElse flatMap
 fifth = refl
 
 slice-aggregate-index-period : tie.Need-slice-aggregate-index-period
@@ -58,7 +58,7 @@ returns c =
     let first = c .before .before .before .before .before .before in
     let second = c .before .before .before in
     let case4 = first .same-powers .ensures ∙ ap (λ (x : Answer IndexPeriod). sameGivenPowers x (record { index = 2; period = 1; idempotent = 1 })) (first .before .index-period .ensures) ∙ fourth in
-    let case5 = second .same-profile .ensures ∙ ap (λ (x : Answer Profile). sameGivenProfile x (record { powers = record { index = 1; period = 1; idempotent = 4 }; frequency = 3; diagonal = 1; row = 2; column = 2 })) (second .before .profile .ensures) ∙ fifth in
+    let case5 = second .same-profile .ensures ∙ ap (λ (x : Answer Profile). sameGivenProfile x (record { powers = record { index = 1; period = 1; idempotent = 4 }; frequency = 3; diagonal = 1; row = 2; column = 2; commuting = 2 })) (second .before .profile .ensures) ∙ fifth in
     two-more empty 0 _ _ (c .before .before .start .ensures) case4 case5 (c .counted2 .ensures ∙ ap (λ (t : Tally). counted t (second .same-profile .result)) (c .before .counted .ensures))
 
 pub elements-spec : {M : Type 1} → statement M

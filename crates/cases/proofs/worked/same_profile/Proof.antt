@@ -21,7 +21,7 @@ returns c = search needs
 returns-2 : tie.Need-returns-2
 unfolding sameProfile sameIndexPeriod
 returns-2 c =
-    let known = c .before .before .before .before .before .before .before .before .before .before .before .before .before .before .before in
+    let known = c .before .before .before .before .before .before .before .before .before .before .before .before .before .before .before .before .before in
     let b = known .before .before .args .b in
     sym (ap {B = Bool} (λ (x : ProfileAnswer). sameGivenProfile (profileSays x) (profileValue b)) (known .a .given .1))
 

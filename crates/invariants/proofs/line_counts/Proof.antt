@@ -1,23 +1,24 @@
--- `line_frequencies` meets its contract: the arrays hold the values of the elements before a, then zeros. The measure is how many elements are left.
+-- `line_counts` meets its contract: the arrays hold the values of the elements before a, then zeros. The measure is how many elements are left.
 -- Assumes nothing.
 use native.Mathlib.Omega.{arith}
 use denote.Ref.{now}
 use Prim.Native.Nat.{_+_, _-_, _≤_}
 use mathlib.Core.Path.{_≡_}
 use Rattle.semigroups.specs.Tables.{product, Element}
-use Rattle.semigroups.specs.Invariants.{rowFrequency, columnFrequency}
-use Rattle.invariants.proofs.Counts.{row-at-most, column-at-most}
+use Rattle.semigroups.specs.Invariants.{rowFrequency, columnFrequency, commuting}
+use Rattle.invariants.proofs.Counts.{row-at-most, column-at-most, commuting-at-most}
 use Rattle.invariants.specs.PerElement.{perElement}
 use Rattle.invariants.proofs.PerElement.{fill-start, fill-step, fill-end}
-use Rattle.invariants.proofs.line_frequencies.Statement.{statement}
-use Rattle.invariants.proofs.line_frequencies.Tie as tie
+use Rattle.invariants.proofs.line_counts.Statement.{statement}
+use Rattle.invariants.proofs.line_counts.Tie as tie
 
 abbrev Inv-loop : tie.InvT-loop
-Inv-loop cells n row₀ column₀ a₀ row column a =
+Inv-loop cells n row₀ column₀ commute₀ a₀ row column commute a =
     Element (n + 1) a × (row ≡ perElement (a - 1) (rowFrequency n (product n cells))) × (column ≡ perElement (a - 1) (columnFrequency n (product n cells)))
+    × (commute ≡ perElement (a - 1) (commuting n (product n cells)))
 
 abbrev μ-loop : tie.MeasureT-loop
-μ-loop cells n row₀ column₀ a₀ row column a = n + 1 - a
+μ-loop cells n row₀ column₀ commute₀ a₀ row column commute a = n + 1 - a
 
 -- The element of a turn.
 module _ (t : tie.In-loop Inv-loop μ-loop) where
@@ -34,7 +35,7 @@ loop-holds : tie.Need-loop-holds Inv-loop μ-loop
 loop-holds c =
     let a = c .before .args in
     let table = product (a .n) (now (a .cells)) in
-    (omega arith, fill-start (rowFrequency (a .n) table), fill-start (columnFrequency (a .n) table))
+    (omega arith, fill-start (rowFrequency (a .n) table), fill-start (columnFrequency (a .n) table), fill-start (commuting (a .n) table))
 
 row-frequency-requires : tie.Need-row-frequency-requires Inv-loop μ-loop
 row-frequency-requires c κs = (start c .pre, element c)
@@ -72,23 +73,42 @@ mul-column c = let e = element (c .before .before) in omega (arith, limit (c .be
 array-write-column : tie.Need-array-write-column Inv-loop μ-loop
 array-write-column c = let e = element (c .before .before) in omega (arith, limit (c .before .before))
 
+commuting-requires : tie.Need-commuting-requires Inv-loop μ-loop
+commuting-requires c κs = let t = c .before .before in (start t .pre, element t)
+
+cast-commute : tie.Need-cast-commute Inv-loop μ-loop
+cast-commute c =
+    let t = c .before .before .before in
+    let a = start t .args in
+    omega (arith, limit t, c .commuting .ensures, commuting-at-most (a .n) (now (a .cells)) (t .before .loop .a))
+
+sub-commute : tie.Need-sub-commute Inv-loop μ-loop
+sub-commute c = element (c .before .before .before) .0
+
+mul-commute : tie.Need-mul-commute Inv-loop μ-loop
+mul-commute c = let e = element (c .before .before .before) in omega (arith, limit (c .before .before .before))
+
+array-write-commute : tie.Need-array-write-commute Inv-loop μ-loop
+array-write-commute c = let e = element (c .before .before .before) in omega (arith, limit (c .before .before .before))
+
 add-a : tie.Need-add-a Inv-loop μ-loop
-add-a c = let e = element (c .before .before) in omega (arith, limit (c .before .before))
+add-a c = let e = element (c .before .before .before) in omega (arith, limit (c .before .before .before))
 
 loop-less : tie.Need-loop-less Inv-loop μ-loop
-loop-less c = let e = element (c .before .before) in omega arith
+loop-less c = let e = element (c .before .before .before) in omega arith
 
 loop-again : tie.Need-loop-again Inv-loop μ-loop
 loop-again c =
-    let t = c .before .before in
+    let t = c .before .before .before in
     let n = start t .args .n in
     let table = product n (now (start t .args .cells)) in
     let l = t .before .loop in
     let e = element t in
     let most = limit t in (
       omega arith,
-      fill-step (rowFrequency n table) (l .a) _ (l .row) (l .inv .1) (omega arith) (c .before .row-frequency .ensures),
-      fill-step (columnFrequency n table) (l .a) _ (l .column) (l .inv .2) (omega arith) (c .column-frequency .ensures),
+      fill-step (rowFrequency n table) (l .a) _ (l .row) (l .inv .1) (omega arith) (c .before .before .row-frequency .ensures),
+      fill-step (columnFrequency n table) (l .a) _ (l .column) (l .inv .2) (omega arith) (c .before .column-frequency .ensures),
+      fill-step (commuting n table) (l .a) _ (l .commute) (l .inv .3) (omega arith) (c .commuting .ensures),
     )
 
 returns : tie.Need-returns Inv-loop μ-loop
@@ -100,10 +120,11 @@ returns c =
     record {
       row = fill-end (rowFrequency (a .n) table) (a .n) (l .a) (l .row) (l .inv .1) (l .inv .0) end;
       column = fill-end (columnFrequency (a .n) table) (a .n) (l .a) (l .column) (l .inv .2) (l .inv .0) end;
+      commuting = fill-end (commuting (a .n) table) (a .n) (l .a) (l .commute) (l .inv .3) (l .inv .0) end;
     }
 
-pub line-frequencies-spec : {M : Type 1} → statement M
-line-frequencies-spec =
+pub line-counts-spec : {M : Type 1} → statement M
+line-counts-spec =
     tie.close
     (tie.spec
     Inv-loop
@@ -119,6 +140,11 @@ line-frequencies-spec =
     sub-column
     mul-column
     array-write-column
+    commuting-requires
+    cast-commute
+    sub-commute
+    mul-commute
+    array-write-commute
     add-a
     loop-less
     loop-again
