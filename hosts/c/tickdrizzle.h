@@ -49,7 +49,6 @@ extern "C" {
 #define TICKDRIZZLE_NO_TEXT_LENGTH 20   /* is the text 1 to 57720 bytes long? */
 #define TICKDRIZZLE_NO_TEXT_BYTE 21     /* is every byte a digit, a comma or part of a CR LF pair? the first other's
                                            place, from 0 */
-#define TICKDRIZZLE_NO_TEXT_END 22      /* does the text end in CR LF? */
 #define TICKDRIZZLE_NO_FIELD_LENGTH 23  /* is each field 1 to 3 bytes long? Asked after 24 */
 #define TICKDRIZZLE_NO_FIELD_START 24   /* is its first byte other than 0? An empty field has none */
 #define TICKDRIZZLE_NO_FIELD_RANGE 25   /* is it at most 120? */
@@ -133,7 +132,8 @@ void tickdrizzle_next_isomorphism(const uint8_t *source, size_t source_length, s
 void tickdrizzle_transformations(size_t degree, uint8_t *TICKDRIZZLE_RESTRICT cells, size_t cells_length,
                                  uint64_t *TICKDRIZZLE_RESTRICT answer);
 
-/* The cells of a CSV text: records closed by CR LF, no header, no quotes (20 to 22, 24, 23 and 25 of each field, 26, 1, 27; neither 3 nor 4).
+/* The cells of a CSV text: records closed by CR LF, the last one or not, no header, no quotes
+   (20, 21, 24, 23 and 25 of each field, 26, 1, 27; neither 3 nor 4).
    Says the order; writes the first order * order bytes of cells. */
 void tickdrizzle_load(const uint8_t *text, size_t text_length, uint8_t *TICKDRIZZLE_RESTRICT cells, size_t cells_length,
                       uint64_t *TICKDRIZZLE_RESTRICT answer);

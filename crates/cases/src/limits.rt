@@ -125,7 +125,6 @@ fn fault_said(fault: TextFault) -> Said
     match fault {
         TextFault::Length => failed(20, 0),
         TextFault::Byte(place) => failed(21, place),
-        TextFault::End => failed(22, 0),
         TextFault::FieldLength => failed(23, 0),
         TextFault::LeadingZero => failed(24, 0),
         TextFault::FieldValue => failed(25, 0),

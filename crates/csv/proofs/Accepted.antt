@@ -2,7 +2,7 @@
 -- Assumes nothing.
 use mathlib.Core.Path.{_≡_, refl, ap, ap₂, sym, _∙_}
 use mathlib.Core.Bool.{true}
-use mathlib.Core.List.{List, [], _∷_, _++_, map, flatten, append-nil}
+use mathlib.Core.List.{List, [], _∷_, _++_, map, flatten}
 use mathlib.Core.Option.{none, orElse}
 use Prim.Native.Nat.{ℕ, zero, suc, _+_, _*_, _≤_, _<_}
 use native.Mathlib.Nat.{mul-le-mul}
@@ -15,17 +15,16 @@ use Rattle.semigroups.specs.Lists.{sum, all}
 use Rattle.semigroups.specs.Tables.{Element, Filled}
 use Rattle.semigroups.proofs.Booleans.{both, and-left, and-right}
 use Rattle.csv.specs.Decimals.{numeral, value}
-use Rattle.csv.specs.Records.{rows, rowsText}
+use Rattle.csv.specs.Records.{closed, rows, rowsText}
 use Rattle.csv.specs.Tables.{fieldsOf, orderOf, cellsOf, tableText}
 use Rattle.csv.specs.Questions.{fieldRefusal, fieldsRefusal, isSquare, gridRefusal, loadRefusal}
 use Rattle.csv.specs.Passing.{Number}
 use Rattle.csv.proofs.Every.{Every, every-append}
-use Rattle.csv.proofs.Bytes.{clean, clean-other, other-clean, no-other, closed, closed-some, ends-passes}
+use Rattle.csv.proofs.Bytes.{clean, clean-other, other-clean, no-other, closed-is}
 use Rattle.csv.proofs.Scan.{none-refused}
-use Rattle.csv.proofs.Rows.{Digits, Row, Rows, rows-rowsText, rowsText-rows, clean-rows, rows-some, rowsText-clean, rowsText-ends}
+use Rattle.csv.proofs.Rows.{Digits, Row, Rows, rows-rowsText, rowsText-rows, clean-rows, rows-some, rowsText-clean}
 use Rattle.csv.proofs.Decimals.{numeral-one, numeral-digits, numeral-long, numeral-leading, digits-few, value-numeral, numeral-value}
 use Rattle.csv.proofs.Fields.{field-passes, field-passed, no-fields, fields-first, fields-passed}
-use Rattle.csv.proofs.Records.{ends, missing-none}
 use Rattle.csv.proofs.Tables.{split, Even, length-split, split-even, flatten-split, split-flatten, table-rows, flatten-map, text-length}
 use Rattle.csv.proofs.Judging.{says-passed}
 use Rattle.csv.proofs.Loading.{Loadable, cells-length, loads}
@@ -38,14 +37,15 @@ widths-most [] = omega arith
 widths-most (x ∷ l) = omega (arith, widths-most l, digits-few x)
 
 -- At most 4n² + n bytes.
-pub text-bound : (n : ℕ) (cells : List ℕ) → Filled n cells → length (tableText n cells) ≤ 4 * (n * n) + n
-text-bound n cells f =
-    let size = f .size in
-    omega (arith, text-length n cells (f .order .0) size, widths-most cells)
+pub text-bound : (n : ℕ) (cells : List ℕ) → 1 ≤ n → length cells ≡ n * n → length (tableText n cells) ≤ 4 * (n * n) + n
+text-bound n cells one size = omega (arith, text-length n cells one size, widths-most cells)
 
--- So every table's text has at most the 57,720 bytes that question 20 allows.
+-- So a text of order 120 at most has at most the 57,720 bytes that question 20 allows.
+order-fits : (n : ℕ) (cells : List ℕ) → 1 ≤ n → n ≤ 120 → length cells ≡ n * n → length (tableText n cells) ≤ 57720
+order-fits n cells one most size = omega (arith, text-bound n cells one size, mul-le-mul most most)
+
 pub text-fits : (n : ℕ) (cells : List ℕ) → Filled n cells → length (tableText n cells) ≤ 57720
-text-fits n cells f = let order = f .order in omega (arith, text-bound n cells f, mul-le-mul (order .1) (order .1))
+text-fits n cells f = order-fits n cells (f .order .0) (f .order .1) (f .size)
 
 pub text-some : (n : ℕ) (cells : List ℕ) → Filled n cells → 1 ≤ length (tableText n cells)
 text-some n cells f = let order = f .order in omega (arith, text-length n cells (order .0) (f .size))
@@ -140,8 +140,7 @@ module _ (n : ℕ) (cells : List ℕ) (f : Filled n cells) where
   pub table-loads : (room : ℕ) → n * n ≤ room → loadRefusal (tableText n cells) room ≡ none
   table-loads room h =
       let bytes = sym (none-refused (tableText n cells) (clean-other (tableText n cells) (ap clean text-is ∙ rowsText-clean row-list laid))) in
-      let end = ends-passes (tableText n cells) (text-some n cells f) (ap ends text-is ∙ rowsText-ends row-list laid) in
-      loads (tableText n cells) room (text-some n cells f) (text-fits n cells f) bytes end (sym table-order) passes-grid (f .order .1) h
+      loads (tableText n cells) room (text-some n cells f) (text-fits n cells f) bytes (sym table-order) passes-grid (f .order .1) h
 
 -- ---- a text that passes
 
@@ -216,21 +215,19 @@ module _ (t : List ℕ) (room : ℕ) (l : Loadable t room) where
       ∙ ap (λ (k : ℕ). split k (orderOf t) (flatten value-rows)) (sym (length-map (rows t) (map value) ∙ many))
       ∙ split-flatten (orderOf t) value-rows even
 
-  pub text-back : tableText (orderOf t) (cellsOf t) ≡ t
+  pub text-back : tableText (orderOf t) (cellsOf t) ≡ closed t
   unfolding tableText fieldsOf value-rows
   text-back =
       ap rowsText (table-rows (orderOf t) (cellsOf t) (cells-length (orderOf t) t (l .grid)))
       ∙ ap (λ (rs : List (List ℕ)). rowsText (map (map numeral) rs)) cut
       ∙ ap rowsText (rows-back (rows t) whole-rows (numbers-of (flatten (rows t)) (l .grid .numbers)))
       ∙ rowsText-rows t
-      ∙ ap (λ (m : List ℕ). t ++ m) (missing-none t (closed t (l .end)))
-      ∙ append-nil t
+      ∙ sym (closed-is t)
 
   pub first-row : 1 ≤ orderOf t
   unfolding orderOf
   first-row =
-      let some = closed-some t (l .end) in
-      let r = rows-some t (omega arith) (other-clean t (no-other t (l .bytes))) in
+      let r = rows-some t (l .some-byte) (other-clean t (no-other t (l .bytes))) in
       rw (r .3) (omega arith)
 
   -- Where no entry is above its order, the cells fill a table.
@@ -242,3 +239,7 @@ module _ (t : List ℕ) (room : ℕ) (l : Loadable t room) where
         size = cells-length (orderOf t) t (l .grid);
         in-range = λ k b. (values-some (flatten (rows t)) (flat-digits (rows t) whole-rows) (numbers-of (flatten (rows t)) (l .grid .numbers)) k b, h k b);
       }
+
+  -- A text that passes has at most 57,720 bytes with its last line break too.
+  pub closed-fits : length (closed t) ≤ 57720
+  closed-fits = rw (← text-back) (order-fits (orderOf t) (cellsOf t) first-row (l .order) (cells-length (orderOf t) t (l .grid)))

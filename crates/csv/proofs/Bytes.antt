@@ -1,22 +1,22 @@
--- Questions 21 and 22 by recursion over the bytes of a text.
+-- The last line break, and question 21, by recursion over the bytes of a text.
 -- Assumes nothing.
 use mathlib.Core.Path.{_≡_, refl, sym, _∙_}
 use mathlib.Core.Bool.{Bool, true, false, _&&_, _||_, not, cond, and-false, or-true, or-false}
-use mathlib.Core.List.{List, [], _∷_}
-use mathlib.Core.Option.{none, orElse, map-eq-none-iff}
-use Prim.Native.Nat.{ℕ, zero, suc, _-_, _≤_, _<_}
+use mathlib.Core.List.{List, [], _∷_, _++_, append-nil}
+use mathlib.Core.Option.{none, map-eq-none-iff}
+use Prim.Native.Nat.{ℕ, zero, suc, _-_, _<_}
 use native.Mathlib.Omega.{arith}
 use lib.Dec.{eqb}
 use lib.ListN.{length, getD}
 use borrow.Author.Tests.{not-false}
-use Rattle.semigroups.specs.Lists.{range, firstOf}
+use Rattle.semigroups.specs.Lists.{range}
 use Rattle.semigroups.proofs.Booleans.{both, and-left, and-right, not-of-true}
 use Rattle.semigroups.proofs.Lists.{mem-range, range-mem, find-none, none-find}
-use Rattle.semigroups.proofs.Questions.{ask-passed, all-passed}
+use Rattle.semigroups.proofs.Questions.{all-passed}
 use Rattle.csv.specs.Decimals.{isDigit}
-use Rattle.csv.specs.Records.{isBreak}
-use Rattle.csv.specs.Questions.{breakAt, inBreak, isAllowed, firstOther, bytesQuestion, bytesRefusal, endQuestion, endRefusal}
-use Rattle.csv.proofs.Records.{ends, break-bytes}
+use Rattle.csv.specs.Records.{isBreak, endsInBreak, closed}
+use Rattle.csv.specs.Questions.{breakAt, inBreak, isAllowed, firstOther, bytesQuestion, bytesRefusal}
+use Rattle.csv.proofs.Records.{ends, closing, missing, break-bytes}
 
 -- ---- the last line break
 
@@ -28,24 +28,38 @@ end-false : (b : ℕ) → isBreak b 0 ≡ false
 unfolding isBreak
 end-false b = and-false (eqb b 13)
 
-end-later : (b c d : ℕ) (t : List ℕ) → breakAt (b ∷ c ∷ d ∷ t) (length (b ∷ c ∷ d ∷ t) - 2) ≡ breakAt (c ∷ d ∷ t) (length (c ∷ d ∷ t) - 2)
-unfolding breakAt
+end-later : (b c d : ℕ) (t : List ℕ) → endsInBreak (b ∷ c ∷ d ∷ t) ≡ endsInBreak (c ∷ d ∷ t)
+unfolding endsInBreak
 end-later b c d t =
     let m : suc (suc (suc (length t))) - 2 ≡ suc (length t) = omega arith in
     let k : suc (suc (length t)) - 2 ≡ length t = omega arith in
-    rw (m, k)
+    let n : suc (suc (suc (length t))) - 1 ≡ suc (suc (length t)) = omega arith in
+    let i : suc (suc (length t)) - 1 ≡ suc (length t) = omega arith in
+    rw (m, k, n, i)
 
--- Question 22.
-pub ends-break : (b : ℕ) (t : List ℕ) → ends (b ∷ t) ≡ breakAt (b ∷ t) (length (b ∷ t) - 2)
-unfolding ends breakAt
-ends-break b [] = sym (end-false b)
+one-byte : (b : ℕ) → isBreak b b ≡ false
+one-byte b = go (isBreak b b) refl
+  where
+    go : (e : Bool) → isBreak b b ≡ e → e ≡ false
+    go true e = let p = break-bytes b b e in let w : ⊥ = omega (arith, p .0, p .1) in absurd w
+    go false e = refl
+
+pub ends-break : (b : ℕ) (t : List ℕ) → ends (b ∷ t) ≡ endsInBreak (b ∷ t)
+unfolding ends endsInBreak
+ends-break b [] = sym (one-byte b)
 ends-break b (c ∷ []) = elim (isBreak b c) as (λ e. cond e true false ≡ e) [ true ↦ refl | false ↦ refl ]
 ends-break b (c ∷ d ∷ t) = go (ends-break c (d ∷ t)) (isBreak b c) refl
   where
-    go : ends (c ∷ d ∷ t) ≡ breakAt (c ∷ d ∷ t) (length (c ∷ d ∷ t) - 2) → (e : Bool) → isBreak b c ≡ e
-        → cond e (ends (d ∷ t)) (ends (c ∷ d ∷ t)) ≡ breakAt (b ∷ c ∷ d ∷ t) (length (b ∷ c ∷ d ∷ t) - 2)
+    go : ends (c ∷ d ∷ t) ≡ endsInBreak (c ∷ d ∷ t) → (e : Bool) → isBreak b c ≡ e
+        → cond e (ends (d ∷ t)) (ends (c ∷ d ∷ t)) ≡ endsInBreak (b ∷ c ∷ d ∷ t)
     go ih true e = rw (no-break c d (break-bytes b c e .1)) at (ih ∙ sym (end-later b c d t))
     go ih false e = ih ∙ sym (end-later b c d t)
+
+-- The line break that is missing is the one that is added.
+pub closed-is : (t : List ℕ) → closed t ≡ t ++ missing t
+unfolding closed missing ends
+closed-is [] = refl
+closed-is (b ∷ t) = rw (← ends-break b t) (elim (ends (b ∷ t)) as (λ e. cond e (b ∷ t) ((b ∷ t) ++ 13 ∷ 10 ∷ []) ≡ (b ∷ t) ++ closing e) [ true ↦ sym (append-nil (b ∷ t)) | false ↦ refl ])
 
 -- ---- allowed bytes
 
@@ -128,19 +142,3 @@ clean-other t h =
 pub no-other : (t : List ℕ) → bytesRefusal t ≡ none → firstOther t ≡ none
 unfolding bytesRefusal
 no-other t h = map-eq-none-iff _ (firstOther t) .0 (all-passed (bytesQuestion t ∷ []) .0 h .0)
-
--- Question 22 passes: the text ends in a line break.
-pub closed : (t : List ℕ) → endRefusal t ≡ none → ends t ≡ true
-unfolding endRefusal ends
-closed [] h = refl
-closed (b ∷ t) h = ends-break b t ∙ ask-passed 22 (breakAt (b ∷ t) (length (b ∷ t) - 2)) (all-passed (endQuestion (b ∷ t) ∷ []) .0 h .0)
-
-pub closed-some : (t : List ℕ) → endRefusal t ≡ none → 0 < length t
-unfolding endRefusal firstOf orElse breakAt isBreak
-closed-some [] h = let z : _≡_ {A = ℕ} 0 1 = cc in omega arith
-closed-some (b ∷ t) h = omega arith
-
-pub ends-passes : (t : List ℕ) → 1 ≤ length t → ends t ≡ true → endRefusal t ≡ none
-unfolding endRefusal firstOf orElse
-ends-passes [] l h = let w : ⊥ = omega arith in absurd w
-ends-passes (b ∷ t) l h = rw (sym (ends-break b t) ∙ h)

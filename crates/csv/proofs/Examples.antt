@@ -1,16 +1,17 @@
--- Examples, computed: what loading says of small texts, and a table's text.
+-- Examples, computed: what loading says of small texts, a table's text, and a text there and back.
 -- Assumes nothing.
 use mathlib.Core.Path.{_≡_, refl}
 use mathlib.Core.List.{List, [], _∷_, map, flatMap, flatten}
 use mathlib.Core.Option.{Option, none, some, orElse}
 use Prim.Native.Nat.{ℕ}
-use Rattle.semigroups.specs.Lists.{range, elements, all, find, firstOf}
-use Rattle.semigroups.specs.Tables.{product, isElement}
+use Rattle.semigroups.specs.Lists.{at, range, elements, all, find, firstOf}
+use Rattle.semigroups.specs.Tables.{product, isElement, badCell}
 use Rattle.semigroups.specs.Questions.{Refusal, no}
 use Rattle.csv.specs.Decimals.{isDigit, value, valueFrom, numeral, numeralWithin}
-use Rattle.csv.specs.Records.{isBreak, onto, records, fields, rows, recordText, lineText, rowsText}
+use Rattle.csv.specs.Records.{isBreak, endsInBreak, closed, onto, records, fields, rows, recordText, lineText, rowsText}
 use Rattle.csv.specs.Tables.{fieldsOf, orderOf, cellsOf, rowFields, tableText}
-use Rattle.csv.specs.Questions.{breakAt, inBreak, isAllowed, firstOther, fieldsQuestions, isSquare, loadRefusal}
+use Rattle.csv.specs.Calls.{cellsAfter, textAfter}
+use Rattle.csv.specs.Questions.{breakAt, inBreak, isAllowed, firstOther, fieldsQuestions, isSquare, loadRefusal, saveRefusal}
 
 -- A text, the length of the cell buffer, and the refusal.
 pub record Example : Type 0 where
@@ -30,10 +31,15 @@ examples =
     ∷ record { text = 49 ∷ 10 ∷ []; room = 1; says = some (no 21 (1 ∷ [])) }
     ∷ record { text = 49 ∷ 13 ∷ 13 ∷ 10 ∷ []; room = 1; says = some (no 21 (1 ∷ [])) }
     ∷ record { text = 49 ∷ 59 ∷ 49 ∷ 13 ∷ 10 ∷ []; room = 1; says = some (no 21 (1 ∷ [])) }
-    -- No last line break.
-    ∷ record { text = 49 ∷ []; room = 1; says = some (no 22 []) }
-    -- A field with no byte: an empty record, and one behind a comma.
+    -- The same without the last line break; a last field with no byte; a CR at the end is no line break.
+    ∷ record { text = 49 ∷ 44 ∷ 50 ∷ 13 ∷ 10 ∷ 50 ∷ 44 ∷ 49 ∷ []; room = 4; says = none }
+    ∷ record { text = 49 ∷ []; room = 1; says = none }
+    ∷ record { text = 49 ∷ 44 ∷ 50 ∷ 13 ∷ 10 ∷ 50 ∷ 44 ∷ []; room = 4; says = some (no 23 []) }
+    ∷ record { text = 49 ∷ 44 ∷ []; room = 1; says = some (no 23 []) }
+    ∷ record { text = 49 ∷ 13 ∷ []; room = 1; says = some (no 21 (1 ∷ [])) }
+    -- A field with no byte: an empty record, alone and at the end, and one behind a comma.
     ∷ record { text = 13 ∷ 10 ∷ []; room = 1; says = some (no 23 []) }
+    ∷ record { text = 49 ∷ 13 ∷ 10 ∷ 13 ∷ 10 ∷ []; room = 1; says = some (no 23 []) }
     ∷ record { text = 49 ∷ 44 ∷ 13 ∷ 10 ∷ 49 ∷ 44 ∷ 49 ∷ 13 ∷ 10 ∷ []; room = 4; says = some (no 23 []) }
     -- One field: a leading 0, whatever its length; four bytes; above 120.
     ∷ record { text = 48 ∷ 13 ∷ 10 ∷ []; room = 1; says = some (no 24 []) }
@@ -74,6 +80,30 @@ swap-order = refl
 pub swap-cells : cellsOf swap-text ≡ 1 ∷ 2 ∷ 2 ∷ 1 ∷ []
 unfolding swap-text cellsOf fieldsOf flatten rows records fields onto isBreak value valueFrom
 swap-cells = refl
+
+-- Without its last line break it has the same order and cells.
+unfoldable pub swap-open : List ℕ
+swap-open = 49 ∷ 44 ∷ 50 ∷ 13 ∷ 10 ∷ 50 ∷ 44 ∷ 49 ∷ []
+
+pub open-order : orderOf swap-open ≡ 2
+unfolding swap-open orderOf rows records fields onto isBreak
+open-order = refl
+
+pub open-cells : cellsOf swap-open ≡ 1 ∷ 2 ∷ 2 ∷ 1 ∷ []
+unfolding swap-open cellsOf fieldsOf flatten rows records fields onto isBreak value valueFrom
+open-cells = refl
+
+-- Loaded and saved, both come back with the last line break.
+unfoldable pub resaved : List ℕ → List ℕ
+resaved t = textAfter 2 (cellsAfter t (0 ∷ 0 ∷ 0 ∷ 0 ∷ [])) (0 ∷ 0 ∷ 0 ∷ 0 ∷ 0 ∷ 0 ∷ 0 ∷ 0 ∷ 0 ∷ 0 ∷ [])
+
+pub swap-closed : map closed (swap-text ∷ swap-open ∷ []) ≡ swap-text ∷ swap-text ∷ []
+unfolding swap-text swap-open closed endsInBreak isBreak
+swap-closed = refl
+
+pub swap-resaved : map resaved (swap-text ∷ swap-open ∷ []) ≡ swap-text ∷ swap-text ∷ []
+unfolding resaved swap-text swap-open textAfter cellsAfter saveRefusal badCell loadRefusal firstOf orElse isElement firstOther find range isAllowed inBreak breakAt isBreak isDigit fieldsQuestions flatMap fieldsOf flatten rows records fields onto value valueFrom isSquare all orderOf cellsOf tableText rowFields product elements numeral numeralWithin rowsText lineText recordText at
+swap-resaved = refl
 
 -- Decimal numbers of one, two and three digits.
 pub numerals : map numeral (7 ∷ 40 ∷ 109 ∷ []) ≡ (55 ∷ []) ∷ (52 ∷ 48 ∷ []) ∷ (49 ∷ 48 ∷ 57 ∷ []) ∷ []

@@ -1,4 +1,4 @@
--- The field of digits at a place of a text, and questions 22 to 25.
+-- The field of digits at a place of a text, and questions 23 to 25.
 -- Assumes nothing.
 use mathlib.Core.Path.{_≡_, refl, ap, sym, _∙_}
 use mathlib.Core.Bool.{Bool, true, false, not, cond, and-false}
@@ -18,9 +18,8 @@ use Rattle.semigroups.specs.Questions.{no}
 use Rattle.semigroups.proofs.Lists.{is-element}
 use Rattle.semigroups.proofs.Questions.{ask-passed, all-passed, first-append, both-passed}
 use Rattle.csv.specs.Decimals.{isDigit, digits, value}
-use Rattle.csv.specs.Records.{isBreak}
 use Rattle.csv.specs.Cursor.{fieldEnd, commaBehind, nextField, fieldFollows}
-use Rattle.csv.specs.Questions.{breakAt, endRefusal, fieldQuestions, fieldRefusal, fieldsQuestions, fieldsRefusal}
+use Rattle.csv.specs.Questions.{fieldQuestions, fieldRefusal, fieldsQuestions, fieldsRefusal}
 use Rattle.csv.specs.Passing.{Number}
 
 -- ---- the digits at a place
@@ -112,29 +111,6 @@ bound-more v d k h g = rw add-one (omega (arith, pow-suc 10 k))
 
 pub bound-two : (k : ℕ) → k ≤ 2 → 10 ^ k ≤ 100
 bound-two k h = pow-le-pow-right {n = 10} (omega arith) h
-
--- ---- question 22
-
-pub end-short : (t : List ℕ) → length t < 2 → some (no 22 []) ≡ endRefusal t
-unfolding endRefusal firstOf orElse breakAt isBreak
-end-short t h =
-    let e : length t - 2 ≡ 0 = omega arith in
-    simp (e, List·getD-eq-default t 0 {n = 1} (omega arith), and-false)
-
-pub end-no-cr : (t : List ℕ) → (getD t (length t - 2) 0 ≡ 13 → ⊥) → some (no 22 []) ≡ endRefusal t
-unfolding endRefusal firstOf orElse breakAt isBreak
-end-no-cr t h = simp (ne-eqb _ _ h)
-
-last-place : (t : List ℕ) → 2 ≤ length t → suc (length t - 2) ≡ length t - 1
-last-place t h = omega arith
-
-pub end-no-lf : (t : List ℕ) → 2 ≤ length t → (getD t (length t - 1) 0 ≡ 10 → ⊥) → some (no 22 []) ≡ endRefusal t
-unfolding endRefusal firstOf orElse breakAt isBreak
-end-no-lf t l h = simp (last-place t l, ne-eqb _ _ h, and-false)
-
-pub end-passes : (t : List ℕ) → 2 ≤ length t → getD t (length t - 2) 0 ≡ 13 → getD t (length t - 1) 0 ≡ 10 → none ≡ endRefusal t
-unfolding endRefusal firstOf orElse breakAt isBreak
-end-passes t l h g = simp (last-place t l, h, g)
 
 -- ---- questions 23 to 25
 

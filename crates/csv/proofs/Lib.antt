@@ -14,5 +14,6 @@ pub mod Loading
 pub mod Tables
 pub mod Saving
 pub mod Accepted
+pub mod Closing
 pub mod RoundTrips
 pub mod Examples

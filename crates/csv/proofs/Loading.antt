@@ -13,11 +13,12 @@ use borrow.Author.Tests.{eqb-true, leb-true, le-leb, lt-leb}
 use Rattle.semigroups.specs.Lists.{all, firstOf, member}
 use Rattle.semigroups.specs.Tables.{isElement}
 use Rattle.semigroups.specs.Questions.{Question, ask, Refusal, no, firstNo}
+use Rattle.semigroups.proofs.Lists.{is-element}
 use Rattle.semigroups.proofs.Booleans.{and-left, and-right}
 use Rattle.semigroups.proofs.Questions.{ask-passed, all-passed, failed-before, passed-before, both-passed, Listed, listed, listed-append}
 use Rattle.csv.specs.Records.{rows}
 use Rattle.csv.specs.Tables.{fieldsOf, orderOf, cellsOf}
-use Rattle.csv.specs.Questions.{longest, bytesQuestion, bytesRefusal, endQuestion, endRefusal, fieldQuestions, fieldsQuestions, fieldsRefusal, isSquare, squareQuestion, gridQuestions, gridRefusal, sizeQuestions, loadQuestions, loadRefusal}
+use Rattle.csv.specs.Questions.{longest, bytesQuestion, bytesRefusal, fieldQuestions, fieldsQuestions, fieldsRefusal, isSquare, squareQuestion, gridQuestions, gridRefusal, sizeQuestions, loadQuestions, loadRefusal}
 use Rattle.semigroups.specs.Calls.{refused, gives, overwritten}
 use Rattle.csv.specs.Calls.{loadAnswer, cellsAfter}
 
@@ -69,48 +70,39 @@ module _ (t : List ℕ) (room : ℕ) where
   too-long h = simp (lt-leb _ _ h, and-false)
 
   module _ (one : 1 ≤ length t) (most : length t ≤ 57720) where
-    bytes-left : loadRefusal t room ≡ firstNo (bytesQuestion t ∷ endQuestion t ∷ from-fields)
+    bytes-left : loadRefusal t room ≡ firstNo (bytesQuestion t ∷ from-fields)
     unfolding loadRefusal firstOf orElse isElement
     bytes-left = rw (le-leb 1 (length t) one, le-leb (length t) longest most)
 
     pub bad-byte : {r : Refusal} → bytesRefusal t ≡ some r → loadRefusal t room ≡ some r
     unfolding bytesRefusal
-    bad-byte h = bytes-left ∙ failed-before (bytesQuestion t ∷ []) (endQuestion t ∷ from-fields) h
+    bad-byte h = bytes-left ∙ failed-before (bytesQuestion t ∷ []) from-fields h
 
     module _ (bytes : bytesRefusal t ≡ none) where
-      end-left : loadRefusal t room ≡ firstNo (endQuestion t ∷ from-fields)
+      fields-left : loadRefusal t room ≡ firstNo from-fields
       unfolding bytesRefusal
-      end-left = bytes-left ∙ passed-before (bytesQuestion t ∷ []) (endQuestion t ∷ from-fields) bytes
+      fields-left = bytes-left ∙ passed-before (bytesQuestion t ∷ []) from-fields bytes
 
-      pub bad-end : {r : Refusal} → endRefusal t ≡ some r → loadRefusal t room ≡ some r
-      unfolding endRefusal
-      bad-end h = end-left ∙ failed-before (endQuestion t ∷ []) from-fields h
+      pub bad-grid : {n : ℕ} {r : Refusal} → n ≡ orderOf t → gridRefusal n t ≡ some r → loadRefusal t room ≡ some r
+      unfolding gridRefusal
+      bad-grid e h = fields-left ∙ failed-before (gridQuestions (orderOf t) t) (sizeQuestions t room) (rw e at h)
 
-      module _ (end : endRefusal t ≡ none) where
-        fields-left : loadRefusal t room ≡ firstNo from-fields
-        unfolding endRefusal
-        fields-left = end-left ∙ passed-before (endQuestion t ∷ []) from-fields end
-
-        pub bad-grid : {n : ℕ} {r : Refusal} → n ≡ orderOf t → gridRefusal n t ≡ some r → loadRefusal t room ≡ some r
+      module _ {n : ℕ} (e : n ≡ orderOf t) (grid : gridRefusal n t ≡ none) where
+        left : loadRefusal t room ≡ firstNo (ask 1 (leb n 120) ∷ ask 27 (leb (n * n) room) ∷ [])
         unfolding gridRefusal
-        bad-grid e h = fields-left ∙ failed-before (gridQuestions (orderOf t) t) (sizeQuestions t room) (rw e at h)
+        left = fields-left ∙ passed-before (gridQuestions (orderOf t) t) (sizeQuestions t room) (rw e at grid) ∙ rw e
 
-        module _ {n : ℕ} (e : n ≡ orderOf t) (grid : gridRefusal n t ≡ none) where
-          left : loadRefusal t room ≡ firstNo (ask 1 (leb n 120) ∷ ask 27 (leb (n * n) room) ∷ [])
-          unfolding gridRefusal
-          left = fields-left ∙ passed-before (gridQuestions (orderOf t) t) (sizeQuestions t room) (rw e at grid) ∙ rw e
+        pub bad-order : 120 < n → loadRefusal t room ≡ some (no 1 [])
+        unfolding firstOf orElse
+        bad-order h = left ∙ simp (lt-leb _ _ h)
 
-          pub bad-order : 120 < n → loadRefusal t room ≡ some (no 1 [])
-          unfolding firstOf orElse
-          bad-order h = left ∙ simp (lt-leb _ _ h)
+        pub bad-room : n ≤ 120 → room < n * n → loadRefusal t room ≡ some (no 27 [])
+        unfolding firstOf orElse
+        bad-room h g = left ∙ simp (le-leb _ _ h, lt-leb _ _ g)
 
-          pub bad-room : n ≤ 120 → room < n * n → loadRefusal t room ≡ some (no 27 [])
-          unfolding firstOf orElse
-          bad-room h g = left ∙ simp (le-leb _ _ h, lt-leb _ _ g)
-
-          pub loads : n ≤ 120 → n * n ≤ room → loadRefusal t room ≡ none
-          unfolding firstOf orElse
-          loads h g = left ∙ simp (le-leb _ _ h, le-leb _ _ g)
+        pub loads : n ≤ 120 → n * n ≤ room → loadRefusal t room ≡ none
+        unfolding firstOf orElse
+        loads h g = left ∙ simp (le-leb _ _ h, le-leb _ _ g)
 
 -- ---- the call
 
@@ -126,22 +118,23 @@ module _ (t cells : List ℕ) where
 -- ---- a text that passes
 
 pub record Loadable (t : List ℕ) (size : ℕ) : Type 0 where
+  pub some-byte : 1 ≤ length t
   pub bytes : bytesRefusal t ≡ none
-  pub end : endRefusal t ≡ none
   pub grid : Square (orderOf t) t
   pub order : orderOf t ≤ 120
   pub room : orderOf t * orderOf t ≤ size
 
 pub load-passed : (t : List ℕ) (room : ℕ) → loadRefusal t room ≡ none → Loadable t room
-unfolding loadRefusal bytesRefusal endRefusal gridRefusal
+unfolding loadRefusal bytesRefusal gridRefusal
 load-passed t room h =
-    let p = both-passed (ask 20 (isElement longest (length t)) ∷ bytesQuestion t ∷ endQuestion t ∷ []) (from-fields t room) h in
+    let first = ask 20 (isElement longest (length t)) ∷ bytesQuestion t ∷ [] in
+    let p = both-passed first (from-fields t room) h in
     let q = both-passed (gridQuestions (orderOf t) t) (sizeQuestions t room) (p .1) in
-    let begin = all-passed (ask 20 (isElement longest (length t)) ∷ bytesQuestion t ∷ endQuestion t ∷ []) .0 (p .0) in
+    let begin = all-passed first .0 (p .0) in
     let end = all-passed (sizeQuestions t room) .0 (q .1) in
     record {
-      bytes = all-passed (bytesQuestion t ∷ []) .1 (begin .1 .0, tt);
-      end = all-passed (endQuestion t ∷ []) .1 (begin .1 .1);
+      some-byte = is-element longest (length t) (ask-passed 20 (isElement longest (length t)) (begin .0)) .0;
+      bytes = all-passed (bytesQuestion t ∷ []) .1 (begin .1);
       grid = grid-passed (orderOf t) t (q .0);
       order = leb-true (orderOf t) 120 (ask-passed 1 (leb (orderOf t) 120) (end .0));
       room = leb-true (orderOf t * orderOf t) room (ask-passed 27 (leb (orderOf t * orderOf t) room) (end .1 .0));
@@ -155,10 +148,10 @@ fields-listed ns h [] = listed ns [] (unfold all in refl)
 fields-listed ns h (f ∷ fs) = listed-append ns (fieldQuestions f) (fieldsQuestions fs) (listed ns (fieldQuestions f) h) (fields-listed ns h fs)
 
 -- 20 to 26, and those of the two questions behind them.
-pub load-listed : (ns : List ℕ) → all (λ k. member k ns) (20 ∷ 21 ∷ 22 ∷ []) ≡ true → all (λ k. member k ns) (24 ∷ 23 ∷ 25 ∷ []) ≡ true → all (λ k. member k ns) (26 ∷ []) ≡ true
+pub load-listed : (ns : List ℕ) → all (λ k. member k ns) (20 ∷ 21 ∷ []) ≡ true → all (λ k. member k ns) (24 ∷ 23 ∷ 25 ∷ []) ≡ true → all (λ k. member k ns) (26 ∷ []) ≡ true
     → (t : List ℕ) (room : ℕ) → Listed ns (sizeQuestions t room) → Listed ns (loadQuestions t room)
 load-listed ns a b c t room h =
-    let begin = ask 20 (isElement longest (length t)) ∷ bytesQuestion t ∷ endQuestion t ∷ [] in
+    let begin = ask 20 (isElement longest (length t)) ∷ bytesQuestion t ∷ [] in
     listed-append ns begin (from-fields t room) (listed ns begin a)
     (listed-append ns (gridQuestions (orderOf t) t) (sizeQuestions t room)
     (listed-append ns (fieldsQuestions (fieldsOf t)) (squareQuestion (orderOf t) t ∷ []) (fields-listed ns b (fieldsOf t)) (listed ns (squareQuestion (orderOf t) t ∷ []) c)) h)

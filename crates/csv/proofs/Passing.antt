@@ -4,23 +4,22 @@ use mathlib.Core.Bool.{true, _||_, not, or-true}
 use mathlib.Core.Logic.{⊎-elim, _↔_}
 use mathlib.Core.List.{List, [], _∷_, _++_, List·Memᴰ, List·Memᴰ·head, List·Memᴰ·tail, List·Memᴰ·not-nil, List·Memᴰ·cases-cons}
 use mathlib.Core.Option.{none, orElse, map-eq-none-iff}
-use Prim.Native.Nat.{ℕ, zero, suc, _+_, _-_, _*_, _≤_, _<_}
+use Prim.Native.Nat.{ℕ, zero, suc, _+_, _-_, _*_, _<_}
 use native.Mathlib.Omega.{arith}
 use lib.Dec.{eqb, leb}
-use lib.ListN.{length, getD, take, length-append, take-append-drop, drop-of-length-le, List·getD-eq-default}
-use lib.Seq.{drop-cons, getD-append-seam}
+use lib.ListN.{length, getD}
 use borrow.Author.Tests.{eqb-true, eq-eqb, not-false}
 use Rattle.semigroups.specs.Lists.{range, all}
 use Rattle.semigroups.specs.Tables.{isElement}
 use Rattle.semigroups.specs.Questions.{ask, firstNo, cellsQuestions, cellsRefusal}
-use Rattle.semigroups.proofs.Booleans.{both, and-left, and-right, or-holds, not-of-true, at-most-or-above}
+use Rattle.semigroups.proofs.Booleans.{both, and-left, and-right, or-holds, not-of-true}
 use Rattle.semigroups.proofs.Lists.{all-at, all-of, mem-range, range-mem, find-none, none-find}
 use Rattle.semigroups.proofs.Questions.{all-passed}
 use Rattle.semigroups.proofs.Passing.{asked, element-asked, room-asked, joined, cells-pass}
 use Rattle.csv.specs.Decimals.{isDigit}
 use Rattle.csv.specs.Records.{isBreak, rows}
 use Rattle.csv.specs.Tables.{fieldsOf, orderOf, tableText}
-use Rattle.csv.specs.Questions.{longest, breakAt, inBreak, isAllowed, firstOther, bytesQuestion, endQuestion, fieldsQuestions, fieldsRefusal, isSquare, squareQuestion, gridQuestions, sizeQuestions, loadRefusal, saveRefusal}
+use Rattle.csv.specs.Questions.{longest, breakAt, inBreak, isAllowed, firstOther, bytesQuestion, fieldsQuestions, fieldsRefusal, isSquare, squareQuestion, gridQuestions, sizeQuestions, loadRefusal, saveRefusal}
 use Rattle.csv.specs.Passing.{AllowedByte, a-digit, a-comma, a-cr, an-lf, Number, LoadPasses, SavePasses}
 use Rattle.csv.proofs.Records.{break-bytes}
 use Rattle.csv.proofs.Rows.{digit-range}
@@ -57,7 +56,7 @@ unfolding inBreak
 begins t zero e = e
 begins t (suc p) e = simp (e, or-true)
 
-allowed-is : (t : List ℕ) (p : ℕ) → AllowedByte t p → isAllowed t p ≡ true
+pub allowed-is : (t : List ℕ) (p : ℕ) → AllowedByte t p → isAllowed t p ≡ true
 unfolding isAllowed inBreak
 allowed-is t p (a-digit lo hi) = rw (is-digit (getD t p 0) lo hi)
 allowed-is t p (a-comma e) = simp (eq-eqb (getD t p 0) 44 e, or-true)
@@ -78,38 +77,6 @@ bytes-asked t = (to, from)
     from h =
         let n = none-find (λ p. not (isAllowed t p)) (range 0 (length t)) (λ p m. let l = mem-range 0 (length t) p m in not-of-true (isAllowed t p) (allowed-is t p (h p (omega arith)))) in
         all-passed (bytesQuestion t ∷ []) .1 (map-eq-none-iff (λ p. p ∷ []) (firstOther t) .1 n, tt)
-
--- ---- 22
-
-last-byte : (front : List ℕ) → getD (front ++ 13 ∷ 10 ∷ []) (suc (length front)) 0 ≡ 10
-last-byte [] = refl
-last-byte (b ∷ front) = last-byte front
-
-end-asked : (t : List ℕ) → (firstNo (endQuestion t ∷ []) ≡ none) ↔ ((front : List ℕ) × (t ≡ front ++ 13 ∷ 10 ∷ []))
-end-asked t = asked 22 (breakAt t (length t - 2)) to from
-  where
-    two-bytes : getD t (suc (length t - 2)) 0 ≡ 10 → 2 ≤ length t
-    two-bytes e =
-        ⊎-elim (λ (h : 2 ≤ length t). h) (λ (h : length t < 2). absurd (let d = List·getD-eq-default t 0 {n = suc (length t - 2)} (omega arith) in let z : ⊥ = omega arith in z)) (at-most-or-above 2 (length t))
-
-    to : breakAt t (length t - 2) ≡ true → (front : List ℕ) × (t ≡ front ++ 13 ∷ 10 ∷ [])
-    to e =
-        let k = length t - 2 in
-        let b = break-at t k e in
-        let l = two-bytes (b .1) in (
-          take k t,
-          sym (take-append-drop k t) ∙ ap (λ (r : List ℕ). take k t ++ r)
-              (drop-cons t k 0 (omega arith) ∙ rw (b .0, drop-cons t (suc k) 0 (omega arith), b .1, drop-of-length-le t {i = suc (suc k)} (omega arith))),
-        )
-
-    from : (front : List ℕ) × (t ≡ front ++ 13 ∷ 10 ∷ []) → breakAt t (length t - 2) ≡ true
-    from h =
-        let front = h .0 in
-        let long : length t ≡ length front + 2 = ap length (h .1) ∙ length-append front (13 ∷ 10 ∷ []) in
-        let k : length t - 2 ≡ length front = omega arith in
-        let at : (i : ℕ) → getD t i 0 ≡ getD (front ++ 13 ∷ 10 ∷ []) i 0 = (λ i. ap (λ (l : List ℕ). getD l i 0) (h .1)) in
-        at-break t (length t - 2) (ap (λ (i : ℕ). getD t i 0) k ∙ at (length front) ∙ getD-append-seam front 13 (10 ∷ []) 0)
-        (ap (λ (i : ℕ). getD t (suc i) 0) k ∙ at (suc (length front)) ∙ last-byte front)
 
 -- ---- 23 to 26
 
@@ -143,22 +110,20 @@ load-passes t room =
     let n = orderOf t in
     let grid = joined (fieldsQuestions (fieldsOf t)) (squareQuestion n t ∷ []) (fields-asked (fieldsOf t)) (square-asked n t) in
     let from-fields = joined (gridQuestions n t) (sizeQuestions t room) grid (joined (ask 1 (leb n 120) ∷ []) (ask 27 (leb (n * n) room) ∷ []) (room-asked 1 n 120) (room-asked 27 (n * n) room)) in
-    let from-end = joined (endQuestion t ∷ []) (gridQuestions n t ++ sizeQuestions t room) (end-asked t) from-fields in
-    let from-bytes = joined (bytesQuestion t ∷ []) (endQuestion t ∷ (gridQuestions n t ++ sizeQuestions t room)) (bytes-asked t) from-end in
-    let w = joined (ask 20 (isElement longest (length t)) ∷ []) (bytesQuestion t ∷ endQuestion t ∷ (gridQuestions n t ++ sizeQuestions t room)) (element-asked 20 longest (length t)) from-bytes in (
+    let from-bytes = joined (bytesQuestion t ∷ []) (gridQuestions n t ++ sizeQuestions t room) (bytes-asked t) from-fields in
+    let w = joined (ask 20 (isElement longest (length t)) ∷ []) (bytesQuestion t ∷ (gridQuestions n t ++ sizeQuestions t room)) (element-asked 20 longest (length t)) from-bytes in (
       (λ e.
           let h = w .0 e in
           record {
             size = h .0;
             bytes = h .1 .0;
-            end = h .1 .1 .0;
-            numbers = h .1 .1 .1 .0 .0;
-            as-many-records = h .1 .1 .1 .0 .1 .0;
-            as-many-fields = h .1 .1 .1 .0 .1 .1;
-            order = h .1 .1 .1 .1 .0;
-            cells-room = h .1 .1 .1 .1 .1;
+            numbers = h .1 .1 .0 .0;
+            as-many-records = h .1 .1 .0 .1 .0;
+            as-many-fields = h .1 .1 .0 .1 .1;
+            order = h .1 .1 .1 .0;
+            cells-room = h .1 .1 .1 .1;
           }),
-      λ h. w .1 (h .size, (h .bytes, (h .end, ((h .numbers, (h .as-many-records, h .as-many-fields)), (h .order, h .cells-room))))),
+      λ h. w .1 (h .size, (h .bytes, ((h .numbers, (h .as-many-records, h .as-many-fields)), (h .order, h .cells-room)))),
     )
 
 pub save-passes : (n : ℕ) (cells : List ℕ) (room : ℕ) → (saveRefusal n cells room ≡ none) ↔ SavePasses n cells room

@@ -6,16 +6,15 @@ use mathlib.Core.Bool.{Bool, true, false, cond}
 use mathlib.Core.List.{List, [], _∷_, _++_, flatMap, flatten, append-assoc, append-nil}
 use mathlib.Core.Option.{none}
 use Prim.Native.Nat.{ℕ, zero, suc, _+_, _-_, _≤_, _<_}
-use native.Mathlib.Numerals.{add-one}
 use native.Mathlib.Omega.{arith}
 use lib.Dec.{eqb, ltb}
 use lib.ListN.{length, getD, drop, length-append, length-drop, List·getD-append}
 use lib.Seq.{drop-drop, drop-append-le, drop-append-seam, getD-drop, getD-append-seam}
 use borrow.Author.Tests.{lt-ltb, le-ltb, ltb-true, ltb-false, eqb-true, eq-eqb}
 use Rattle.csv.specs.Decimals.{isDigit, digits}
-use Rattle.csv.specs.Records.{isBreak, rows, recordText, rowsText}
+use Rattle.csv.specs.Records.{isBreak, endsInBreak, rows, recordText, rowsText}
 use Rattle.csv.specs.Cursor.{fieldEnd, commaBehind, nextField, fieldFollows}
-use Rattle.csv.specs.Questions.{breakAt, bytesRefusal}
+use Rattle.csv.specs.Questions.{bytesRefusal}
 use Rattle.csv.proofs.Records.{ends, closing, missing}
 use Rattle.csv.proofs.Bytes.{other-clean, no-other, ends-break}
 use Rattle.csv.proofs.Rows.{Digits, Rows, rowsText-cons, rowsText-rows, clean-rows, rows-some}
@@ -68,12 +67,12 @@ comma-open (b ∷ t) e zero = refl
 comma-open (b ∷ t) e (suc i) = comma-open t e i
 
 ends-at : (t : List ℕ) (i : ℕ) → i + 2 ≡ length t → getD t i 0 ≡ 13 → getD t (i + 1) 0 ≡ 10 → ends t ≡ true
-unfolding breakAt isBreak
+unfolding endsInBreak isBreak
 ends-at [] i h a b = let w : ⊥ = omega arith in absurd w
 ends-at (x ∷ t) i h a b =
     let k : suc (length t) - 2 ≡ i = omega arith in
-    let d : getD (x ∷ t) (suc i) 0 ≡ 10 = rw add-one at b in
-    ends-break x t ∙ rw k (simp (a, d))
+    let m : suc (length t) - 1 ≡ i + 1 = omega arith in
+    ends-break x t ∙ rw (k, m) (simp (a, b))
 
 -- Behind a line break with a row behind it, bytes of the text itself are left.
 bytes-left : (t : List ℕ) (end k : ℕ) → getD (t ++ missing t) end 0 ≡ 13 → getD (t ++ missing t) (end + 1) 0 ≡ 10

@@ -121,7 +121,3 @@ linesText-records (b ∷ c ∷ t) = go (linesText-records t) (linesText-records 
         → linesText (cond e ([] ∷ records t) (onto b (records (c ∷ t)))) ≡ b ∷ c ∷ (t ++ closing (cond e (ends t) (ends (c ∷ t))))
     go closed opened true e = let p = break-bytes b c e in cc
     go closed opened false e = onto-lines b (records (c ∷ t)) (records-cons c t) ∙ ap (λ (l : List ℕ). b ∷ l) opened
-
-pub missing-none : (t : List ℕ) → ends t ≡ true → missing t ≡ []
-unfolding missing
-missing-none t h = rw h

@@ -1,5 +1,5 @@
 -- Both round trips of demand 2, stated at the calls: a table saved loads as the same order and cells; an accepted text whose entries lie within
--- its order saves to the same bytes; so loading and saving again, however often, changes no byte.
+-- its order saves to the same bytes, with its last line break; so loading and saving again, however often, changes no byte.
 -- Assumes nothing.
 use mathlib.Core.Path.{_≡_, refl, ap, sym, _∙_}
 use mathlib.Core.List.{List}
@@ -12,12 +12,13 @@ use Rattle.semigroups.specs.Tables.{Filled}
 use Rattle.semigroups.specs.Questions.{Refusal}
 use Rattle.semigroups.proofs.Tables.{no-cells-refusal}
 use Rattle.semigroups.proofs.Calls.{gives-ne-refused}
+use Rattle.csv.specs.Records.{closed}
 use Rattle.csv.specs.Tables.{orderOf, cellsOf, tableText}
 use Rattle.csv.specs.Questions.{loadRefusal}
 use Rattle.semigroups.specs.Calls.{gives, givenUnless, overwritten}
 use Rattle.csv.specs.Passing.{LoadPasses, SavePasses}
 use Rattle.csv.specs.Calls.{loadAnswer, cellsAfter, saveAnswer, textAfter}
-use Rattle.csv.specs.Rounds.{SavedLoads, LoadedSaves, Buffers, given, textHeld, saved, loadedOrder, loadedCells, round, rounds, Unchanged}
+use Rattle.csv.specs.Rounds.{SavedLoads, LoadedSaves, Buffers, given, textHeld, saved, loadedOrder, loadedCells, round, rounds, Unchanged, Closed}
 use Rattle.csv.proofs.Writing.{overwritten-length, overwritten-twice}
 use Rattle.csv.proofs.Passing.{load-passes}
 use Rattle.csv.proofs.Loading.{Loadable, load-passed, load-given, cells-length}
@@ -57,7 +58,7 @@ saved-loads n cells text buffer p r =
       cells-same = rw written (back .same);
     }
 
--- ---- an accepted text whose entries lie within its order saves to the same bytes
+-- ---- an accepted text whose entries lie within its order saves to the same bytes, closed
 
 -- What loading gives where it is not refused.
 pub record Loads (t buffer : List ℕ) (n : ℕ) : Type 0 where
@@ -80,7 +81,7 @@ loads-given t buffer n h =
       cells = ap (take (n * n)) after ∙ take-at (cellsOf t) (drop (length (cellsOf t)) buffer) (n * n) size;
     }
 
-pub loaded-saves : (t buffer text : List ℕ) → LoadPasses t (length buffer) → ((k : ℕ) → k < length (cellsOf t) → getD (cellsOf t) k 0 ≤ orderOf t) → length t ≤ length text
+pub loaded-saves : (t buffer text : List ℕ) → LoadPasses t (length buffer) → ((k : ℕ) → k < length (cellsOf t) → getD (cellsOf t) k 0 ≤ orderOf t) → length (closed t) ≤ length text
     → LoadedSaves t buffer text
 loaded-saves t buffer text p within r =
     let n = orderOf t in
@@ -93,7 +94,7 @@ loaded-saves t buffer text p within r =
       order = n;
       loaded = given;
       size = rw (l .cells) (sym (g .0) ∙ ap (λ (s : List ℕ). gives (length s)) back);
-      text-same = rw (l .cells) (sym (g .1) ∙ ap (λ (s : List ℕ). overwritten s text) back);
+      text-closed = rw (l .cells) (sym (g .1) ∙ ap (λ (s : List ℕ). overwritten s text) back);
     }
 
 -- ---- again and again
@@ -104,58 +105,90 @@ record Settled (n : ℕ) (cells before : List ℕ) (d : Buffers) : Type 0 where
   pub size : d .size ≡ length (tableText n cells)
   pub room : n * n ≤ length (d .cells)
 
-module _ (n : ℕ) (cells before : List ℕ) (f : Filled n cells) (fits : length (tableText n cells) ≤ length before) where
+module _ (n : ℕ) (cells : List ℕ) (f : Filled n cells) where
   -- Saving over any buffer that holds the text leaves it as it is.
   save-over : (b : List ℕ) → length (tableText n cells) ≤ length b
       → (given (saveAnswer n cells b) ≡ length (tableText n cells)) × (textAfter n cells b ≡ overwritten (tableText n cells) b)
   save-over b r = let g = save-given n cells b (no-cells-refusal n cells f) r in (ap given (sym (g .0)), sym (g .1))
 
-  module _ (d : Buffers) (s : Settled n cells before d) where
-    text-held : textHeld d ≡ tableText n cells
-    text-held =
-        ap (take (d .size)) (s .text)
-        ∙ take-at (tableText n cells) (drop (length (tableText n cells)) before) (d .size) (sym (s .size))
-
-    reloads : Reloads n cells (textHeld d) (d .cells)
-    reloads = rw text-held (table-reloads n cells (d .cells) f (s .room))
-
+  -- A round from a text that loads as the table.
+  module _ (d : Buffers) (back : Reloads n cells (textHeld d) (d .cells)) where
     order-is : loadedOrder d ≡ n
-    order-is = ap given (reloads .order)
+    order-is = ap given (back .order)
 
     cells-are : loadedCells d ≡ cells
     cells-are =
         ap (λ (k : ℕ). take (k * k) (cellsAfter (textHeld d) (d .cells))) order-is
-        ∙ ap (take (n * n)) (reloads .same)
+        ∙ ap (take (n * n)) (back .same)
         ∙ take-at cells (drop (length cells) (d .cells)) (n * n) (f .size)
 
-    settled-round : Settled n cells before (round d)
+    round-settles : n * n ≤ length (d .cells) → length (tableText n cells) ≤ length (d .text) → Settled n cells (d .text) (round d)
     unfolding round saved
-    settled-round =
-        let long = overwritten-length (tableText n cells) before fits in
-        let again = save-over (overwritten (tableText n cells) before) (omega arith) in
-        let room = s .room in
+    round-settles room fits =
+        let once = save-over (d .text) fits in
         let size = f .size in
         record {
-          text = rw (cells-are, order-is, s .text) (again .1 ∙ overwritten-twice (tableText n cells) before);
-          size = rw (cells-are, order-is, s .text) (again .0);
-          room = rw (reloads .same, overwritten-length cells (d .cells) (omega arith)) room;
+          text = rw (cells-are, order-is) (once .1);
+          size = rw (cells-are, order-is) (once .0);
+          room = rw (back .same, overwritten-length cells (d .cells) (omega arith)) room;
         }
 
-    unchanged : (first : Buffers) → Settled n cells before first → Unchanged n cells first d
-    unchanged first t =
-        record { text = s .text ∙ sym (t .text); size = s .size ∙ sym (t .size); order = reloads .order; cells-same = cells-are }
+  module _ (before : List ℕ) (fits : length (tableText n cells) ≤ length before) where
+    module _ (d : Buffers) (s : Settled n cells before d) where
+      reloads : Reloads n cells (textHeld d) (d .cells)
+      reloads =
+          let text-held : textHeld d ≡ tableText n cells =
+          ap (take (d .size)) (s .text) ∙ take-at (tableText n cells) (drop (length (tableText n cells)) before) (d .size) (sym (s .size)) in
+          rw text-held (table-reloads n cells (d .cells) f (s .room))
 
-  settled-rounds : (d : Buffers) → Settled n cells before d → (k : ℕ) → Settled n cells before (rounds k d)
-  unfolding rounds
-  settled-rounds d s zero = s
-  settled-rounds d s (suc k) = settled-round (rounds k d) (settled-rounds d s k)
+      settled-round : Settled n cells before (round d)
+      settled-round =
+          let long = overwritten-length (tableText n cells) before fits in
+          let next = round-settles d reloads (s .room) (rw (s .text) (omega arith)) in
+          record {
+            text = next .text ∙ ap (overwritten (tableText n cells)) (s .text) ∙ overwritten-twice (tableText n cells) before;
+            size = next .size;
+            room = next .room;
+          }
+
+      unchanged : (first : Buffers) → Settled n cells before first → Unchanged n cells first d
+      unchanged first t =
+          record { text = s .text ∙ sym (t .text); size = s .size ∙ sym (t .size); order = reloads .order; cells-same = cells-are d reloads }
+
+    settled-rounds : (d : Buffers) → Settled n cells before d → (k : ℕ) → Settled n cells before (rounds k d)
+    unfolding rounds
+    settled-rounds d s zero = s
+    settled-rounds d s (suc k) = settled-round (rounds k d) (settled-rounds d s k)
 
 -- Saving, loading and saving again changes no byte, however often.
 pub resaved-same : (n : ℕ) (cells : List ℕ) (b : Buffers) → SavePasses n cells (length (b .text)) → n * n ≤ length (b .cells)
     → (r : ℕ) → Unchanged n cells (saved n cells b) (rounds r (saved n cells b))
 unfolding saved
 resaved-same n cells b p room r =
-    let g = save-over n cells (b .text) (p .table) (p .text-room) (b .text) (p .text-room) in
+    let f = p .table in
+    let g = save-over n cells f (b .text) (p .text-room) in
     let first : Settled n cells (b .text) (saved n cells b) = record { text = g .1; size = g .0; room = room } in
-    unchanged n cells (b .text) (p .table) (p .text-room) (rounds r (saved n cells b)) (settled-rounds n cells (b .text) (p .table) (p .text-room) (saved n cells b) first r)
+    unchanged n cells f (b .text) (p .text-room) (rounds r (saved n cells b)) (settled-rounds n cells f (b .text) (p .text-room) (saved n cells b) first r)
     (saved n cells b) first
+
+-- One round more is a round first.
+rounds-first : (r : ℕ) (b : Buffers) → rounds (suc r) b ≡ rounds r (round b)
+unfolding rounds
+rounds-first zero b = refl
+rounds-first (suc r) b = ap round (rounds-first r b)
+
+-- Loading and saving an accepted text whose entries lie within its order closes it; doing so again, however often, changes no further byte.
+pub rounds-close : (b : Buffers) → LoadPasses (textHeld b) (length (b .cells))
+    → ((k : ℕ) → k < length (cellsOf (textHeld b)) → getD (cellsOf (textHeld b)) k 0 ≤ orderOf (textHeld b)) → length (closed (textHeld b)) ≤ length (b .text)
+    → (r : ℕ) → Closed (textHeld b) b (rounds (suc r) b)
+rounds-close b p within room r =
+    let t = textHeld b in
+    let n = orderOf t in
+    let order = sym (load-given t (b .cells) (load-passes t (length (b .cells)) .1 p) .0) in
+    let l = loads-given t (b .cells) n order in
+    let back = text-back t (length (b .cells)) (l .passes) in
+    let f = text-filled t (length (b .cells)) (l .passes) within in
+    let fits : length (tableText n (cellsOf t)) ≤ length (b .text) = rw back room in
+    let first = round-settles n (cellsOf t) f b (record { order = order; same = l .after }) (p .cells-room) fits in
+    let s = settled-rounds n (cellsOf t) f (b .text) fits (round b) first r in
+    rw rounds-first (record { text = s .text ∙ ap (λ (u : List ℕ). overwritten u (b .text)) back; size = s .size ∙ ap length back })

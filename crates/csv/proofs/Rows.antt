@@ -13,7 +13,7 @@ use Rattle.semigroups.proofs.Booleans.{and-left, and-right}
 use Rattle.csv.specs.Decimals.{isDigit}
 use Rattle.csv.specs.Records.{isBreak, onto, records, fields, rows, recordText, lineText, rowsText}
 use Rattle.csv.proofs.Every.{Every, every-append, every-map}
-use Rattle.csv.proofs.Records.{Cons, Plain, Whole, fields-cons, recordText-fields, fields-recordText, records-closed, linesText, linesText-records, ends, missing}
+use Rattle.csv.proofs.Records.{Cons, Plain, Whole, fields-cons, recordText-fields, fields-recordText, records-closed, linesText, linesText-records, missing}
 use Rattle.csv.proofs.Bytes.{inField, clean}
 
 -- ---- digits
@@ -86,7 +86,7 @@ rows-rowsText (r ∷ rs) h =
     ∙ ap (map fields) (records-closed (recordText r) (rowsText rs) w)
     ∙ cc (fields-row r (h .0), rows-rowsText rs (h .1))
 
--- ---- such a text passes 21 and 22
+-- ---- such a text passes 21
 
 clean-closed : (r t : List ℕ) → InRecord r → clean (r ++ 13 ∷ 10 ∷ t) ≡ clean t
 unfolding clean isBreak
@@ -94,21 +94,10 @@ clean-closed [] t h = refl
 clean-closed (b ∷ []) t h = rw (in-not-cr b (h .0), h .0)
 clean-closed (b ∷ c ∷ r) t h = rw (in-not-cr b (h .0), h .0, clean-closed (c ∷ r) t (h .1))
 
-ends-closed : (r t : List ℕ) → InRecord r → ends (r ++ 13 ∷ 10 ∷ t) ≡ ends t
-unfolding ends isBreak
-ends-closed [] t h = refl
-ends-closed (b ∷ []) t h = rw (in-not-cr b (h .0))
-ends-closed (b ∷ c ∷ r) t h = rw (in-not-cr b (h .0), ends-closed (c ∷ r) t (h .1))
-
 pub rowsText-clean : (rs : List (List (List ℕ))) → Rows rs → clean (rowsText rs) ≡ true
 unfolding rowsText flatMap clean
 rowsText-clean [] h = refl
 rowsText-clean (r ∷ rs) h = ap clean (rowsText-cons r rs) ∙ clean-closed (recordText r) (rowsText rs) (record-in r (h .0)) ∙ rowsText-clean rs (h .1)
-
-pub rowsText-ends : (rs : List (List (List ℕ))) → Rows rs → ends (rowsText rs) ≡ true
-unfolding rowsText flatMap ends
-rowsText-ends [] h = refl
-rowsText-ends (r ∷ rs) h = ap ends (rowsText-cons r rs) ∙ ends-closed (recordText r) (rowsText rs) (record-in r (h .0)) ∙ rowsText-ends rs (h .1)
 
 -- ---- a text to its rows and back
 

@@ -1,7 +1,7 @@
 -- What passes the questions about loading and saving a text, in plain words (01, "The questions"): a call is not refused exactly there.
 -- Assumes nothing.
 use mathlib.Core.Path.{_≡_}
-use mathlib.Core.List.{List, [], _∷_, _++_, List·Memᴰ}
+use mathlib.Core.List.{List, List·Memᴰ}
 use Prim.Native.Nat.{ℕ, suc, _*_, _≤_, _<_}
 use lib.ListN.{length, getD}
 use Rattle.semigroups.specs.Tables.{Element, Filled}
@@ -28,7 +28,6 @@ pub record Number (f : List ℕ) : Type 0 where
 pub record LoadPasses (t : List ℕ) (room : ℕ) : Type 0 where
   pub size : Element longest (length t)
   pub bytes : (p : ℕ) → p < length t → AllowedByte t p
-  pub end : (front : List ℕ) × (t ≡ front ++ 13 ∷ 10 ∷ [])
   pub numbers : (f : List ℕ) → List·Memᴰ f (fieldsOf t) → Number f
   pub as-many-records : length (rows t) ≡ orderOf t
   pub as-many-fields : (r : List (List ℕ)) → List·Memᴰ r (rows t) → length r ≡ orderOf t

@@ -1,12 +1,11 @@
--- The questions about loading and saving a text, in the order of 01, "The questions", with 24 before 23 (02, (iv)).
+-- The questions about loading and saving a text, in the order of 01, "The questions", with 24 before 23 (02, (iv)) and without 22 (02, (ii)).
 -- Stricter than RFC 4180 by 01, "About loading a text": a length limit (20); digits, commas and line breaks alone, so no header, no quoted field
--- and no space (21); the last record closed too (22); decimal fields of 1 to 120 with no leading 0 (23 to 25); a square (26) of order 120 at
--- most (1).
+-- and no space (21); decimal fields of 1 to 120 with no leading 0 (23 to 25); a square (26) of order 120 at most (1).
 -- Assumes nothing.
 use mathlib.Core.Bool.{Bool, _&&_, _||_, not}
 use mathlib.Core.List.{List, [], _∷_, _++_, flatMap}
 use mathlib.Core.Option.{Option, Option·map}
-use Prim.Native.Nat.{ℕ, zero, suc, _-_, _*_}
+use Prim.Native.Nat.{ℕ, zero, suc, _*_}
 use lib.Dec.{eqb, leb}
 use lib.ListN.{length, getD}
 use Rattle.semigroups.specs.Lists.{range, all, find}
@@ -46,13 +45,6 @@ bytesQuestion t = seek 21 (Option·map (λ p. p ∷ []) (firstOther t))
 unfoldable pub bytesRefusal : List ℕ → Option Refusal
 bytesRefusal t = firstNo (bytesQuestion t ∷ [])
 
--- 22, does it end in CR LF?
-abbrev pub endQuestion : List ℕ → Question
-endQuestion t = ask 22 (breakAt t (length t - 2))
-
-unfoldable pub endRefusal : List ℕ → Option Refusal
-endRefusal t = firstNo (endQuestion t ∷ [])
-
 -- ---- the fields of a text
 
 -- About a field: 24, is its first byte other than 0? A field with no byte has none, and passes. 23, is it 1 to 3 bytes? 25, is it at most 120?
@@ -90,12 +82,10 @@ gridRefusal n t = firstNo (gridQuestions n t)
 abbrev pub sizeQuestions : List ℕ → ℕ → List Question
 sizeQuestions t room = ask 1 (leb (orderOf t) 120) ∷ ask 27 (leb (orderOf t * orderOf t) room) ∷ []
 
--- About loading a text into a buffer of so many cells: 20, is it 1 to 57,720 bytes long? Then 21 and 22; 24, 23 and 25 of each field; 26, are
--- there as many records as the first has fields, each with that many? Then 1 and 27. Neither 3 nor 4 is asked.
+-- About loading a text into a buffer of so many cells: 20, is it 1 to 57,720 bytes long? Then 21; 24, 23 and 25 of each field; 26, are there as
+-- many records as the first has fields, each with that many? Then 1 and 27. Neither 3 nor 4 is asked.
 abbrev pub loadQuestions : List ℕ → ℕ → List Question
-loadQuestions t room =
-    ask 20 (isElement longest (length t)) ∷ bytesQuestion t ∷ endQuestion t
-    ∷ (gridQuestions (orderOf t) t ++ sizeQuestions t room)
+loadQuestions t room = ask 20 (isElement longest (length t)) ∷ bytesQuestion t ∷ (gridQuestions (orderOf t) t ++ sizeQuestions t room)
 
 unfoldable pub loadRefusal : List ℕ → ℕ → Option Refusal
 loadRefusal t room = firstNo (loadQuestions t room)

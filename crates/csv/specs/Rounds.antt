@@ -5,6 +5,7 @@ use mathlib.Core.List.{List}
 use Prim.Native.Nat.{ℕ, zero, suc, _*_}
 use lib.ListN.{length, take}
 use Rattle.semigroups.specs.Calls.{Answer, refused, gives, overwritten}
+use Rattle.csv.specs.Records.{closed}
 use Rattle.csv.specs.Calls.{loadAnswer, cellsAfter, saveAnswer, textAfter}
 
 -- ---- there and back
@@ -16,12 +17,18 @@ pub record SavedLoads (n : ℕ) (cells text cells-buffer : List ℕ) : Type 0 wh
   pub order : loadAnswer (take size (textAfter n cells text)) cells-buffer ≡ gives n
   pub cells-same : cellsAfter (take size (textAfter n cells text)) cells-buffer ≡ overwritten cells cells-buffer
 
--- The text t, loaded into the buffer `cells-buffer`, saves into the buffer `text` as the same bytes.
+-- The text t, loaded into the buffer `cells-buffer`, saves into the buffer `text` as the same bytes, with the last line break added where it was
+-- missing.
 pub record LoadedSaves (t cells-buffer text : List ℕ) : Type 0 where
   pub order : ℕ
   pub loaded : loadAnswer t cells-buffer ≡ gives order
-  pub size : saveAnswer order (take (order * order) (cellsAfter t cells-buffer)) text ≡ gives (length t)
-  pub text-same : textAfter order (take (order * order) (cellsAfter t cells-buffer)) text ≡ overwritten t text
+  pub size : saveAnswer order (take (order * order) (cellsAfter t cells-buffer)) text ≡ gives (length (closed t))
+  pub text-closed : textAfter order (take (order * order) (cellsAfter t cells-buffer)) text ≡ overwritten (closed t) text
+
+-- The text t loads into the buffer `cells` exactly as if its last line break were there: the same answer, and the same bytes.
+pub record LoadsClosed (t cells : List ℕ) : Type 0 where
+  pub answer : loadAnswer t cells ≡ loadAnswer (closed t) cells
+  pub cells-same : cellsAfter t cells ≡ cellsAfter (closed t) cells
 
 -- ---- again and again
 
@@ -65,3 +72,8 @@ pub record Unchanged (n : ℕ) (cells : List ℕ) (first b : Buffers) : Type 0 w
   pub size : b .size ≡ first .size
   pub order : loadAnswer (textHeld b) (b .cells) ≡ gives n
   pub cells-same : loadedCells b ≡ cells
+
+-- After one round and after any further ones: the text t stands at the start of the first buffer, with its last line break.
+pub record Closed (t : List ℕ) (before after : Buffers) : Type 0 where
+  pub text : after .text ≡ overwritten (closed t) (before .text)
+  pub size : after .size ≡ length (closed t)

@@ -1,7 +1,7 @@
 -- Demand 2 holds. Assumes nothing.
 use mathlib.Core.Path.{_≡_, refl, subst₂}
 use mathlib.Core.Logic.{_↔_}
-use mathlib.Core.List.{List, [], _∷_, flatMap, flatten, List·Memᴰ·head, List·Memᴰ·tail}
+use mathlib.Core.List.{List, [], _∷_, _++_, flatMap, flatten, List·Memᴰ·head, List·Memᴰ·tail}
 use mathlib.Core.Option.{orElse}
 use Prim.Native.Nat.{ℕ, zero, suc, _≤_}
 use native.Mathlib.Omega.{arith}
@@ -23,14 +23,15 @@ use Rattle.search.specs.Calls.{theFirst, call}
 use Rattle.search.specs.Wanted.{Wanted}
 use Rattle.search.proofs.Calls.{found-exactly, nothing-exactly, wanted-found}
 use Rattle.csv.specs.Decimals.{isDigit, value, valueFrom, numeral, numeralWithin}
-use Rattle.csv.specs.Records.{isBreak, onto, records, fields, rows, recordText, lineText, rowsText}
+use Rattle.csv.specs.Records.{isBreak, endsInBreak, closed, onto, records, fields, rows, recordText, lineText, rowsText}
 use Rattle.csv.specs.Tables.{fieldsOf, orderOf, rowFields, tableText}
 use Rattle.csv.specs.Questions.{breakAt, inBreak, isAllowed, firstOther, fieldsQuestions, isSquare, loadRefusal, saveRefusal}
 use Rattle.csv.specs.Passing.{LoadPasses}
-use Rattle.csv.specs.Rounds.{SavedLoads, LoadedSaves}
-use Rattle.csv.proofs.Examples.{swap-text, swap-order, swap-cells}
+use Rattle.csv.specs.Rounds.{SavedLoads, LoadedSaves, LoadsClosed, Buffers, rounds, Closed}
+use Rattle.csv.proofs.Examples.{swap-text, swap-order, swap-cells, swap-open, open-order, open-cells}
 use Rattle.csv.proofs.Passing.{load-passes, save-passes}
-use Rattle.csv.proofs.RoundTrips.{saved-loads, loaded-saves}
+use Rattle.csv.proofs.RoundTrips.{saved-loads, loaded-saves, rounds-close}
+use Rattle.csv.proofs.Closing.{accepted-loads-closed}
 use Rattle.demands.specs.Demand2.{Demand2}
 use Rattle.demands.proofs.Demand1.{lent, enough}
 
@@ -100,4 +101,27 @@ small (suc (suc (suc (suc k)))) = omega arith
 
 text-again : LoadedSaves swap-text (replicate 5 7) (replicate 12 7)
 text-again =
-    demand-2 .loaded-saves swap-text (replicate 5 7) (replicate 12 7) swap-loads (λ k h. rw (swap-cells, swap-order) (small k)) (unfold swap-text in omega arith)
+    demand-2 .loaded-saves swap-text (replicate 5 7) (replicate 12 7) swap-loads (λ k h. rw (swap-cells, swap-order) (small k))
+    (unfold swap-text closed endsInBreak isBreak in omega arith)
+
+-- The same without its last line break.
+open-loads : LoadPasses swap-open 5
+open-loads =
+    load-passes swap-open 5 .0
+    (unfold swap-open loadRefusal firstOf orElse isElement firstOther find range isAllowed inBreak breakAt isBreak isDigit fieldsQuestions fieldsOf flatten rows records fields onto value valueFrom isSquare all orderOf flatMap in refl)
+
+open-again : LoadedSaves swap-open (replicate 5 7) (replicate 12 7)
+open-again =
+    demand-2 .loaded-saves swap-open (replicate 5 7) (replicate 12 7) open-loads (λ k h. rw (open-cells, open-order) (small k))
+    (unfold swap-open closed endsInBreak isBreak in omega arith)
+
+-- It loads as it does closed, and rounds on one pair of buffers close it.
+open-closed : LoadsClosed swap-open (replicate 5 7)
+open-closed = accepted-loads-closed swap-open (replicate 5 7) open-loads
+
+open-buffers : Buffers
+open-buffers = record { text = swap-open ++ replicate 4 7; size = 8; cells = replicate 5 7 }
+
+open-rounds : (r : ℕ) → Closed swap-open open-buffers (rounds (suc r) open-buffers)
+unfolding open-buffers swap-open closed endsInBreak isBreak
+open-rounds r = rounds-close open-buffers open-loads (λ k h. rw (open-cells, open-order) (small k)) (omega arith) r

@@ -14,6 +14,7 @@ use Rattle.semigroups.specs.Maps.{Kind, found, nothing}
 use Rattle.semigroups.specs.Passing.{ElementPasses}
 use Rattle.search.specs.Calls.{Lent, Request, call}
 use Rattle.search.specs.Wanted.{Passes, Wanted}
+use Rattle.csv.specs.Records.{closed}
 use Rattle.csv.specs.Tables.{orderOf, cellsOf}
 use Rattle.csv.specs.Passing.{LoadPasses, SavePasses}
 use Rattle.csv.specs.Rounds.{SavedLoads, LoadedSaves}
@@ -39,6 +40,6 @@ pub record Demand2 : Type 0 where
       → (profile n (product n cells) a .row ≡ rowFrequency n (product n cells) a) × (profile n (product n cells) a .column ≡ columnFrequency n (product n cells) a)
   -- A table saved as RFC 4180 text loads as the same cells,
   pub saved-loads : (n : ℕ) (cells text buffer : List ℕ) → SavePasses n cells (length text) → n * n ≤ length buffer → SavedLoads n cells text buffer
-  -- and an accepted text whose entries lie within its order saves to the same bytes.
-  pub loaded-saves : (t buffer text : List ℕ) → LoadPasses t (length buffer) → ((k : ℕ) → k < length (cellsOf t) → getD (cellsOf t) k 0 ≤ orderOf t) → length t ≤ length text
+  -- and an accepted text whose entries lie within its order saves to the same bytes, with the last line break added where it was missing (02, (ii)).
+  pub loaded-saves : (t buffer text : List ℕ) → LoadPasses t (length buffer) → ((k : ℕ) → k < length (cellsOf t) → getD (cellsOf t) k 0 ≤ orderOf t) → length (closed t) ≤ length text
       → LoadedSaves t buffer text

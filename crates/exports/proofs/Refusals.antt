@@ -50,7 +50,7 @@ numbered qs h = by-list (numbers qs) h qs (number-listed qs)
 load-numbered : (t : List ℕ) (room : ℕ) → Numbered (loadRefusal t room)
 unfolding loadRefusal all member
 load-numbered t room =
-    let ns : List ℕ = 20 ∷ 21 ∷ 22 ∷ 23 ∷ 24 ∷ 25 ∷ 26 ∷ 1 ∷ 27 ∷ [] in
+    let ns : List ℕ = 20 ∷ 21 ∷ 23 ∷ 24 ∷ 25 ∷ 26 ∷ 1 ∷ 27 ∷ [] in
     by-list ns refl (loadQuestions t room) (load-listed ns refl refl refl t room (listed ns (sizeQuestions t room) refl))
 
 -- ---- the first number of an answer

@@ -17,7 +17,7 @@ use Rattle.csv.proofs.Loading.{load-listed}
 use Rattle.files.specs.Files.{loadedQuestions, fileRefusal, room}
 
 abbrev pub numbers : List ℕ
-numbers = 1 ∷ 3 ∷ 4 ∷ 20 ∷ 21 ∷ 22 ∷ 23 ∷ 24 ∷ 25 ∷ 26 ∷ []
+numbers = 1 ∷ 3 ∷ 4 ∷ 20 ∷ 21 ∷ 23 ∷ 24 ∷ 25 ∷ 26 ∷ []
 
 -- Where the order passes there is room, so that 27 is as good as not asked.
 order-alone : (n : ℕ) → firstNo (ask 1 (leb n 120) ∷ ask 27 (leb (n * n) room) ∷ []) ≡ firstNo (ask 1 (leb n 120) ∷ [])

@@ -28,7 +28,9 @@ fn main() {
     );
     refused(b"");
     refused(b"1;\r\n");
-    refused(b"1");
+    // Without the last line break; ended by a comma, so that the last field is empty.
+    show(b"1,2\r\n2,1", b"1,1,4,4\r\n1,2,3,4\r\n1,3,2,4\r\n1,4,1,4");
+    refused(b"1,2\r\n2,");
     refused(b"1234\r\n");
     refused(b"0\r\n");
     refused(b"121\r\n");

@@ -7,7 +7,7 @@ use Rattle.semigroups.specs.Questions.{Refusal, no}
 use Rattle.tables.specs.Answers.{faultRefusal}
 use Rattle.semigroups.specs.Calls.{Answer, refused, gives}
 use Rattle.text.specs.declared.TextFault.{TextFault}
-use Rattle.text.specs.declared.TextFault.the-variants.{Length, Byte, End, FieldLength, LeadingZero, FieldValue, Shape, Order, Room}
+use Rattle.text.specs.declared.TextFault.the-variants.{Length, Byte, FieldLength, LeadingZero, FieldValue, Shape, Order, Room}
 use Rattle.text.specs.declared.Judged.{Judged}
 use Rattle.text.specs.declared.Judged.the-variants.{Passed, Failed}
 use Rattle.text.specs.declared.Loaded.{Loaded}
@@ -19,7 +19,6 @@ use Rattle.text.specs.declared.Saved.the-variants.{Length as SavedLength
 abbrev pub textFaultRefusal : TextFault → Refusal
 textFaultRefusal Length = no 20 []
 textFaultRefusal (Byte place) = no 21 (place ∷ [])
-textFaultRefusal End = no 22 []
 textFaultRefusal FieldLength = no 23 []
 textFaultRefusal LeadingZero = no 24 []
 textFaultRefusal FieldValue = no 25 []

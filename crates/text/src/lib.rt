@@ -1,6 +1,6 @@
-// Cayley tables as RFC 4180 text: a record for each row, a decimal field for each cell, each record closed by CR LF.
-// `load` asks questions 20 to 27 and 1 of a text, `save` asks 1, 2, 3 and 28; a refusal changes no byte. What the contracts cite, and that saving
-// and loading undo each other, is in the crate `csv`.
+// Cayley tables as RFC 4180 text: a record for each row, a decimal field for each cell, each record closed by CR LF; a text that is loaded may lack
+// the last CR LF. `load` asks questions 20, 21, 23 to 27 and 1 of a text, `save` asks 1, 2, 3 and 28; a refusal changes no byte. What the contracts
+// cite, and that saving and loading undo each other, is in the crate `csv`.
 ghost use mathlib.Core.Path.{_≡_};
 ghost use mathlib.Core.Option.{none};
 ghost use Prim.Native.Nat.{_+_, _≤_, _<_};
@@ -11,7 +11,7 @@ ghost use Rattle.csv.specs.Decimals.{digits, value, numeral};
 ghost use Rattle.csv.specs.Records.{lineText};
 ghost use Rattle.csv.specs.Cursor.{fieldEnd};
 ghost use Rattle.csv.specs.Tables.{fieldsOf, orderOf, cellsOf, rowFields, tableText};
-ghost use Rattle.csv.specs.Questions.{bytesRefusal, endRefusal, fieldRefusal, fieldsRefusal, gridRefusal};
+ghost use Rattle.csv.specs.Questions.{bytesRefusal, fieldRefusal, fieldsRefusal, gridRefusal};
 ghost use Rattle.semigroups.specs.Calls.{overwritten};
 ghost use Rattle.csv.specs.Calls.{loadAnswer, cellsAfter, saveAnswer, textAfter};
 ghost use Rattle.tables.specs.Answers.{refusalNumbers};
@@ -19,11 +19,10 @@ ghost use Rattle.text.specs.Answers.{textFaultRefusal, judgedRefusal, lo
 ghost use Rattle.text.specs.Fields.{fieldAt};
 use tables::Refusal;
 
-// Why a text is refused: questions 20 to 26, 1 and 27. 21 carries the place of the byte, from 0.
+// Why a text is refused: questions 20, 21, 23 to 26, 1 and 27. 21 carries the place of the byte, from 0.
 pub enum TextFault {
     Length,
     Byte(usize),
-    End,
     FieldLength,
     LeadingZero,
     FieldValue,
@@ -39,7 +38,6 @@ impl TextFault {
         match self {
             TextFault::Length => Refusal::by(20, 0),
             TextFault::Byte(place) => Refusal::by(21, place),
-            TextFault::End => Refusal::by(22, 0),
             TextFault::FieldLength => Refusal::by(23, 0),
             TextFault::LeadingZero => Refusal::by(24, 0),
             TextFault::FieldValue => Refusal::by(25, 0),
@@ -96,23 +94,6 @@ fn judge_bytes(text: &[u8]) -> Judged
                 return Judged::Failed(TextFault::Byte(i));
             }
         }
-    }
-    Judged::Passed
-}
-
-// Question 22: does the text end in CR LF?
-fn judge_end(text: &[u8]) -> Judged
-    ensures answer { λ r. ⌜ judgedRefusal r ≡ endRefusal (now (text .entry)) ⌝ }
-{
-    let n = text.len();
-    if n < 2 {
-        return Judged::Failed(TextFault::End);
-    }
-    if text[n - 2] != 13 {
-        return Judged::Failed(TextFault::End);
-    }
-    if text[n - 1] != 10 {
-        return Judged::Failed(TextFault::End);
     }
     Judged::Passed
 }
@@ -300,10 +281,6 @@ pub fn load(text: &[u8], cells: &mut [u8]) -> Loaded
     }
     let bytes = judge_bytes(text);
     if let Judged::Failed(f) = bytes {
-        return Loaded::Refused(f);
-    }
-    let end = judge_end(text);
-    if let Judged::Failed(f) = end {
         return Loaded::Refused(f);
     }
     let n = columns(text);

@@ -53,8 +53,6 @@ pub enum Question {
         /// The first other byte's place, counted from 0.
         place: usize,
     },
-    /// 22: does the text end in CR LF?
-    TextEnd,
     /// 23: is each field 1 to 3 bytes long? Asked after 24.
     FieldLength,
     /// 24: is its first byte other than 0? An empty field has none.
@@ -84,7 +82,6 @@ impl Question {
             Question::TableRoom => 9,
             Question::TextLength => 20,
             Question::TextByte { .. } => 21,
-            Question::TextEnd => 22,
             Question::FieldLength => 23,
             Question::FieldStart => 24,
             Question::FieldRange => 25,
@@ -107,7 +104,6 @@ impl Question {
             9 => Question::TableRoom,
             20 => Question::TextLength,
             21 => Question::TextByte { place: number(answer, 2) },
-            22 => Question::TextEnd,
             23 => Question::FieldLength,
             24 => Question::FieldStart,
             25 => Question::FieldRange,

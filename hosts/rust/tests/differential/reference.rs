@@ -395,7 +395,7 @@ fn parse(text: &[u8]) -> Result<(usize, Vec<u8>), No> {
         return Err(no(21, &[place]));
     }
     let text = std::str::from_utf8(text).expect("allowed bytes are ASCII");
-    let records = text.strip_suffix("\r\n").ok_or(no(22, &[]))?;
+    let records = text.strip_suffix("\r\n").unwrap_or(text);
     let records: Vec<Vec<&str>> = records.split("\r\n").map(|record| record.split(',').collect()).collect();
     let cells = records.iter().flatten().map(|field| field_value(field)).collect::<Result<_, _>>()?;
     let order = records[0].len();

@@ -60,12 +60,6 @@ enum-told-7 c = search needs
 failed-requires-8 : tie.Need-failed-requires-8
 failed-requires-8 c κs = search needs
 
-enum-told-8 : tie.Need-enum-told-8
-enum-told-8 c = search needs
-
-failed-requires-9 : tie.Need-failed-requires-9
-failed-requires-9 c κs = search needs
-
 returns : tie.Need-returns
 unfolding at
 returns c = c .failed .ensures ∙ as-said (c .before .enum-told .given .1)
@@ -98,10 +92,6 @@ returns-8 : tie.Need-returns-8
 unfolding at
 returns-8 c = c .failed8 .ensures ∙ as-said (c .before .enum-told7 .given .1)
 
-returns-9 : tie.Need-returns-9
-unfolding at
-returns-9 c = c .failed9 .ensures ∙ as-said (c .before .enum-told8 .given .1)
-
 pub fault-said-spec : {M : Type 1} → statement M
 fault-said-spec =
     tie.close
@@ -122,8 +112,6 @@ fault-said-spec =
     failed-requires-7
     enum-told-7
     failed-requires-8
-    enum-told-8
-    failed-requires-9
     returns
     returns-2
     returns-3
@@ -131,5 +119,4 @@ fault-said-spec =
     returns-5
     returns-6
     returns-7
-    returns-8
-    returns-9)
+    returns-8)

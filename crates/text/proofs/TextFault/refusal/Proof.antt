@@ -52,12 +52,6 @@ enum-told-7 c = search needs
 by-requires-8 : tie.Need-by-requires-8
 by-requires-8 c κs = search needs
 
-enum-told-8 : tie.Need-enum-told-8
-enum-told-8 c = search needs
-
-by-requires-9 : tie.Need-by-requires-9
-by-requires-9 c κs = search needs
-
 returns : tie.Need-returns
 returns c = rw (c .before .enum-told .given .1) (c .by .ensures)
 
@@ -82,9 +76,6 @@ returns-7 c = rw (c .before .enum-told6 .given .1) (c .by7 .ensures)
 returns-8 : tie.Need-returns-8
 returns-8 c = rw (c .before .enum-told7 .given .1) (c .by8 .ensures)
 
-returns-9 : tie.Need-returns-9
-returns-9 c = rw (c .before .enum-told8 .given .1) (c .by9 .ensures)
-
 pub refusal-spec : {M : Type 1} → statement M
 refusal-spec =
     tie.close
@@ -105,8 +96,6 @@ refusal-spec =
     by-requires-7
     enum-told-7
     by-requires-8
-    enum-told-8
-    by-requires-9
     returns
     returns-2
     returns-3
@@ -114,5 +103,4 @@ refusal-spec =
     returns-5
     returns-6
     returns-7
-    returns-8
-    returns-9)
+    returns-8)
