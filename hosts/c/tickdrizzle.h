@@ -1,5 +1,6 @@
 /*
- * Multiplication tables of finite semigroups, from C: checks, invariants, embeddings, isomorphisms, CSV text.
+ * Multiplication tables of finite semigroups, from C: checks, invariants, generators, embeddings, isomorphisms,
+ * CSV text.
  * The functions are proved, for every input, in crates/exports; docs/HOSTS.md tells how to link them.
  *
  * A table of order n is n * n bytes, row after row, each 1 to n: the cell in row i, column j is the product i.j.
@@ -55,6 +56,8 @@ extern "C" {
 #define TICKDRIZZLE_NO_SQUARE 26        /* are there as many records as the first has fields, each with that many? */
 #define TICKDRIZZLE_NO_CELL_ROOM 27     /* has the buffer room for the cells? */
 #define TICKDRIZZLE_NO_TEXT_ROOM 28     /* has the buffer room for the text? */
+#define TICKDRIZZLE_NO_GENERATOR 50     /* is every entry of the list 1 to n? */
+#define TICKDRIZZLE_NO_GENERATION 51    /* does the list generate all n elements? An empty one generates none */
 
 /* The table that a refusal by questions 1 to 4 names, in a call with two tables. */
 #define TICKDRIZZLE_SOURCE 1
@@ -91,6 +94,13 @@ void tickdrizzle_profile(const uint8_t *cells, size_t cells_length, size_t order
 void tickdrizzle_check_map(const uint8_t *source, size_t source_length, size_t source_order, const uint8_t *target,
                            size_t target_length, size_t target_order, const uint8_t *map, size_t map_length,
                            uint64_t *TICKDRIZZLE_RESTRICT answer);
+
+/* Asks whether the cells are a table of this order, by its generators: a list of elements of which all others are products, in any
+   order and with repeats. Refused by 4 exactly where the check of the whole table is, but looks only at triples with their middle on the
+   list, k * n * n for k different entries, and says the first of these that fails (questions 1 to 3, 50, 51, 4).
+   Says no values; writes nothing but the answer. */
+void tickdrizzle_check_generated(const uint8_t *cells, size_t cells_length, size_t order, const uint8_t *generators,
+                                 size_t generators_length, uint64_t *TICKDRIZZLE_RESTRICT answer);
 
 /*
  * The four searches ask 1 to 4 of the source, of the target, 5 and 6, and say TICKDRIZZLE_FOUND or TICKDRIZZLE_NONE. Found:

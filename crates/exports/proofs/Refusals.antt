@@ -11,6 +11,7 @@ use lib.ListN.{length, getD}
 use Rattle.semigroups.specs.Lists.{all, member}
 use Rattle.semigroups.specs.Tables.{product}
 use Rattle.semigroups.specs.Questions.{Question, Refusal, firstNo, numbers, tableQuestions, tableRefusal, elementQuestions, elementRefusal, checkQuestions, checkRefusal, searchQuestions, searchRefusal}
+use Rattle.semigroups.specs.Light.{generatorsQuestions, generatorsRefusal}
 use Rattle.semigroups.specs.Transformations.{transformationOrder, transformationQuestions, transformationRefusal}
 use Rattle.semigroups.specs.Calls.{givenUnless}
 use Rattle.semigroups.specs.Maps.{Kind, sought}
@@ -86,6 +87,10 @@ pub search-told : (kind : Kind) (request : Request) (l : Lent) → Tells (answer
 unfolding call searchRefusal member
 search-told kind request l =
     answer-told soughtValues (sought (answerOf kind request l)) (numbered (searchQuestions (l .m) (l .source) (l .n) (l .target) (length (l .map)) (length (l .scratch))) refl)
+
+pub generators-told : (n : ℕ) (cells l : List ℕ) → Tells (questionWords (generatorsRefusal n cells l)) (generatorsRefusal n cells l)
+unfolding generatorsRefusal member
+generators-told n cells l = questions-told (numbered (generatorsQuestions n cells l) refl)
 
 pub transformations-told : (d size : ℕ) → Tells (answerWords numberValues (transformationSays d size)) (transformationRefusal d size)
 unfolding transformationSays transformationRefusal member

@@ -7,16 +7,19 @@ ghost use Rattle.semigroups.specs.Tables.{product};
 ghost use Rattle.semigroups.specs.Invariants.{indexPeriod, profile};
 ghost use Rattle.semigroups.specs.Maps.{embeddings, isomorphisms};
 ghost use Rattle.semigroups.specs.Questions.{tableRefusal, elementRefusal};
+ghost use Rattle.semigroups.specs.Light.{generatorsRefusal};
 ghost use Rattle.semigroups.specs.Calls.{givenUnless};
 ghost use Rattle.tables.specs.Answers.{verdictRefusal};
 ghost use Rattle.invariants.specs.Answers.{indexPeriodSays, profileSays};
 ghost use Rattle.maps.specs.Answers.{mapCheck, mapAnswerSays};
+ghost use Rattle.generated.specs.Answers.{generatorsVerdictRefusal};
 ghost use Rattle.search.specs.Calls.{theFirst, theNext, lend, call};
 ghost use Rattle.search.specs.Answers.{searchAnswerSays};
 ghost use Rattle.transformations.specs.Answers.{transformationSays, transformationCellsAfter, transformationAnswerSays};
 ghost use Rattle.csv.specs.Calls.{loadAnswer, cellsAfter, saveAnswer, textAfter};
 ghost use Rattle.text.specs.Answers.{loadedAnswer, savedAnswer};
 ghost use Rattle.exports.specs.Answers.{words, numbersWords, questionWords, answerWords, indexPeriodValues, profileValues, checkedValues, soughtValues, numberValues};
+use generated::GeneratorsVerdict;
 use invariants::IndexPeriodAnswer;
 use invariants::ProfileAnswer;
 use maps::MapAnswer;
@@ -106,6 +109,15 @@ fn map_words(said: MapAnswer) -> [u64; 16]
         MapAnswer::Outside(i) => words(0, 0, &[1, i]),
         MapAnswer::EqualImages(i, j) => words(0, 0, &[2, i, j]),
         MapAnswer::WrongProduct(i, j) => words(0, 0, &[3, i, j]),
+    }
+}
+
+fn generators_words(verdict: GeneratorsVerdict) -> [u64; 16]
+    ensures answer { λ r. ⌜ r ≡ questionWords (generatorsVerdictRefusal verdict) ⌝ }
+{
+    match verdict {
+        GeneratorsVerdict::Accepted => [0; 16],
+        GeneratorsVerdict::Refused(fault) => refusal_words(fault.refusal()),
     }
 }
 
@@ -275,6 +287,21 @@ pub extern "C" fn tickdrizzle_next_isomorphism(
     ensures scratch { λ _. ⌜ now (scratch .exit) ≡ call isomorphisms theNext (lend (now (source .entry)) m (now (target .entry)) n (now (map .entry)) (now (scratch .entry))) .scratch ⌝ }
 {
     *answer = search_words(search::next_isomorphism(source, m, target, n, map, scratch));
+}
+
+// ---- what a list of elements generates
+
+// Asks the questions about a table and a list of its generators; of triples, those with their middle on the list. No values.
+#[no_mangle]
+pub extern "C" fn tickdrizzle_check_generated(
+    cells: &[u8],
+    order: usize,
+    generators: &[u8],
+    answer: &mut [u64; 16],
+)
+    ensures answer { λ _. ⌜ now (answer .exit) ≡ questionWords (generatorsRefusal order (now (cells .entry)) (now (generators .entry))) ⌝ }
+{
+    *answer = generators_words(generated::check(cells, order, generators));
 }
 
 // ---- transformations

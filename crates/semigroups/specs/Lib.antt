@@ -13,3 +13,5 @@ pub mod Walks
 pub mod Transformations
 pub mod Passing
 pub mod Cases
+pub mod Generated
+pub mod Light

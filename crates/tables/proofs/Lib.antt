@@ -1,3 +1,4 @@
 pub mod Remaining
+pub mod Triples
 pub mod Questions
 pub mod Refusals

@@ -1,6 +1,6 @@
 -- The questions about a table, one by one: what each way out of them answers. Assumes nothing.
-use mathlib.Core.Path.{_≡_, refl, sym, ap, ap₂, _∙_}
-use mathlib.Core.Bool.{Bool, cond, not}
+use mathlib.Core.Path.{_≡_, refl, sym, ap₂, _∙_}
+use mathlib.Core.Bool.{cond, not}
 use mathlib.Core.List.{List, [], _∷_, map}
 use mathlib.Core.Option.{Option, none, some, Option·map, orElse, map-eq-none-iff}
 use Prim.Native.Nat.{ℕ, _+_, _-_, _*_, _≤_, _<_}
@@ -8,13 +8,11 @@ use native.Mathlib.Nat.{mul-le-mul}
 use borrow.Author.Tests.{le-leb, lt-leb, eq-eqb, ne-eqb}
 use lib.ListN.{length, getD}
 use Rattle.semigroups.specs.Lists.{elements, at, firstOf}
-use Rattle.semigroups.specs.Tables.{product, Element, isElement, associates, badCell, badTriple, Filled, Accepted}
+use Rattle.semigroups.specs.Tables.{product, Element, isElement, badCell, badTriple, Filled, Accepted}
 use Rattle.semigroups.specs.Questions.{seek, onSide, Refusal, no, naming, refusalBy, firstNo, tripleQuestion, cellsQuestions, cellsRefusal, tableQuestions, tableRefusal, tablesRefusal}
 use Rattle.semigroups.proofs.Tables.{place-below, accepted}
 use Rattle.semigroups.proofs.Questions.{first-sided, first-append, failed-before, passed-before}
 use Rattle.semigroups.proofs.Completions.{orElse-nothing, orElse-none, find-firstOf, firstFrom, first-start, first-skip, first-hit, first-end}
-use Rattle.semigroups.proofs.Booleans.{not-of-true, not-of-false}
-use Rattle.tables.proofs.Remaining.{remaining, begin, enter, pass, hit, leave}
 
 pub square-small : (n : ℕ) → n ≤ 120 → n * n ≤ 14400
 square-small n h = mul-le-mul h h
@@ -62,63 +60,6 @@ module _ (n : ℕ) (cells : List ℕ) where
   pub cell-end : (k : ℕ) → length cells < k → badFrom k ≡ none
   unfolding badFrom
   cell-end k h = first-end wrong (length cells) k h
-
-  -- ---- question 4
-
-  -- Whether the triple l does not associate.
-  abbrev fails : List ℕ → Bool
-  fails l = not (associates (product n cells) (at l 1) (at l 2) (at l 3))
-
-  -- What is left of the search for a triple from the first entry i on, from the pair i, j on, and from the triple i, j, k on.
-  unfoldable pub fromFirst : ℕ → Option (List ℕ)
-  fromFirst i = remaining fails n 2 [] i none
-
-  unfoldable pub fromPair : ℕ → ℕ → Option (List ℕ)
-  fromPair i j = remaining fails n 1 (i ∷ []) j (fromFirst (i + 1))
-
-  unfoldable pub fromTriple : ℕ → ℕ → ℕ → Option (List ℕ)
-  fromTriple i j k = remaining fails n 0 (i ∷ j ∷ []) k (fromPair i (j + 1))
-
-  pub triples-begin : badTriple n (product n cells) ≡ fromFirst 1
-  unfolding badTriple fromFirst
-  triples-begin = begin fails n 2
-
-  pub first-enter : (i : ℕ) → i ≤ n → fromFirst i ≡ fromPair i 1
-  unfolding fromFirst fromPair
-  first-enter i h = enter fails n 1 [] i none h
-
-  pub pair-enter : (i j : ℕ) → j ≤ n → fromPair i j ≡ fromTriple i j 1
-  unfolding fromPair fromTriple
-  pair-enter i j h = enter fails n 0 (i ∷ []) j (fromFirst (i + 1)) h
-
-  pub triple-pass : (i j k : ℕ) → k ≤ n → product n cells (product n cells i j) k ≡ product n cells i (product n cells j k) → fromTriple i j k ≡ fromTriple i j (k + 1)
-  unfolding fromTriple associates at
-  triple-pass i j k h e =
-      pass fails n (i ∷ j ∷ []) k (fromPair i (j + 1)) h
-      (not-of-true (associates (product n cells) i j k) (eq-eqb (product n cells (product n cells i j) k) (product n cells i (product n cells j k)) e))
-
-  pub triple-hit : (i j k : ℕ) → k ≤ n → (product n cells (product n cells i j) k ≡ product n cells i (product n cells j k) → ⊥) → fromTriple i j k ≡ some (i ∷ j ∷ k ∷ [])
-  unfolding fromTriple associates at
-  triple-hit i j k h e =
-      hit fails n (i ∷ j ∷ []) k (fromPair i (j + 1)) h
-      (not-of-false (associates (product n cells) i j k) (ne-eqb (product n cells (product n cells i j) k) (product n cells i (product n cells j k)) e))
-
-  -- What is compared for the triple i, j, k is its two products.
-  pub compared : (i j k ij jk left right : ℕ) → ij ≡ product n cells i j → jk ≡ product n cells j k → left ≡ product n cells ij k → right ≡ product n cells i jk
-      → (left ≡ product n cells (product n cells i j) k) × (right ≡ product n cells i (product n cells j k))
-  compared i j k ij jk left right e1 e2 e3 e4 = (e3 ∙ ap (λ (x : ℕ). product n cells x k) e1, e4 ∙ ap (product n cells i) e2)
-
-  pub triple-leave : (i j k : ℕ) → n < k → fromTriple i j k ≡ fromPair i (j + 1)
-  unfolding fromTriple
-  triple-leave i j k h = leave fails n 0 (i ∷ j ∷ []) k (fromPair i (j + 1)) h
-
-  pub pair-leave : (i j : ℕ) → n < j → fromPair i j ≡ fromFirst (i + 1)
-  unfolding fromPair
-  pair-leave i j h = leave fails n 1 (i ∷ []) j (fromFirst (i + 1)) h
-
-  pub triples-end : (i : ℕ) → n < i → fromFirst i ≡ none
-  unfolding fromFirst
-  triples-end i h = leave fails n 2 [] i none h
 
   -- ---- the questions in order
 

@@ -30,6 +30,14 @@ extern "C" {
         map_length: usize,
         answer: &mut Answer,
     );
+    fn tickdrizzle_check_generated(
+        cells: *const u8,
+        cells_length: usize,
+        order: usize,
+        generators: *const u8,
+        generators_length: usize,
+        answer: &mut Answer,
+    );
     fn tickdrizzle_transformations(degree: usize, cells: *mut u8, cells_length: usize, answer: &mut Answer);
     fn tickdrizzle_load(text: *const u8, text_length: usize, cells: *mut u8, cells_length: usize, answer: &mut Answer);
     fn tickdrizzle_save(
@@ -74,6 +82,12 @@ pub fn check_map(
             map.len(),
             answer,
         )
+    }
+}
+
+pub fn check_generated(cells: &[u8], order: usize, generators: &[u8], answer: &mut Answer) {
+    unsafe {
+        tickdrizzle_check_generated(cells.as_ptr(), cells.len(), order, generators.as_ptr(), generators.len(), answer)
     }
 }
 

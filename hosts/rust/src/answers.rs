@@ -65,6 +65,10 @@ pub enum Question {
     CellRoom,
     /// 28: has the buffer room for the text?
     TextRoom,
+    /// 50: is every entry of the list 1 to n?
+    Generator,
+    /// 51: does the list generate all n elements? An empty one generates none.
+    Generation,
 }
 
 impl Question {
@@ -88,6 +92,8 @@ impl Question {
             Question::Square => 26,
             Question::CellRoom => 27,
             Question::TextRoom => 28,
+            Question::Generator => 50,
+            Question::Generation => 51,
         }
     }
 
@@ -110,6 +116,8 @@ impl Question {
             26 => Question::Square,
             27 => Question::CellRoom,
             28 => Question::TextRoom,
+            50 => Question::Generator,
+            51 => Question::Generation,
             other => panic!("no question has the number {other}"),
         }
     }

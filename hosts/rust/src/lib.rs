@@ -1,5 +1,5 @@
-//! Multiplication tables of finite semigroups: checks, invariants, embeddings, isomorphisms and CSV text, over a library
-//! that is proved for every input.
+//! Multiplication tables of finite semigroups: checks, invariants, generators, embeddings, isomorphisms and CSV text,
+//! over a library that is proved for every input.
 //!
 //! A table of order n is n × n bytes, row after row, each 1 to n: the cell in row i, column j is the product i·j. A map
 //! is one byte for each source element, its image. Elements count from 1, and byte 0 stands for no element.
@@ -73,6 +73,13 @@ pub fn check_map(
     map: &[u8],
 ) -> Result<MapCheck, Refusal> {
     answered(|answer| abi::check_map(source, source_order, target, target_order, map, answer), MapCheck::decode)
+}
+
+/// Asks whether the cells are a table of this order, by its generators: a list of elements of which all others are products,
+/// in any order and with repeats. Only triples with their middle on the list are looked at, and of these the first that
+/// fails is said; whether the table is accepted is what [`check_table`] says.
+pub fn check_generated(cells: &[u8], order: usize, generators: &[u8]) -> Result<(), Refusal> {
+    answered(|answer| abi::check_generated(cells, order, generators, answer), |_| ())
 }
 
 /// The four searches, which differ in the map they are after.

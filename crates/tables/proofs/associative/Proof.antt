@@ -10,7 +10,7 @@ use Rattle.semigroups.specs.Questions.{Refusal, no}
 use Rattle.semigroups.specs.Tables.{product, badTriple}
 use Rattle.tables.specs.Answers.{verdictRefusal}
 use Rattle.tables.specs.declared.Verdict.the-variants.{Accepted}
-use Rattle.tables.proofs.Questions.{fromFirst, fromPair, fromTriple, triples-begin, first-enter, pair-enter, triple-pass, triple-hit, compared, triple-leave, pair-leave, triples-end}
+use Rattle.tables.proofs.Triples.{fromFirst, fromPair, fromTriple, triples-begin, first-enter, pair-enter, triple-pass, triple-hit, triple-leave, pair-leave, triples-end, fails, no-failing, failing, compared}
 use Rattle.tables.proofs.associative.Statement.{statement}
 use Rattle.tables.proofs.associative.Tie as tie
 
@@ -18,24 +18,25 @@ abbrev refusal : Option (List ℕ) → Option Refusal
 refusal o = Option·map (λ l. no 4 l) o
 
 abbrev Inv-loop2 : tie.InvT-loop2
-Inv-loop2 cells n verdict₀ i j ij k₀ verdict k = (1 ≤ k) × (verdict ≡ Accepted) × (badTriple n (product n cells) ≡ fromTriple n cells i j k)
+Inv-loop2 cells n verdict₀ i j ij k₀ verdict k = (1 ≤ k) × (verdict ≡ Accepted) × (badTriple n (product n cells) ≡ fromTriple (fails (product n cells)) n i j k)
 
 abbrev μ-loop2 : tie.MeasureT-loop2
 μ-loop2 cells n verdict₀ i j ij k₀ verdict k = suc n - k
 
 abbrev Inv-loop : tie.InvT-loop
-Inv-loop cells n verdict₀ i j₀ verdict j = (1 ≤ j) × (verdict ≡ Accepted) × (badTriple n (product n cells) ≡ fromPair n cells i j)
+Inv-loop cells n verdict₀ i j₀ verdict j = (1 ≤ j) × (verdict ≡ Accepted) × (badTriple n (product n cells) ≡ fromPair (fails (product n cells)) n i j)
 
 abbrev μ-loop : tie.MeasureT-loop
 μ-loop cells n verdict₀ i j₀ verdict j = suc n - j
 
 abbrev Inv-triples : tie.InvT-triples
-Inv-triples cells n verdict₀ i₀ verdict i = (1 ≤ i) × (verdict ≡ Accepted) × (badTriple n (product n cells) ≡ fromFirst n cells i)
+Inv-triples cells n verdict₀ i₀ verdict i = (1 ≤ i) × (verdict ≡ Accepted) × (badTriple n (product n cells) ≡ fromFirst (fails (product n cells)) n i)
 
 abbrev μ-triples : tie.MeasureT-triples
 μ-triples cells n verdict₀ i₀ verdict i = suc n - i
 
 triples-holds : tie.Need-triples-holds Inv-loop2 μ-loop2 Inv-loop μ-loop Inv-triples μ-triples
+unfolding badTriple
 triples-holds c = (search needs, refl, triples-begin _ _)
 
 loop-holds : tie.Need-loop-holds Inv-loop2 μ-loop2 Inv-loop μ-loop Inv-triples μ-triples
@@ -74,7 +75,7 @@ loop2-again c =
     let h = c .before .before .before .before in
     let v = h .before .loop2 .inv in
     let w = compared _ _ _ _ _ _ _ _ _ (h .before .before .times .ensures .0) (c .before .before .before .times2 .ensures .0) (c .before .before .times3 .ensures .0) (c .before .times4 .ensures .0) in
-    (omega arith, v .1, v .2 ∙ triple-pass _ _ _ _ _ (h .loop2-test .taken) (sym (w .0) ∙ c .if1 .left ∙ w .1))
+    (omega arith, v .1, v .2 ∙ triple-pass _ _ _ _ _ (h .loop2-test .taken) (no-failing _ _ _ _ (sym (w .0) ∙ c .if1 .left ∙ w .1)))
 
 add-j : tie.Need-add-j Inv-loop2 μ-loop2 Inv-loop μ-loop Inv-triples μ-triples
 add-j c = omega arith
@@ -108,7 +109,7 @@ returns-2 c =
     let h = c .before .before .before .before in
     let v = h .before .loop2 .inv in
     let w = compared _ _ _ _ _ _ _ _ _ (h .before .before .times .ensures .0) (c .before .before .before .times2 .ensures .0) (c .before .before .times3 .ensures .0) (c .before .times4 .ensures .0) in
-    sym (ap refusal (v .2 ∙ triple-hit _ _ _ _ _ (h .loop2-test .taken) (λ e. c .if1 .taken (w .0 ∙ e ∙ sym (w .1)))))
+    sym (ap refusal (v .2 ∙ triple-hit _ _ _ _ _ (h .loop2-test .taken) (failing _ _ _ _ (λ e. c .if1 .taken (w .0 ∙ e ∙ sym (w .1))))))
 
 pub associative-spec : {M : Type 1} → statement M
 associative-spec =

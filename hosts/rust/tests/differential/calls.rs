@@ -61,6 +61,7 @@ pub enum Call {
     IndexPeriod { table: LentTable, element: usize },
     Profile { table: LentTable, element: usize },
     CheckMap { source: LentTable, target: LentTable, map: Lent },
+    CheckGenerated { table: LentTable, generators: Lent },
     Search { kind: Kind, ask: Ask, source: LentTable, target: LentTable, map: Lent, scratch: Lent },
     Transformations { degree: usize, cells: Lent },
     Load { text: Lent, cells: Lent },
@@ -68,11 +69,12 @@ pub enum Call {
 }
 
 /// The functions' names, in the order of the header.
-pub const FUNCTIONS: [&str; 11] = [
+pub const FUNCTIONS: [&str; 12] = [
     "check_table",
     "index_period",
     "profile",
     "check_map",
+    "check_generated",
     "first_embedding",
     "next_embedding",
     "first_isomorphism",
@@ -89,6 +91,7 @@ impl Call {
             Call::IndexPeriod { .. } => "index_period",
             Call::Profile { .. } => "profile",
             Call::CheckMap { .. } => "check_map",
+            Call::CheckGenerated { .. } => "check_generated",
             Call::Search { kind: Kind::Embedding, ask: Ask::First, .. } => "first_embedding",
             Call::Search { kind: Kind::Embedding, ask: Ask::Next, .. } => "next_embedding",
             Call::Search { kind: Kind::Isomorphism, ask: Ask::First, .. } => "first_isomorphism",
@@ -110,6 +113,9 @@ impl Call {
             Call::Profile { table, element } => abi::profile(&table.cells, table.order, *element, &mut answer),
             Call::CheckMap { source, target, map } => {
                 abi::check_map(&source.cells, source.order, &target.cells, target.order, map, &mut answer);
+            }
+            Call::CheckGenerated { table, generators } => {
+                abi::check_generated(&table.cells, table.order, generators, &mut answer);
             }
             Call::Search { kind, ask, source, target, map, scratch } => {
                 let search = match (kind, ask) {
@@ -145,6 +151,9 @@ impl Call {
                 let answer = tickdrizzle::check_map(&source.cells, source.order, &target.cells, target.order, map);
                 encoded(answer, check_values)
             }
+            Call::CheckGenerated { table, generators } => {
+                encoded(tickdrizzle::check_generated(&table.cells, table.order, generators), |()| vec![])
+            }
             Call::Search { kind, ask, source, target, map, scratch } => {
                 let search = match (kind, ask) {
                     (Kind::Embedding, Ask::First) => tickdrizzle::first_embedding,
@@ -173,6 +182,9 @@ impl Call {
             Call::Profile { table, element } => reference::profile(&table.cells, table.order, *element),
             Call::CheckMap { source, target, map } => {
                 reference::check_map(&source.cells, source.order, &target.cells, target.order, map)
+            }
+            Call::CheckGenerated { table, generators } => {
+                reference::check_generated(&table.cells, table.order, generators)
             }
             Call::Search { kind, ask, source, target, map, scratch } => {
                 reference::search(*kind, *ask, &source.cells, source.order, &target.cells, target.order, map, scratch)

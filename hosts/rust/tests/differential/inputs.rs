@@ -39,6 +39,23 @@ pub fn lend(random: &mut Random, semigroup: &Semigroup) -> Input {
     Input { table, family: semigroup.family }
 }
 
+/// A list of elements of a table of this order, with repeats: none, a few or all of them; at times an entry is another byte.
+pub fn chosen(random: &mut Random, order: usize) -> Lent {
+    let order = order.clamp(1, 120);
+    let length = match random.below(8) {
+        0 => 0,
+        1..=4 => random.within(1, 3),
+        _ => order,
+    };
+    let mut list: Vec<u8> =
+        (1..=length).map(|i| if length == order { i } else { random.within(1, order) } as u8).collect();
+    if length > 0 && random.one_in(8) {
+        let place = random.below(length);
+        list[place] = random.pick(&[0, order as u8 + 1, 255, 1]);
+    }
+    Lent::new(random, &list)
+}
+
 /// A semigroup's table with up to three cells changed, to elements or not.
 pub fn damaged(random: &mut Random, greatest: usize) -> Input {
     let Semigroup { mut cells, order, .. } = families::any(random, greatest);

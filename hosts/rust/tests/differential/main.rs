@@ -100,7 +100,8 @@ impl Comparison {
     /// Calls of one kind.
     fn some_calls(&mut self) {
         match self.random.below(40) {
-            0..=13 => self.one_table(),
+            0..=10 => self.one_table(),
+            11..=13 => self.lists(),
             14..=15 => self.map_check(),
             16..=21 => self.searches(),
             22..=23 => self.walk(),
@@ -120,6 +121,14 @@ impl Comparison {
             _ => Call::Profile { table, element },
         };
         self.compare(&mut call, family);
+    }
+
+    /// A table with a list of its elements.
+    fn lists(&mut self) {
+        let size = inputs::any_size(&mut self.random);
+        let Input { table, family } = inputs::table(&mut self.random, size);
+        let generators = inputs::chosen(&mut self.random, table.order);
+        self.compare(&mut Call::CheckGenerated { table, generators }, family);
     }
 
     fn map_check(&mut self) {

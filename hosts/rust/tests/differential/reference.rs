@@ -174,6 +174,48 @@ fn settling(table: &Table, element: usize, counts: &[usize]) -> Vec<u64> {
     numbers(&values)
 }
 
+impl Table<'_> {
+    /// The elements that a list generates, in rising order: a pass over all products of members after the other, until one
+    /// adds nothing.
+    fn generated(&self, list: &[u8]) -> Vec<usize> {
+        let mut members: Vec<usize> = list.iter().map(|&entry| usize::from(entry)).collect();
+        loop {
+            members.sort_unstable();
+            members.dedup();
+            let mut products = Vec::new();
+            for &x in &members {
+                products.extend(members.iter().map(|&y| self.product(x, y)));
+            }
+            if products.iter().all(|product| members.contains(product)) {
+                return members;
+            }
+            members.extend(products);
+        }
+    }
+
+    /// Whether every entry of a list is an element.
+    fn holds(&self, list: &[u8]) -> bool {
+        list.iter().all(|&entry| self.elements().contains(&usize::from(entry)))
+    }
+}
+
+pub fn check_generated(cells: &[u8], order: usize, generators: &[u8]) -> Answer {
+    answer(Table::filled(cells, order).and_then(|table| {
+        ask(table.holds(generators), 50)?;
+        ask(table.generated(generators).len() == order, 51)?;
+        for i in table.elements() {
+            for j in table.elements().filter(|&j| generators.contains(&(j as u8))) {
+                for k in table.elements() {
+                    if table.product(table.product(i, j), k) != table.product(i, table.product(j, k)) {
+                        return Err(no(4, &[i, j, k]));
+                    }
+                }
+            }
+        }
+        Ok(vec![])
+    }))
+}
+
 /// Embeddings or isomorphisms.
 #[derive(Clone, Copy, Debug, PartialEq, Eq)]
 pub enum Kind {

@@ -1,0 +1,331 @@
+-- Elements found one by one: what an addition makes of the list, of its array and of its marks; and that a list that is multiplied entry by entry with
+-- all before it ends as what was to be generated. Assumes nothing.
+use mathlib.Core.Path.{_≡_, refl, sym, ap, ap₂, _∙_, subst}
+use mathlib.Core.Bool.{true, false}
+use mathlib.Core.Logic.{_⊎_, inl, inr, ⊎-elim}
+use mathlib.Core.List.{List, [], _∷_, _++_, flatMap, append-nil, append-assoc, List·Memᴰ, List·Memᴰ·head, List·Memᴰ·tail, List·Memᴰ·not-nil, List·Memᴰ·cases-cons, List·Memᴰ·append-cases, List·Memᴰ·eq-of-singleton, Memᴰ·append-left, Memᴰ·append-right, Memᴰ·cast}
+use Prim.Native.Nat.{ℕ, zero, suc, _+_, _-_, _≤_, _<_, zero-le}
+use native.Mathlib.Numerals.{add-one}
+use native.Mathlib.Omega.{arith}
+use lib.ListN.{length, take, getD, set, replicate, length-append, List·getD-append}
+use lib.Seq.{take-suc, take-all, take-at, set-at, getD-take, length-take-le}
+use Rattle.semigroups.specs.Lists.{elements, member, NoRepeats}
+use Rattle.semigroups.specs.Tables.{Product, Element, Closed}
+use Rattle.semigroups.specs.Generated.{Inside, generated}
+use Rattle.semigroups.proofs.Booleans.{either, equal-or-not}
+use Rattle.semigroups.proofs.Lists.{length-elements, elements-mem, length-snoc, member-mem, not-member, sorted-append}
+use Rattle.semigroups.proofs.FlatMap.{mem-flatMap, flatMap-mem}
+use Rattle.semigroups.proofs.NoRepeats.{length-inside, mem-place, place-mem}
+use Rattle.semigroups.proofs.Generated.{same-length, generated-inside, generated-no-repeats, generated-closed, generated-holds, generated-smallest}
+use Rattle.generated.specs.Found.{indicator, adding, addingAll, productsWith, productsUpTo, Found}
+use Rattle.generated.proofs.Indicators.{indicator-nil, unmarked, is-marked, indicator-same, indicator-set}
+
+-- ---- one entry added
+
+module _ (r : List ℕ) (x : ℕ) where
+  adding-old : member x r ≡ true → adding r x ≡ r
+  unfolding adding
+  adding-old e = rw e
+
+  adding-new : member x r ≡ false → adding r x ≡ r ++ x ∷ []
+  unfolding adding
+  adding-new e = rw e
+
+  adding-holds : List·Memᴰ x (adding r x)
+  adding-holds = go (either (member x r))
+    where
+      go : (member x r ≡ true) ⊎ (member x r ≡ false) → List·Memᴰ x (adding r x)
+      go (inl e) = rw (adding-old e) (member-mem x r e)
+      go (inr e) = rw (adding-new e) (Memᴰ·append-right r (List·Memᴰ·head refl))
+
+  mem-adding : (y : ℕ) → List·Memᴰ y (adding r x) → List·Memᴰ y r ⊎ (y ≡ x)
+  mem-adding y m = go (either (member x r))
+    where
+      go : (member x r ≡ true) ⊎ (member x r ≡ false) → List·Memᴰ y r ⊎ (y ≡ x)
+      go (inl e) = inl (subst (List·Memᴰ y) (adding-old e) m)
+      go (inr e) = ⊎-elim (λ k. inl k) (λ k. inr (List·Memᴰ·eq-of-singleton k)) (List·Memᴰ·append-cases r (subst (List·Memᴰ y) (adding-new e) m))
+
+  -- The list goes on.
+  adding-more : (q : List ℕ) × (adding r x ≡ r ++ q)
+  adding-more = go (either (member x r))
+    where
+      go : (member x r ≡ true) ⊎ (member x r ≡ false) → (q : List ℕ) × (adding r x ≡ r ++ q)
+      go (inl e) = ([], adding-old e ∙ sym (append-nil r))
+      go (inr e) = (x ∷ [], adding-new e)
+
+-- ---- the entries of a list added in turn
+
+pub adding-last : (r l : List ℕ) (x : ℕ) → addingAll r (l ++ x ∷ []) ≡ adding (addingAll r l) x
+unfolding addingAll
+adding-last r [] x = refl
+adding-last r (y ∷ l) x = adding-last (adding r y) l x
+
+all-more : (r l : List ℕ) → (q : List ℕ) × (addingAll r l ≡ r ++ q)
+unfolding addingAll
+all-more r [] = ([], sym (append-nil r))
+all-more r (x ∷ l) =
+    let p = adding-more r x in
+    let u = all-more (adding r x) l in
+    (p .0 ++ u .0, u .1 ∙ ap (λ (a : List ℕ). a ++ u .0) (p .1) ∙ append-assoc r (p .0) (u .0))
+
+mem-all : (r l : List ℕ) (y : ℕ) → List·Memᴰ y (addingAll r l) → List·Memᴰ y r ⊎ List·Memᴰ y l
+unfolding addingAll
+mem-all r [] y m = inl m
+mem-all r (x ∷ l) y m = go (mem-all (adding r x) l y m)
+  where
+    go : List·Memᴰ y (adding r x) ⊎ List·Memᴰ y l → List·Memᴰ y r ⊎ List·Memᴰ y (x ∷ l)
+    go (inl k) = ⊎-elim (λ h. inl h) (λ e. inr (List·Memᴰ·head e)) (mem-adding r x y k)
+    go (inr k) = inr (List·Memᴰ·tail k)
+
+module _ (r l : List ℕ) where
+  all-keeps : (y : ℕ) → List·Memᴰ y r → List·Memᴰ y (addingAll r l)
+  all-keeps y m = let u = all-more r l in rw (u .1) (Memᴰ·append-left (u .0) m)
+
+  -- What was found stays in its place.
+  pub all-longer : length r ≤ length (addingAll r l)
+  all-longer = let u = all-more r l in omega (arith, ap length (u .1), length-append r (u .0))
+
+  pub all-place : (i : ℕ) → i < length r → getD (addingAll r l) i 0 ≡ getD r i 0
+  all-place i h = let u = all-more r l in ap (λ (a : List ℕ). getD a i 0) (u .1) ∙ List·getD-append r (u .0) 0 i h
+
+all-holds : (r l : List ℕ) (y : ℕ) → List·Memᴰ y l → List·Memᴰ y (addingAll r l)
+unfolding addingAll
+all-holds r [] y m = absurd (List·Memᴰ·not-nil m)
+all-holds r (x ∷ l) y (List·Memᴰ·head e) = all-keeps (adding r x) l y (subst (λ (z : ℕ). List·Memᴰ z (adding r x)) (sym e) (adding-holds r x))
+all-holds r (x ∷ l) y (List·Memᴰ·tail m) = all-holds (adding r x) l y m
+
+pub mem-take : (k : ℕ) (l : List ℕ) (y : ℕ) → List·Memᴰ y (take k l) → List·Memᴰ y l
+mem-take zero l y m = absurd (List·Memᴰ·not-nil m)
+mem-take (suc k) [] y m = m
+mem-take (suc k) (x ∷ l) y (List·Memᴰ·head e) = List·Memᴰ·head e
+mem-take (suc k) (x ∷ l) y (List·Memᴰ·tail m) = List·Memᴰ·tail (mem-take k l y m)
+
+-- ---- products of one entry
+
+-- One entry more.
+products-last : (s : Product) (x : ℕ) (l : List ℕ) (y : ℕ) → productsWith s x (l ++ y ∷ []) ≡ (productsWith s x l ++ s x y ∷ []) ++ s y x ∷ []
+unfolding productsWith flatMap
+products-last s x [] y = refl
+products-last s x (z ∷ l) y = ap {B = List ℕ} (λ (a : List ℕ). s x z ∷ s z x ∷ a) (products-last s x l y)
+
+mem-with : (s : Product) (x : ℕ) (l : List ℕ) (z : ℕ) → List·Memᴰ z (productsWith s x l) → (y : ℕ) × List·Memᴰ y l × ((z ≡ s x y) ⊎ (z ≡ s y x))
+unfolding productsWith
+mem-with s x l z m =
+    let w = mem-flatMap (λ y. s x y ∷ s y x ∷ []) l z m in
+    (w .0, w .1, ⊎-elim (λ e. inl e) (λ k. inr (List·Memᴰ·eq-of-singleton k)) (List·Memᴰ·cases-cons (w .2)))
+
+module _ (s : Product) (x : ℕ) (l : List ℕ) (y : ℕ) (m : List·Memᴰ y l) where
+  with-left : List·Memᴰ (s x y) (productsWith s x l)
+  unfolding productsWith
+  with-left = flatMap-mem (λ y. s x y ∷ s y x ∷ []) l y (s x y) m (List·Memᴰ·head refl)
+
+  with-right : List·Memᴰ (s y x) (productsWith s x l)
+  unfolding productsWith
+  with-right = flatMap-mem (λ y. s x y ∷ s y x ∷ []) l y (s y x) m (List·Memᴰ·tail (List·Memᴰ·head refl))
+
+-- The loop over the entries up to a place: i of them are done.
+module _ (s : Product) (r : List ℕ) (x : ℕ) where
+  unfoldable pub multipliedTo : ℕ → List ℕ
+  multipliedTo i = addingAll r (productsWith s x (take i r))
+
+  pub multiplied-none : multipliedTo 0 ≡ r
+  unfolding multipliedTo addingAll productsWith flatMap
+  multiplied-none = refl
+
+  pub multiplied-next : (i y : ℕ) → i < length r → y ≡ getD r i 0 → adding (adding (multipliedTo i) (s x y)) (s y x) ≡ multipliedTo (i + 1)
+  unfolding multipliedTo
+  multiplied-next i y h e =
+      let p = productsWith s x (take i r) in
+      ap (λ (a : List ℕ). adding a (s y x)) (sym (adding-last r p (s x y))) ∙ sym (adding-last r (p ++ s x y ∷ []) (s y x))
+      ∙ ap (addingAll r) (sym (ap (productsWith s x) (ap (λ (k : ℕ). take k r) (add-one i) ∙ take-suc r i 0 h ∙ ap (λ (z : ℕ). take i r ++ z ∷ []) (sym e)) ∙ products-last s x (take i r) y))
+
+  pub multiplied-place : (i j : ℕ) → j < length r → getD (multipliedTo i) j 0 ≡ getD r j 0
+  unfolding multipliedTo
+  multiplied-place i j h = all-place r (productsWith s x (take i r)) j h
+
+  pub multiplied-longer : (i : ℕ) → length r ≤ length (multipliedTo i)
+  unfolding multipliedTo
+  multiplied-longer i = all-longer r (productsWith s x (take i r))
+
+-- ---- the arrays
+
+pub found-none : Found (addingAll [] []) (replicate 120 0) (replicate 121 0) 0
+unfolding addingAll
+found-none = record { listed = refl; marked = indicator-nil; counted = refl; inside = λ x m. absurd (List·Memᴰ·not-nil m); no-repeats = tt }
+
+module _ {r found marks : List ℕ} {count : ℕ} (f : Found r found marks count) where
+  pub found-list : take count found ≡ r
+  found-list = ap (take count) (f .listed) ∙ take-at r (replicate (120 - length r) 0) count (sym (f .counted))
+
+  -- The same of what stands in the array.
+  pub found-again : Found (take count found) found marks count
+  found-again = subst (λ (l : List ℕ). Found l found marks count) (sym found-list) f
+
+  pub found-room : count ≤ 120
+  found-room =
+      let e = f .counted in
+      omega (arith, length-inside r (elements 120) (f .no-repeats) (λ x m. elements-mem 120 x (f .inside x m)), length-elements 120)
+
+  pub found-at : (i : ℕ) → i < length r → getD found i 0 ≡ getD r i 0
+  found-at i h = ap (λ (l : List ℕ). getD l i 0) (f .listed) ∙ List·getD-append r (replicate (120 - length r) 0) 0 i h
+
+  pub found-element : (n : ℕ) → Inside n r → (i : ℕ) → i < length r → Element n (getD found i 0)
+  found-element n inside i h = subst (Element n) (sym (found-at i h)) (inside (getD r i 0) (place-mem 0 r i h))
+
+  module _ (x : ℕ) (h : Element 120 x) where
+    -- An element that is there.
+    pub found-kept : (getD marks x 0 ≡ 0 → ⊥) → Found (adding r x) found marks count
+    found-kept e =
+        let there : member x r ≡ true = is-marked r x (h .1) (λ q. e (ap (λ (l : List ℕ). getD l x 0) (f .marked) ∙ q)) in
+        subst (λ (l : List ℕ). Found l found marks count) (sym (adding-old r x there)) f
+
+    -- A new one.
+    module _ (e : getD marks x 0 ≡ 0) where
+      absent : member x r ≡ false
+      absent = unmarked r x (h .1) (sym (ap (λ (l : List ℕ). getD l x 0) (f .marked)) ∙ e)
+
+      more-inside : Inside 120 (r ++ x ∷ [])
+      more-inside y m = ⊎-elim (λ k. f .inside y k) (λ k. subst (Element 120) (sym (List·Memᴰ·eq-of-singleton k)) h) (List·Memᴰ·append-cases r m)
+
+      more-no-repeats : NoRepeats (r ++ x ∷ [])
+      more-no-repeats =
+          sorted-append (λ (a b : ℕ). a ≡ b → ⊥) r (x ∷ []) (f .no-repeats) ((λ y m. absurd (List·Memᴰ·not-nil m)), tt)
+          (λ a b p q eq. not-member x r absent (Memᴰ·cast (sym (eq ∙ List·Memᴰ·eq-of-singleton q)) p))
+
+      pub found-space : count < 120
+      found-space =
+          let c = f .counted in
+          omega (arith, length-inside (r ++ x ∷ []) (elements 120) more-no-repeats (λ y m. elements-mem 120 y (more-inside y m)), length-elements 120, length-snoc r x)
+
+      pub found-added : Found (adding r x) (set found count x) (set marks x 1) (count + 1)
+      found-added =
+          let c = f .counted in
+          let space = found-space in
+          let rest = 120 - length (r ++ x ∷ []) in
+          let one : 120 - length r ≡ suc rest = omega (arith, length-snoc r x) in
+          subst (λ (l : List ℕ). Found l (set found count x) (set marks x 1) (count + 1)) (sym (adding-new r x absent))
+          (record {
+            listed = ap (λ (l : List ℕ). set l count x) (f .listed ∙ ap (λ (k : ℕ). r ++ replicate k 0) one) ∙ set-at r 0 (replicate rest 0) x count (sym c) ∙ sym (append-assoc r (x ∷ []) (replicate rest 0));
+            marked = ap (λ (l : List ℕ). set l x 1) (f .marked) ∙ indicator-set r x (h .1);
+            counted = omega (arith, length-snoc r x);
+            inside = more-inside;
+            no-repeats = more-no-repeats;
+          })
+
+-- ---- the loops
+
+-- An entry of the list is added.
+pub entry-added : (l : List ℕ) (i x : ℕ) {found marks found′ marks′ : List ℕ} {count count′ : ℕ} → i < length l → x ≡ getD l i 0 → Found (addingAll [] (take i l)) found marks count
+    → Found (adding (take count found) x) found′ marks′ count′ → Found (addingAll [] (take (i + 1) l)) found′ marks′ count′
+entry-added l i x {found} {marks} {found′} {marks′} {count} {count′} h e f g =
+    subst (λ (r : List ℕ). Found r found′ marks′ count′)
+    (ap (λ (r : List ℕ). adding r x) (found-list f) ∙ sym (adding-last [] (take i l) x)
+    ∙ ap (addingAll []) (sym (ap (λ (k : ℕ). take k l) (add-one i) ∙ take-suc l i 0 h ∙ ap (λ (y : ℕ). take i l ++ y ∷ []) (sym e)))) g
+
+-- Both products with an entry that was found are added.
+module _ (s : Product) (r : List ℕ) (x i : ℕ) {found marks : List ℕ} {count : ℕ} (f : Found (multipliedTo s r x i) found marks count) where
+  -- What was found before stands in its place.
+  pub still-at : (j : ℕ) → j < length r → getD found j 0 ≡ getD r j 0
+  still-at j h = found-at f j (let u = multiplied-longer s r x i in omega arith) ∙ multiplied-place s r x i j h
+
+  pub still-element : (n : ℕ) → Inside n r → (j : ℕ) → j < length r → Element n (getD found j 0)
+  still-element n inside j h = subst (Element n) (sym (still-at j h)) (inside (getD r j 0) (place-mem 0 r j h))
+
+  pub both-added : (xy yx : ℕ) {found′ marks′ found″ marks″ : List ℕ} {count′ count″ : ℕ} → i < length r → xy ≡ s x (getD found i 0) → yx ≡ s (getD found i 0) x
+      → Found (adding (take count found) xy) found′ marks′ count′ → Found (adding (take count′ found′) yx) found″ marks″ count″ → Found (multipliedTo s r x (i + 1)) found″ marks″ count″
+  both-added xy yx {found′} {marks′} {found″} {marks″} {count′} {count″} h p q g k =
+      subst (λ (a : List ℕ). Found a found″ marks″ count″)
+      (ap₂ adding (found-list g ∙ ap₂ adding (found-list f) p) q ∙ multiplied-next s r x i (getD found i 0) h (still-at i h)) k
+
+  pub all-added : (place : ℕ) → x ≡ getD r place 0 → i ≡ place + 1 → Found (addingAll r (productsUpTo s r place)) found marks count
+  unfolding multipliedTo productsUpTo
+  all-added place e q = subst (λ (a : List ℕ). Found a found marks count) (ap₂ (λ (y k : ℕ). addingAll r (productsWith s y (take k r))) e q) f
+
+-- ---- until nothing is new
+
+module _ (n : ℕ) (s : Product) (l : List ℕ) where
+  -- The list r holds l and nothing that l does not generate, and the products of its first entries.
+  pub record Growing (first : ℕ) (r : List ℕ) : Type 0 where
+    pub holds-list : (x : ℕ) → List·Memᴰ x l → List·Memᴰ x r
+    pub needed : (x : ℕ) → List·Memᴰ x r → List·Memᴰ x (generated n s l)
+    pub multiplied : (i j : ℕ) → i < first → j < first → List·Memᴰ (s (getD r i 0) (getD r j 0)) r
+
+  pub growing-inside : {first : ℕ} {r : List ℕ} → Growing first r → Inside n r
+  growing-inside g x m = generated-inside n s l x (g .needed x m)
+
+  module _ (closed : Closed n s) (inside : Inside n l) where
+    start : Growing 0 (addingAll [] l)
+    start =
+        record {
+          holds-list = λ x m. all-holds [] l x m;
+          needed = λ x m. ⊎-elim (λ k. absurd (List·Memᴰ·not-nil k)) (λ k. generated-holds n s l closed inside .holds-list x k) (mem-all [] l x m);
+          multiplied = λ i j h k. absurd (let z : ⊥ = omega arith in z);
+        }
+
+    pub growing-start : (i : ℕ) {found marks : List ℕ} {count : ℕ} → length l ≤ i → Found (addingAll [] (take i l)) found marks count → (0 ≤ count) × Found (take count found) found marks count × Growing 0 (take count found)
+    growing-start i h f = (zero-le, found-again f, subst (Growing 0) (sym (found-list f ∙ ap (addingAll []) (take-all i l h))) start)
+
+    module _ (place : ℕ) (r : List ℕ) (g : Growing place r) (h : place < length r) where
+      abbrev more : List ℕ
+      more = productsUpTo s r place
+
+      up-to : (i : ℕ) → i ≤ place → List·Memᴰ (getD r i 0) (take (place + 1) r)
+      up-to i u =
+          Memᴰ·cast (sym (getD-take (place + 1) r i 0 (omega arith)))
+          (place-mem 0 (take (place + 1) r) i (omega (arith, length-take-le (place + 1) r (omega arith))))
+
+      new-needed : (z : ℕ) → List·Memᴰ z more → List·Memᴰ z (generated n s l)
+      unfolding productsUpTo
+      new-needed z m =
+          let x = getD r place 0 in
+          let w = mem-with s x (take (place + 1) r) z m in
+          let p = g .needed x (place-mem 0 r place h) in
+          let q = g .needed (w .0) (mem-take (place + 1) r (w .0) (w .1)) in
+          ⊎-elim (λ e. Memᴰ·cast e (generated-closed n s l closed x (w .0) p q)) (λ e. Memᴰ·cast e (generated-closed n s l closed (w .0) x q p)) (w .2)
+
+      -- The products of the entries up to the place.
+      new-products : (i j : ℕ) → i < place + 1 → j < place + 1 → List·Memᴰ (s (getD r i 0) (getD r j 0)) (addingAll r more)
+      unfolding productsUpTo
+      new-products i j hi hj = go (equal-or-not i place) (equal-or-not j place)
+        where
+          go : (i ≡ place) ⊎ (i ≡ place → ⊥) → (j ≡ place) ⊎ (j ≡ place → ⊥) → List·Memᴰ (s (getD r i 0) (getD r j 0)) (addingAll r more)
+          go (inl e) d =
+              all-holds r more (s (getD r i 0) (getD r j 0))
+              (Memᴰ·cast (ap (λ (k : ℕ). s (getD r k 0) (getD r j 0)) e) (with-left s (getD r place 0) (take (place + 1) r) (getD r j 0) (up-to j (omega arith))))
+          go (inr ne) (inl e) =
+              all-holds r more (s (getD r i 0) (getD r j 0))
+              (Memᴰ·cast (ap (λ (k : ℕ). s (getD r i 0) (getD r k 0)) e) (with-right s (getD r place 0) (take (place + 1) r) (getD r i 0) (up-to i (omega arith))))
+          go (inr ne) (inr me) = all-keeps r more (s (getD r i 0) (getD r j 0)) (g .multiplied i j (omega arith) (omega arith))
+
+      next : Growing (place + 1) (addingAll r more)
+      next =
+          record {
+            holds-list = λ x m. all-keeps r more x (g .holds-list x m);
+            needed = λ x m. ⊎-elim (λ k. g .needed x k) (λ k. new-needed x k) (mem-all r more x m);
+            multiplied = λ i j hi hj. Memᴰ·cast (ap₂ s (all-place r more i (omega arith)) (all-place r more j (omega arith))) (new-products i j hi hj);
+          }
+
+      pub growing-next : {found marks : List ℕ} {count : ℕ} → Found (addingAll r more) found marks count → (place + 1 ≤ count) × Found (take count found) found marks count × Growing (place + 1) (take count found)
+      growing-next f =
+          let c = f .counted in
+          (omega (arith, all-longer r more), found-again f, subst (Growing (place + 1)) (sym (found-list f)) next)
+
+    module _ (place : ℕ) (r : List ℕ) (g : Growing place r) (h : length r ≤ place) where
+      all-found : (x : ℕ) → List·Memᴰ x (generated n s l) → List·Memᴰ x r
+      all-found =
+          generated-smallest n s l closed inside .inside-others (λ x. List·Memᴰ x r)
+          (record {
+            holds-list = g .holds-list;
+            holds-products = λ x y p q.
+                let u = mem-place 0 r p in
+                let v = mem-place 0 r q in
+                let u1 = u .1 in
+                let v1 = v .1 in
+                Memᴰ·cast (sym (ap₂ s (u .2) (v .2))) (g .multiplied (u .0) (v .0) (omega arith) (omega arith));
+          })
+
+      pub growing-marks : indicator r ≡ indicator (generated n s l)
+      growing-marks = indicator-same r (generated n s l) (g .needed) all-found
+
+      pub growing-count : NoRepeats r → length r ≡ length (generated n s l)
+      growing-count u = same-length r (generated n s l) u (generated-no-repeats n s l) (g .needed) all-found

@@ -1,0 +1,4 @@
+pub mod Indicators
+pub mod Found
+pub mod Questions
+pub mod Refusals

@@ -1,0 +1,12 @@
+-- The refusals of a table with a list of its generators are brief. Assumes nothing.
+use native.Mathlib.Omega.{arith}
+use Rattle.tables.specs.Answers.{Brief}
+use Rattle.tables.proofs.Refusals.{fault-brief}
+use Rattle.generated.specs.Answers.{generatorsFaultRefusal}
+use Rattle.generated.specs.declared.GeneratorsFault.{GeneratorsFault}
+use Rattle.generated.specs.declared.GeneratorsFault.the-variants.{Table, Entry, Elements}
+
+pub generators-fault-brief : (f : GeneratorsFault) → Brief (generatorsFaultRefusal f)
+generators-fault-brief (Table f) = fault-brief f
+generators-fault-brief Entry = record { few-values = omega arith; two-digits = omega arith }
+generators-fault-brief Elements = record { few-values = omega arith; two-digits = omega arith }

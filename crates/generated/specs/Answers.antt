@@ -1,0 +1,21 @@
+-- What the answers about a table and a list of its elements mean (02, viii): for each case the number of the question and the values said with it.
+-- Assumes nothing.
+use mathlib.Core.List.{[]}
+use mathlib.Core.Option.{Option, none, some}
+use Rattle.semigroups.specs.Questions.{Refusal, no}
+use Rattle.tables.specs.Answers.{faultRefusal}
+use Rattle.generated.specs.declared.GeneratorsFault.{GeneratorsFault}
+use Rattle.generated.specs.declared.GeneratorsFault.the-variants.{Table, Entry, Elements}
+use Rattle.generated.specs.declared.GeneratorsVerdict.{GeneratorsVerdict}
+use Rattle.generated.specs.declared.GeneratorsVerdict.the-variants.{Accepted, Refused}
+
+-- The table's fault as it is; 50 and 51 carry nothing.
+abbrev pub generatorsFaultRefusal : GeneratorsFault → Refusal
+generatorsFaultRefusal (Table fault) = faultRefusal fault
+generatorsFaultRefusal Entry = no 50 []
+generatorsFaultRefusal Elements = no 51 []
+
+-- An accepted table has no failed question.
+abbrev pub generatorsVerdictRefusal : GeneratorsVerdict → Option Refusal
+generatorsVerdictRefusal Accepted = none
+generatorsVerdictRefusal (Refused fault) = some (generatorsFaultRefusal fault)
