@@ -58,6 +58,9 @@ extern "C" {
 #define TICKDRIZZLE_NO_TEXT_ROOM 28     /* has the buffer room for the text? */
 #define TICKDRIZZLE_NO_GENERATOR 50     /* is every entry of the list 1 to n? */
 #define TICKDRIZZLE_NO_GENERATION 51    /* does the list generate all n elements? An empty one generates none */
+#define TICKDRIZZLE_NO_CHOSEN 60        /* is the list not empty and every entry 1 to n? */
+#define TICKDRIZZLE_NO_PART_ROOM 61     /* has the buffer room for the cells of the part? */
+#define TICKDRIZZLE_NO_ELEMENTS_ROOM 62 /* has the buffer room for the elements of the part? */
 
 /* The table that a refusal by questions 1 to 4 names, in a call with two tables. */
 #define TICKDRIZZLE_SOURCE 1
@@ -101,6 +104,14 @@ void tickdrizzle_check_map(const uint8_t *source, size_t source_length, size_t s
    Says no values; writes nothing but the answer. */
 void tickdrizzle_check_generated(const uint8_t *cells, size_t cells_length, size_t order, const uint8_t *generators,
                                  size_t generators_length, uint64_t *TICKDRIZZLE_RESTRICT answer);
+
+/* The smallest part of a table that holds the chosen elements and every product of its own members: its k elements in rising order, which
+   are an embedding of the part in the table, and their own table, renumbered 1 to k (questions 1 to 4, 60, 61, 62).
+   Says k; writes the first k bytes of elements and the first k * k bytes of part. */
+void tickdrizzle_subsemigroup(const uint8_t *cells, size_t cells_length, size_t order, const uint8_t *chosen,
+                              size_t chosen_length, uint8_t *TICKDRIZZLE_RESTRICT part, size_t part_length,
+                              uint8_t *TICKDRIZZLE_RESTRICT elements, size_t elements_length,
+                              uint64_t *TICKDRIZZLE_RESTRICT answer);
 
 /*
  * The four searches ask 1 to 4 of the source, of the target, 5 and 6, and say TICKDRIZZLE_FOUND or TICKDRIZZLE_NONE. Found:

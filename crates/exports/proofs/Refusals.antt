@@ -12,6 +12,8 @@ use Rattle.semigroups.specs.Lists.{all, member}
 use Rattle.semigroups.specs.Tables.{product}
 use Rattle.semigroups.specs.Questions.{Question, Refusal, firstNo, numbers, tableQuestions, tableRefusal, elementQuestions, elementRefusal, checkQuestions, checkRefusal, searchQuestions, searchRefusal}
 use Rattle.semigroups.specs.Light.{generatorsQuestions, generatorsRefusal}
+use Rattle.semigroups.specs.Generated.{generated}
+use Rattle.semigroups.specs.Subsemigroups.{subsemigroupQuestions, subsemigroupRefusal}
 use Rattle.semigroups.specs.Transformations.{transformationOrder, transformationQuestions, transformationRefusal}
 use Rattle.semigroups.specs.Calls.{givenUnless}
 use Rattle.semigroups.specs.Maps.{Kind, sought}
@@ -19,6 +21,7 @@ use Rattle.semigroups.specs.MapCheck.{checkMap}
 use Rattle.semigroups.proofs.Booleans.{clash}
 use Rattle.semigroups.proofs.Questions.{number-listed, Listed, listed}
 use Rattle.maps.specs.Answers.{mapCheck}
+use Rattle.generated.specs.Answers.{subsemigroupSays}
 use Rattle.transformations.specs.Answers.{transformationSays}
 use Rattle.csv.specs.Tables.{orderOf, tableText}
 use Rattle.csv.specs.Questions.{sizeQuestions, loadQuestions, loadRefusal, saveQuestions, saveRefusal}
@@ -91,6 +94,12 @@ search-told kind request l =
 pub generators-told : (n : ℕ) (cells l : List ℕ) → Tells (questionWords (generatorsRefusal n cells l)) (generatorsRefusal n cells l)
 unfolding generatorsRefusal member
 generators-told n cells l = questions-told (numbered (generatorsQuestions n cells l) refl)
+
+pub subsemigroup-told : (n : ℕ) (cells l : List ℕ) (cellsLength elementsLength : ℕ)
+    → Tells (answerWords numberValues (subsemigroupSays n cells l cellsLength elementsLength)) (subsemigroupRefusal n cells l cellsLength elementsLength)
+unfolding subsemigroupSays subsemigroupRefusal member
+subsemigroup-told n cells l cellsLength elementsLength =
+    answer-told numberValues (length (generated n (product n cells) l)) (numbered (subsemigroupQuestions n cells l cellsLength elementsLength) refl)
 
 pub transformations-told : (d size : ℕ) → Tells (answerWords numberValues (transformationSays d size)) (transformationRefusal d size)
 unfolding transformationSays transformationRefusal member

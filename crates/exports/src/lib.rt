@@ -12,7 +12,7 @@ ghost use Rattle.semigroups.specs.Calls.{givenUnless};
 ghost use Rattle.tables.specs.Answers.{verdictRefusal};
 ghost use Rattle.invariants.specs.Answers.{indexPeriodSays, profileSays};
 ghost use Rattle.maps.specs.Answers.{mapCheck, mapAnswerSays};
-ghost use Rattle.generated.specs.Answers.{generatorsVerdictRefusal};
+ghost use Rattle.generated.specs.Answers.{generatorsVerdictRefusal, subsemigroupSays, partAfter, elementsAfter, subsemigroupAnswerSays};
 ghost use Rattle.search.specs.Calls.{theFirst, theNext, lend, call};
 ghost use Rattle.search.specs.Answers.{searchAnswerSays};
 ghost use Rattle.transformations.specs.Answers.{transformationSays, transformationCellsAfter, transformationAnswerSays};
@@ -20,6 +20,7 @@ ghost use Rattle.csv.specs.Calls.{loadAnswer, cellsAfter, saveAnswer, textAfter
 ghost use Rattle.text.specs.Answers.{loadedAnswer, savedAnswer};
 ghost use Rattle.exports.specs.Answers.{words, numbersWords, questionWords, answerWords, indexPeriodValues, profileValues, checkedValues, soughtValues, numberValues};
 use generated::GeneratorsVerdict;
+use generated::SubsemigroupAnswer;
 use invariants::IndexPeriodAnswer;
 use invariants::ProfileAnswer;
 use maps::MapAnswer;
@@ -118,6 +119,15 @@ fn generators_words(verdict: GeneratorsVerdict) -> [u64; 16]
     match verdict {
         GeneratorsVerdict::Accepted => [0; 16],
         GeneratorsVerdict::Refused(fault) => refusal_words(fault.refusal()),
+    }
+}
+
+fn subsemigroup_words(said: SubsemigroupAnswer) -> [u64; 16]
+    ensures answer { λ r. ⌜ r ≡ answerWords numberValues (subsemigroupAnswerSays said) ⌝ }
+{
+    match said {
+        SubsemigroupAnswer::Order(k) => words(0, 0, &[k]),
+        SubsemigroupAnswer::Refused(fault) => refusal_words(fault.refusal()),
     }
 }
 
@@ -302,6 +312,24 @@ pub extern "C" fn tickdrizzle_check_generated(
     ensures answer { λ _. ⌜ now (answer .exit) ≡ questionWords (generatorsRefusal order (now (cells .entry)) (now (generators .entry))) ⌝ }
 {
     *answer = generators_words(generated::check(cells, order, generators));
+}
+
+// Writes the elements that the chosen ones generate, in rising order, to the start of `elements`, and their table, renumbered, to the start of `part`.
+// Value: its order.
+#[no_mangle]
+pub extern "C" fn tickdrizzle_subsemigroup(
+    cells: &[u8],
+    order: usize,
+    chosen: &[u8],
+    part: &mut [u8],
+    elements: &mut [u8],
+    answer: &mut [u64; 16],
+)
+    ensures answer { λ _. ⌜ now (answer .exit) ≡ answerWords numberValues (subsemigroupSays order (now (cells .entry)) (now (chosen .entry)) (length (now (part .entry))) (length (now (elements .entry)))) ⌝ }
+    ensures part { λ _. ⌜ now (part .exit) ≡ partAfter order (now (cells .entry)) (now (chosen .entry)) (now (part .entry)) (length (now (elements .entry))) ⌝ }
+    ensures elements { λ _. ⌜ now (elements .exit) ≡ elementsAfter order (now (cells .entry)) (now (chosen .entry)) (length (now (part .entry))) (now (elements .entry)) ⌝ }
+{
+    *answer = subsemigroup_words(generated::subsemigroup(cells, order, chosen, part, elements));
 }
 
 // ---- transformations

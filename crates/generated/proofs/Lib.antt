@@ -1,4 +1,5 @@
 pub mod Indicators
 pub mod Found
 pub mod Questions
+pub mod Parts
 pub mod Refusals

@@ -1,16 +1,21 @@
 // What a list of elements generates: the smallest set that holds the list and every product of the set's own members. `check` is the shorter check of a
-// table whose generators are known. It takes cells, an order and a list of any content; the first "no" is the answer.
+// table whose generators are known, and `subsemigroup` makes a table of what a list generates. Both take cells, an order and a list of any content; the
+// first "no" is the answer, and the buffers then keep their bytes.
 ghost use mathlib.Core.Path.{_≡_};
 ghost use mathlib.Core.Option.{Option·map};
-ghost use Prim.Native.Nat.{_<_};
+ghost use Prim.Native.Nat.{_*_, _≤_, _<_};
 ghost use lib.ListN.{length, take};
+ghost use Rattle.semigroups.specs.Lists.{NoRepeats};
 ghost use Rattle.semigroups.specs.Tables.{Element, Filled, product};
 ghost use Rattle.semigroups.specs.Questions.{no};
+ghost use Rattle.semigroups.specs.Calls.{overwritten};
 ghost use Rattle.semigroups.specs.Generated.{Inside, generated};
 ghost use Rattle.semigroups.specs.Light.{badTripleThrough, generatorsRefusal};
+ghost use Rattle.semigroups.specs.Subsemigroups.{partCells};
 ghost use Rattle.tables.specs.Answers.{verdictRefusal, refusalNumbers};
 ghost use Rattle.generated.specs.Found.{indicator, adding, addingAll, productsUpTo, Found};
-ghost use Rattle.generated.specs.Answers.{generatorsFaultRefusal, generatorsVerdictRefusal};
+ghost use Rattle.generated.specs.Parts.{markedElements, numbering, ClosedPart};
+ghost use Rattle.generated.specs.Answers.{generatorsFaultRefusal, generatorsVerdictRefusal, subsemigroupFaultRefusal, subsemigroupAnswerSays, subsemigroupSays, partAfter, elementsAfter};
 use tables::Fault;
 use tables::Place;
 use tables::Refusal;
@@ -179,4 +184,123 @@ pub fn check(cells: &[u8], n: usize, generators: &[u8]) -> GeneratorsVerdict
         Verdict::Refused(fault) => GeneratorsVerdict::Refused(GeneratorsFault::Table(fault)),
         Verdict::Accepted => GeneratorsVerdict::Accepted,
     }
+}
+
+// ---- the subsemigroup as a table of its own
+
+// Why a part is refused: its table's fault, or questions 60 to 62.
+pub enum SubsemigroupFault {
+    Table(Fault),
+    Chosen,
+    Cells,
+    Elements,
+}
+
+impl SubsemigroupFault {
+    pub fn refusal(self) -> Refusal
+        ensures answer { λ r. ⌜ r ≡ refusalNumbers (subsemigroupFaultRefusal self) ⌝ }
+    {
+        match self {
+            SubsemigroupFault::Table(fault) => fault.refusal(),
+            SubsemigroupFault::Chosen => Refusal::by(60, 0),
+            SubsemigroupFault::Cells => Refusal::by(61, 0),
+            SubsemigroupFault::Elements => Refusal::by(62, 0),
+        }
+    }
+}
+
+pub enum SubsemigroupAnswer {
+    // The part is written: its order.
+    Order(usize),
+    Refused(SubsemigroupFault),
+}
+
+// Writes the marked elements in rising order.
+fn write_elements(marks: &[u8; 121], n: usize, elements: &mut [u8])
+    requires { ⌜ n ≤ 120 ⌝ ∗ ⌜ length (markedElements n (now marks)) ≤ length (now elements) ⌝ }
+    ensures elements { λ r. ⌜ now (elements .exit) ≡ overwritten (markedElements n (now (marks .entry))) (now (elements .entry)) ⌝ }
+{
+    let mut place: usize = 0;
+    let mut x: usize = 1;
+    while x <= n {
+        if marks[x] == 1 {
+            elements[place] = x as u8;
+            place += 1;
+        }
+        x += 1;
+    }
+}
+
+// The numbers of the first k elements: place x holds that of x where x is one of them, else 0.
+fn numbers_of(elements: &[u8], k: usize) -> [u8; 121]
+    requires { ⌜ k ≤ length (now elements) ⌝ ∗ ⌜ Inside 120 (take k (now elements)) ⌝ ∗ ⌜ NoRepeats (take k (now elements)) ⌝ }
+    ensures answer { λ r. ⌜ r ≡ numbering (take k (now (elements .entry))) ⌝ }
+{
+    let mut numbers = [0u8; 121];
+    let mut i: usize = 0;
+    while i < k {
+        let x = elements[i] as usize;
+        i += 1;
+        numbers[x] = i as u8;
+    }
+    numbers
+}
+
+// Writes the table of the first k elements, renumbered, row after row.
+fn write_part(cells: &[u8], n: usize, elements: &[u8], k: usize, part: &mut [u8])
+    requires { ⌜ Filled n (now cells) ⌝ ∗ ⌜ k ≤ length (now elements) ⌝ ∗ ⌜ ClosedPart n (product n (now cells)) (take k (now elements)) ⌝ ∗ ⌜ k * k ≤ length (now part) ⌝ }
+    ensures part { λ r. ⌜ now (part .exit) ≡ overwritten (partCells (product n (now (cells .entry))) (take k (now (elements .entry)))) (now (part .entry)) ⌝ }
+{
+    let numbers = numbers_of(elements, k);
+    let mut place: usize = 0;
+    let mut i: usize = 1;
+    while i <= k {
+        let x = elements[i - 1] as usize;
+        let mut j: usize = 1;
+        while j <= k {
+            let y = elements[j - 1] as usize;
+            let xy = tables::times(cells, n, x, y);
+            part[place] = numbers[xy];
+            place += 1;
+            j += 1;
+        }
+        i += 1;
+    }
+}
+
+// Writes the elements that the chosen ones generate, in rising order, into `elements` and their table, renumbered, into `part`, and answers its order.
+pub fn subsemigroup(
+    cells: &[u8],
+    n: usize,
+    chosen: &[u8],
+    part: &mut [u8],
+    elements: &mut [u8],
+) -> SubsemigroupAnswer
+    ensures answer { λ r. ⌜ subsemigroupAnswerSays r ≡ subsemigroupSays n (now (cells .entry)) (now (chosen .entry)) (length (now (part .entry))) (length (now (elements .entry))) ⌝ }
+    ensures part { λ r. ⌜ now (part .exit) ≡ partAfter n (now (cells .entry)) (now (chosen .entry)) (now (part .entry)) (length (now (elements .entry))) ⌝ }
+    ensures elements { λ r. ⌜ now (elements .exit) ≡ elementsAfter n (now (cells .entry)) (now (chosen .entry)) (length (now (part .entry))) (now (elements .entry)) ⌝ }
+{
+    let table = tables::check(cells, n);
+    if let Verdict::Refused(fault) = table {
+        return SubsemigroupAnswer::Refused(SubsemigroupFault::Table(fault));
+    }
+    if chosen.len() < 1 {
+        return SubsemigroupAnswer::Refused(SubsemigroupFault::Chosen);
+    }
+    let entry = tables::outside(chosen, n);
+    if let Place::At(_) = entry {
+        return SubsemigroupAnswer::Refused(SubsemigroupFault::Chosen);
+    }
+    let generated = generate(cells, n, chosen);
+    let k = generated.count;
+    if part.len() < k * k {
+        return SubsemigroupAnswer::Refused(SubsemigroupFault::Cells);
+    }
+    if elements.len() < k {
+        return SubsemigroupAnswer::Refused(SubsemigroupFault::Elements);
+    }
+    let marks = generated.marks;
+    write_elements(&marks, n, elements);
+    write_part(cells, n, elements, k, part);
+    SubsemigroupAnswer::Order(k)
 }

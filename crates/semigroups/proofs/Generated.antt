@@ -1,15 +1,16 @@
 -- What a list generates: the list that n steps of growing make is the smallest set that holds the list and every product of its own members, for any
 -- product that stays within the order. The idea: while the set does not hold all its products, each step adds an element. Assumes nothing.
-use mathlib.Core.Path.{_≡_, subst, _∙_}
+use mathlib.Core.Path.{_≡_, refl, ap₂, subst, _∙_}
+use mathlib.Core.Bool.{Bool, cond}
 use mathlib.Core.Logic.{_⊎_, inl, inr, ⊎-elim, _↔_}
-use mathlib.Core.List.{List, _∷_, _++_, map, List·Memᴰ, List·Memᴰ·cases-cons, List·Memᴰ·append-cases, Memᴰ·append-left, Memᴰ·append-right, Memᴰ·map, Memᴰ·of-map, Memᴰ·cast}
+use mathlib.Core.List.{List, [], _∷_, _++_, map, List·Memᴰ, List·Memᴰ·head, List·Memᴰ·tail, List·Memᴰ·cases-cons, List·Memᴰ·append-cases, Memᴰ·append-left, Memᴰ·append-right, Memᴰ·map, Memᴰ·of-map, Memᴰ·cast}
 use Prim.Native.Nat.{ℕ, zero, suc, _≤_, _<_, zero-le}
 use native.Mathlib.Omega.{arith}
 use lib.ListN.{length}
-use Rattle.semigroups.specs.Lists.{range, elements, member, Sorted, NoRepeats}
+use Rattle.semigroups.specs.Lists.{range, elements, keep, member, Sorted, NoRepeats}
 use Rattle.semigroups.specs.Tables.{Product, Element, Closed}
 use Rattle.semigroups.specs.Generated.{Inside, HoldsProducts, Smallest, setOf, products, grown, generated, GeneratedTheorem}
-use Rattle.semigroups.proofs.Booleans.{at-most-or-above}
+use Rattle.semigroups.proofs.Booleans.{same-truth, at-most-or-above}
 use Rattle.semigroups.proofs.Lists.{length-elements, mem-elements, elements-mem, mem-keep, keep-mem, member-mem, mem-member, mem-or-not, sorted-keep, sorted-range, sorted-weaken}
 use Rattle.semigroups.proofs.FlatMap.{mem-flatMap, flatMap-mem}
 use Rattle.semigroups.proofs.NoRepeats.{length-inside, elements-no-repeats}
@@ -38,6 +39,11 @@ same-length p q u v to from = let a = length-inside p q u to in let b = length-i
 
 -- ---- the set of a list
 
+pub keep-agree : {A : Type 0} (p q : A → Bool) (l : List A) → ((x : A) → List·Memᴰ x l → p x ≡ q x) → keep p l ≡ keep q l
+unfolding keep
+keep-agree p q [] h = refl
+keep-agree {A} p q (x ∷ l) h = ap₂ (λ (b : Bool) (r : List A). cond b (x ∷ r) r) (h x (List·Memᴰ·head refl)) (keep-agree p q l (λ y m. h y (List·Memᴰ·tail m)))
+
 module _ (n : ℕ) (l : List ℕ) where
   pub mem-setOf : (x : ℕ) → List·Memᴰ x (setOf n l) → Element n x × List·Memᴰ x l
   unfolding setOf
@@ -50,6 +56,15 @@ module _ (n : ℕ) (l : List ℕ) where
   pub setOf-rising : Sorted _<_ (setOf n l)
   unfolding setOf elements
   setOf-rising = sorted-keep _<_ (λ x. member x l) (range 1 n) (sorted-range 1 n)
+
+-- Lists with the same elements have one set.
+pub setOf-same : (n : ℕ) (p q : List ℕ) → ((x : ℕ) → Element n x → List·Memᴰ x p → List·Memᴰ x q) → ((x : ℕ) → Element n x → List·Memᴰ x q → List·Memᴰ x p) → setOf n p ≡ setOf n q
+unfolding setOf
+setOf-same n p q to from =
+    keep-agree (λ x. member x p) (λ x. member x q) (elements n)
+    (λ x m.
+    let h = mem-elements n x m in
+    same-truth (member x p) (member x q) (λ e. mem-member x q (to x h (member-mem x p e))) (λ e. mem-member x p (from x h (member-mem x q e))))
 
 -- ---- products of two entries
 
@@ -145,6 +160,17 @@ module _ (n : ℕ) (s : Product) (l : List ℕ) where
 
   pub generated-no-repeats : NoRepeats (generated n s l)
   generated-no-repeats = rising-no-repeats (generated n s l) generated-rising
+
+  pub generated-set : setOf n (generated n s l) ≡ generated n s l
+  unfolding generated grown
+  generated-set = go n
+    where
+      again : (r : List ℕ) → setOf n (setOf n r) ≡ setOf n r
+      again r = setOf-same n (setOf n r) r (λ x h m. mem-setOf n r x m .1) (λ x h m. setOf-mem n r x h m)
+
+      go : (k : ℕ) → setOf n (grown n s l k) ≡ grown n s l k
+      go zero = again l
+      go (suc k) = again (grown n s l k ++ products s (grown n s l k))
 
   module _ (closed : Closed n s) where
     pub generated-closed : ClosedList s (generated n s l)

@@ -15,3 +15,4 @@ pub mod Passing
 pub mod Cases
 pub mod Generated
 pub mod Light
+pub mod Subsemigroups

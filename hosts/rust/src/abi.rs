@@ -38,6 +38,18 @@ extern "C" {
         generators_length: usize,
         answer: &mut Answer,
     );
+    fn tickdrizzle_subsemigroup(
+        cells: *const u8,
+        cells_length: usize,
+        order: usize,
+        chosen: *const u8,
+        chosen_length: usize,
+        part: *mut u8,
+        part_length: usize,
+        elements: *mut u8,
+        elements_length: usize,
+        answer: &mut Answer,
+    );
     fn tickdrizzle_transformations(degree: usize, cells: *mut u8, cells_length: usize, answer: &mut Answer);
     fn tickdrizzle_load(text: *const u8, text_length: usize, cells: *mut u8, cells_length: usize, answer: &mut Answer);
     fn tickdrizzle_save(
@@ -88,6 +100,30 @@ pub fn check_map(
 pub fn check_generated(cells: &[u8], order: usize, generators: &[u8], answer: &mut Answer) {
     unsafe {
         tickdrizzle_check_generated(cells.as_ptr(), cells.len(), order, generators.as_ptr(), generators.len(), answer)
+    }
+}
+
+pub fn subsemigroup(
+    cells: &[u8],
+    order: usize,
+    chosen: &[u8],
+    part: &mut [u8],
+    elements: &mut [u8],
+    answer: &mut Answer,
+) {
+    unsafe {
+        tickdrizzle_subsemigroup(
+            cells.as_ptr(),
+            cells.len(),
+            order,
+            chosen.as_ptr(),
+            chosen.len(),
+            part.as_mut_ptr(),
+            part.len(),
+            elements.as_mut_ptr(),
+            elements.len(),
+            answer,
+        )
     }
 }
 

@@ -69,6 +69,12 @@ pub enum Question {
     Generator,
     /// 51: does the list generate all n elements? An empty one generates none.
     Generation,
+    /// 60: is the list not empty and every entry 1 to n?
+    Chosen,
+    /// 61: has the buffer room for the cells of the part?
+    PartRoom,
+    /// 62: has the buffer room for the elements of the part?
+    ElementsRoom,
 }
 
 impl Question {
@@ -94,6 +100,9 @@ impl Question {
             Question::TextRoom => 28,
             Question::Generator => 50,
             Question::Generation => 51,
+            Question::Chosen => 60,
+            Question::PartRoom => 61,
+            Question::ElementsRoom => 62,
         }
     }
 
@@ -118,6 +127,9 @@ impl Question {
             28 => Question::TextRoom,
             50 => Question::Generator,
             51 => Question::Generation,
+            60 => Question::Chosen,
+            61 => Question::PartRoom,
+            62 => Question::ElementsRoom,
             other => panic!("no question has the number {other}"),
         }
     }

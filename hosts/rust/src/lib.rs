@@ -82,6 +82,19 @@ pub fn check_generated(cells: &[u8], order: usize, generators: &[u8]) -> Result<
     answered(|answer| abi::check_generated(cells, order, generators, answer), |_| ())
 }
 
+/// Writes the smallest part of a table that holds the chosen elements and every product of its own members: its k elements,
+/// in rising order, to the front of `elements`, and their table, renumbered 1 to k, to the front of `part`; k. The elements
+/// are then an embedding of the part in the table.
+pub fn subsemigroup(
+    cells: &[u8],
+    order: usize,
+    chosen: &[u8],
+    part: &mut [u8],
+    elements: &mut [u8],
+) -> Result<usize, Refusal> {
+    answered(|answer| abi::subsemigroup(cells, order, chosen, part, elements, answer), answers::size)
+}
+
 /// The four searches, which differ in the map they are after.
 macro_rules! searches {
     ($($(#[$says:meta])* $name:ident;)*) => {$(

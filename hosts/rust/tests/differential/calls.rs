@@ -62,6 +62,7 @@ pub enum Call {
     Profile { table: LentTable, element: usize },
     CheckMap { source: LentTable, target: LentTable, map: Lent },
     CheckGenerated { table: LentTable, generators: Lent },
+    Subsemigroup { table: LentTable, chosen: Lent, part: Lent, elements: Lent },
     Search { kind: Kind, ask: Ask, source: LentTable, target: LentTable, map: Lent, scratch: Lent },
     Transformations { degree: usize, cells: Lent },
     Load { text: Lent, cells: Lent },
@@ -69,12 +70,13 @@ pub enum Call {
 }
 
 /// The functions' names, in the order of the header.
-pub const FUNCTIONS: [&str; 12] = [
+pub const FUNCTIONS: [&str; 13] = [
     "check_table",
     "index_period",
     "profile",
     "check_map",
     "check_generated",
+    "subsemigroup",
     "first_embedding",
     "next_embedding",
     "first_isomorphism",
@@ -92,6 +94,7 @@ impl Call {
             Call::Profile { .. } => "profile",
             Call::CheckMap { .. } => "check_map",
             Call::CheckGenerated { .. } => "check_generated",
+            Call::Subsemigroup { .. } => "subsemigroup",
             Call::Search { kind: Kind::Embedding, ask: Ask::First, .. } => "first_embedding",
             Call::Search { kind: Kind::Embedding, ask: Ask::Next, .. } => "next_embedding",
             Call::Search { kind: Kind::Isomorphism, ask: Ask::First, .. } => "first_isomorphism",
@@ -116,6 +119,9 @@ impl Call {
             }
             Call::CheckGenerated { table, generators } => {
                 abi::check_generated(&table.cells, table.order, generators, &mut answer);
+            }
+            Call::Subsemigroup { table, chosen, part, elements } => {
+                abi::subsemigroup(&table.cells, table.order, chosen, part, elements, &mut answer);
             }
             Call::Search { kind, ask, source, target, map, scratch } => {
                 let search = match (kind, ask) {
@@ -154,6 +160,10 @@ impl Call {
             Call::CheckGenerated { table, generators } => {
                 encoded(tickdrizzle::check_generated(&table.cells, table.order, generators), |()| vec![])
             }
+            Call::Subsemigroup { table, chosen, part, elements } => {
+                let answer = tickdrizzle::subsemigroup(&table.cells, table.order, chosen, part, elements);
+                encoded(answer, |order| vec![order])
+            }
             Call::Search { kind, ask, source, target, map, scratch } => {
                 let search = match (kind, ask) {
                     (Kind::Embedding, Ask::First) => tickdrizzle::first_embedding,
@@ -185,6 +195,9 @@ impl Call {
             }
             Call::CheckGenerated { table, generators } => {
                 reference::check_generated(&table.cells, table.order, generators)
+            }
+            Call::Subsemigroup { table, chosen, part, elements } => {
+                reference::subsemigroup(&table.cells, table.order, chosen, part, elements)
             }
             Call::Search { kind, ask, source, target, map, scratch } => {
                 reference::search(*kind, *ask, &source.cells, source.order, &target.cells, target.order, map, scratch)

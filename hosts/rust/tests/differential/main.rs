@@ -127,8 +127,23 @@ impl Comparison {
     fn lists(&mut self) {
         let size = inputs::any_size(&mut self.random);
         let Input { table, family } = inputs::table(&mut self.random, size);
-        let generators = inputs::chosen(&mut self.random, table.order);
-        self.compare(&mut Call::CheckGenerated { table, generators }, family);
+        let list = inputs::chosen(&mut self.random, table.order);
+        let mut call = if self.random.one_in(2) {
+            Call::CheckGenerated { table, generators: list }
+        } else {
+            self.subsemigroup(table, list)
+        };
+        self.compare(&mut call, family);
+    }
+
+    /// Buffers of lengths around those that are asked for.
+    fn subsemigroup(&mut self, table: LentTable, chosen: Lent) -> Call {
+        let members = reference::generated(&table.cells, table.order, &chosen).len();
+        let part_length = inputs::length(&mut self.random, members * members);
+        let elements_length = inputs::length(&mut self.random, members);
+        let part = Lent::random(&mut self.random, part_length);
+        let elements = Lent::random(&mut self.random, elements_length);
+        Call::Subsemigroup { table, chosen, part, elements }
     }
 
     fn map_check(&mut self) {

@@ -216,6 +216,29 @@ pub fn check_generated(cells: &[u8], order: usize, generators: &[u8]) -> Answer 
     }))
 }
 
+/// What a list of elements generates in an accepted table; nothing where there is a wrong entry or no such table.
+pub fn generated(cells: &[u8], order: usize, list: &[u8]) -> Vec<usize> {
+    let table = Table::new(cells, order).filter(|table| table.holds(list));
+    table.map_or(vec![], |table| table.generated(list))
+}
+
+pub fn subsemigroup(cells: &[u8], order: usize, chosen: &[u8], part: &mut [u8], elements: &mut [u8]) -> Answer {
+    answer(Table::accepted(cells, order).and_then(|table| {
+        ask(!chosen.is_empty() && table.holds(chosen), 60)?;
+        let members = table.generated(chosen);
+        ask(part.len() >= members.len() * members.len(), 61)?;
+        ask(elements.len() >= members.len(), 62)?;
+        let number = |x: usize| 1 + members.iter().filter(|&&member| member < x).count();
+        let mut products = Vec::new();
+        for &x in &members {
+            products.extend(members.iter().map(|&y| number(table.product(x, y)) as u8));
+        }
+        write_front(part, &products);
+        write_front(elements, &members.iter().map(|&member| member as u8).collect::<Vec<_>>());
+        Ok(numbers(&[members.len()]))
+    }))
+}
+
 /// Embeddings or isomorphisms.
 #[derive(Clone, Copy, Debug, PartialEq, Eq)]
 pub enum Kind {

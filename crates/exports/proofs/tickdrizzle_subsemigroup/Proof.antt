@@ -1,0 +1,27 @@
+-- `tickdrizzle_subsemigroup` meets its contract: it writes what `generated::subsemigroup` answers, and both buffers are as that leaves them.
+-- Assumes nothing.
+use borrow.Author.Needs.{needs}
+use Rattle.exports.proofs.tickdrizzle_subsemigroup.Statement.{statement}
+use Rattle.exports.proofs.tickdrizzle_subsemigroup.Tie as tie
+
+subsemigroup-requires : tie.Need-subsemigroup-requires
+subsemigroup-requires c κs = search needs
+
+subsemigroup-words-requires : tie.Need-subsemigroup-words-requires
+subsemigroup-words-requires c κs = search needs
+
+same-length : tie.Need-same-length
+same-length c = search needs
+
+same-length-2 : tie.Need-same-length-2
+same-length-2 c = search needs
+
+returns : tie.Need-returns
+returns c =
+    let called = c .before .before .before .before .before .subsemigroup .ensures in
+    (rw (called .0) at (c .subsemigroup-words .ensures), called .1)
+
+pub tickdrizzle-subsemigroup-spec : {M : Type 1} → statement M
+tickdrizzle-subsemigroup-spec =
+    tie.close
+    (tie.spec subsemigroup-requires subsemigroup-words-requires same-length same-length-2 returns)
