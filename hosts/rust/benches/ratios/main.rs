@@ -9,7 +9,9 @@ mod tables;
 use std::fmt::Debug;
 use std::hint::black_box;
 use std::time::{Duration, Instant};
-use tables::{chain, cyclic_group, left_zero, nilpotent, null, rectangular_band, relabelled, unions, Table};
+use tables::{
+    chain, cyclic_group, dihedral_group, left_zero, nilpotent, null, rectangular_band, relabelled, unions, Table,
+};
 
 const FEWEST_SAMPLES: usize = 9;
 const MOST_SAMPLES: usize = 60;
@@ -21,16 +23,19 @@ fn main() {
     println!("| {:<82} | proved, µs | plain, µs | ratio |", "call");
     println!("|:{:-<82}-|-----------:|----------:|------:|", "");
     time_tables();
+    let beside_full = time_lists();
     time_elements();
     time_map_checks();
     time_embeddings();
     time_isomorphisms();
     time_transformations();
     time_texts();
+    println!("\n{beside_full}");
 }
 
-/// Times a call by the library and by plain Rust, after a look whether they answer the same, and prints a row.
-fn row<T: PartialEq + Debug>(name: &str, mut proved: impl FnMut() -> T, mut plain: impl FnMut() -> T) {
+/// Times a call by the library and by plain Rust, after a look whether they answer the same, and prints a row; the
+/// library's time in microseconds.
+fn row<T: PartialEq + Debug>(name: &str, mut proved: impl FnMut() -> T, mut plain: impl FnMut() -> T) -> f64 {
     assert_eq!(proved(), plain(), "{name}");
     let calls = calls_of_a_sample(&mut plain);
     let (mut least_proved, mut least_plain) = (Duration::MAX, Duration::MAX);
@@ -45,6 +50,7 @@ fn row<T: PartialEq + Debug>(name: &str, mut proved: impl FnMut() -> T, mut plai
     let micros = |sample: Duration| sample.as_secs_f64() * 1e6 / f64::from(calls);
     let (proved, plain) = (micros(least_proved), micros(least_plain));
     println!("| {name:<82} | {proved:>10.2} | {plain:>9.2} | {:>5.2} |", proved / plain);
+    proved
 }
 
 fn sample<T>(calls: u32, call: &mut impl FnMut() -> T) -> Duration {
@@ -72,6 +78,35 @@ fn time_tables() {
             || plain::check_table(black_box(&cells), order),
         );
     }
+}
+
+/// Calls with a list of elements, on the dihedral group of order 120; the library's times beside that of its full check.
+fn time_lists() -> String {
+    let Table { cells, order } = dihedral_group(60);
+    let full = row(
+        "check_table, dihedral group of order 120",
+        || tickdrizzle::check_table(black_box(&cells), order),
+        || plain::check_table(black_box(&cells), order),
+    );
+    let mut beside = format!("Of the time of the full check, dihedral group of order 120, {full:.2} µs:");
+    for generators in [&[2, 61][..], &[2, 61, 3, 4, 5, 6, 7, 8, 9, 10]] {
+        let name = format!("check_generated, {} generators", generators.len());
+        let time = row(
+            &format!("{name}, dihedral group of order 120"),
+            || tickdrizzle::check_generated(black_box(&cells), order, generators),
+            || plain::check_generated(black_box(&cells), order, generators),
+        );
+        beside += &format!(" {name}: {:.3};", time / full);
+    }
+    let (mut part, mut elements) = (vec![0; order * order], vec![0; order]);
+    let (mut other_part, mut other_elements) = (part.clone(), elements.clone());
+    let time = row(
+        "subsemigroup, 2 generators of the dihedral group of order 120",
+        || tickdrizzle::subsemigroup(black_box(&cells), order, &[2, 61], &mut part, &mut elements),
+        || plain::subsemigroup(black_box(&cells), order, &[2, 61], &mut other_part, &mut other_elements),
+    );
+    assert_eq!((part, elements), (other_part, other_elements));
+    beside + &format!(" subsemigroup, 2 generators: {:.3}.", time / full)
 }
 
 fn time_elements() {

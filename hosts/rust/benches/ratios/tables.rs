@@ -25,6 +25,15 @@ pub fn cyclic_group(order: usize) -> Table {
     table(order, |i, j| (i + j) % order)
 }
 
+/// The group of a polygon: turns first, then each turn after a flip.
+pub fn dihedral_group(corners: usize) -> Table {
+    table(2 * corners, |i, j| {
+        let (flipped, turn, next) = (i >= corners, i % corners, j % corners);
+        let turned = if flipped { turn + corners - next } else { turn + next };
+        (i / corners + j / corners) % 2 * corners + turned % corners
+    })
+}
+
 pub fn left_zero(order: usize) -> Table {
     table(order, |i, _| i)
 }

@@ -1,5 +1,6 @@
 //! Compares the library with an independent implementation, the whole answer and every byte of every buffer, on every
-//! small table and on random inputs: differential [CALLS] [SEED]. Prints the counts; fails where there is any difference.
+//! small table and on CALLS random inputs: differential [CALLS] [SEED]. Prints the counts; fails where there is any
+//! difference.
 
 mod calls;
 mod families;
@@ -23,6 +24,8 @@ const CALLS_BY_DEFAULT: u64 = 100_000;
 /// The family of all tables of order 1 to 3.
 const SMALL: &str = "order 1 to 3";
 
+const MAT5: [u8; 25] = [1, 1, 1, 1, 1, 1, 2, 3, 2, 3, 1, 1, 1, 2, 3, 1, 4, 5, 4, 5, 1, 1, 1, 4, 5];
+
 fn main() -> ExitCode {
     let mut arguments = std::env::args().skip(1).filter_map(|argument| argument.parse().ok());
     let calls = arguments.next().unwrap_or(CALLS_BY_DEFAULT);
@@ -30,7 +33,8 @@ fn main() -> ExitCode {
     println!("seed {seed}");
     let mut comparison = Comparison { random: Random::new(seed), tally: Tally::default() };
     comparison.small_tables();
-    while comparison.tally.calls < calls {
+    let enough = comparison.tally.calls + calls;
+    while comparison.tally.calls < enough {
         comparison.some_calls();
     }
     comparison.tally.print();
@@ -63,8 +67,9 @@ impl Comparison {
         expected
     }
 
-    /// Every table of order 1 to 3. Of the accepted ones every element, and the first embedding and isomorphism between
-    /// every two of them, with the candidates.
+    /// Every table of order 1 to 3, with every short list as its generators. Of the accepted ones every element, what every
+    /// short list generates, and the first embedding and isomorphism between every two of them, with the candidates. What
+    /// every short list generates in mat5.
     fn small_tables(&mut self) {
         let all = (1..=3)
             .flat_map(|order| reference::lists(order * order, order).into_iter().map(move |cells| (cells, order)));
@@ -72,6 +77,7 @@ impl Comparison {
         for (cells, order) in all {
             let table = LentTable { cells: Lent::new(&mut self.random, &cells), order };
             let answer = self.compare(&mut Call::CheckTable { table: table.clone() }, SMALL);
+            self.short_checks(&table);
             if answer[0] == 0 {
                 accepted.push(table);
             }
@@ -81,8 +87,34 @@ impl Comparison {
                 self.compare(&mut Call::IndexPeriod { table: source.clone(), element }, SMALL);
                 self.compare(&mut Call::Profile { table: source.clone(), element }, SMALL);
             }
+            self.short_parts(source, SMALL);
             for target in &accepted {
                 self.first_maps(source, target);
+            }
+        }
+        let mat5 = LentTable { cells: Lent::new(&mut self.random, &MAT5), order: 5 };
+        self.short_parts(&mat5, "mat5");
+    }
+
+    /// The check by generators, with every short list.
+    fn short_checks(&mut self, table: &LentTable) {
+        for list in short_lists(table.order) {
+            let generators = Lent::new(&mut self.random, &list);
+            self.compare(&mut Call::CheckGenerated { table: table.clone(), generators }, SMALL);
+        }
+    }
+
+    /// What every short list generates, with each buffer a byte too short, exactly long enough, and longer.
+    fn short_parts(&mut self, table: &LentTable, family: &'static str) {
+        for list in short_lists(table.order) {
+            let members = reference::generated(&table.cells, table.order, &list).len();
+            for part_length in lengths(members * members) {
+                for elements_length in lengths(members) {
+                    let chosen = Lent::new(&mut self.random, &list);
+                    let part = Lent::random(&mut self.random, part_length);
+                    let elements = Lent::random(&mut self.random, elements_length);
+                    self.compare(&mut Call::Subsemigroup { table: table.clone(), chosen, part, elements }, family);
+                }
             }
         }
     }
@@ -318,6 +350,17 @@ impl Comparison {
         let text = Lent::random(&mut self.random, length);
         self.compare(&mut Call::Save { table, text }, family);
     }
+}
+
+/// All lists of up to two entries from 0 to n + 1: elements, and the two numbers beside them.
+fn short_lists(order: usize) -> Vec<Vec<u8>> {
+    let from_one = (0..=2).flat_map(|length| reference::lists(length, order + 2));
+    from_one.map(|list| list.iter().map(|entry| entry - 1).collect()).collect()
+}
+
+/// A byte less than what is asked for, that, and more.
+fn lengths(limit: usize) -> [usize; 3] {
+    [limit.saturating_sub(1), limit, limit + 5]
 }
 
 /// The map buffer of a search.
