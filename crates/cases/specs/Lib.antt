@@ -1,5 +1,2 @@
-pub mod Said
-pub mod Tally
-pub mod Walking
 pub mod Answering
 pub mod Embedded

@@ -1,13 +1,23 @@
 // Runs the cases that 01 has run and not proved one by one, and the thirteen worked ones again, through the compiled functions of the library against
 // a second search that is written separately. Each group prints how many answers agree and how many differ.
 mod limits;
-mod said;
-mod small;
-mod tally;
-mod walk;
 mod worked;
 
-use tally::print;
+ghost use Prim.Native.Nat.{_≤_};
+ghost use lib.ListN.{length};
+use comparisons::small;
+use comparisons::tally::Tally;
+use comparisons::tally::put_line;
+use libc::STDOUT_FILENO;
+
+// Prints the line of a group.
+fn print(group: &[u8], tally: Tally)
+    requires short { ⌜ length (now group) ≤ 40 ⌝ }
+{
+    let mut out = [0u8; 100];
+    let written = put_line(&mut out, group, tally);
+    io::write_all(STDOUT_FILENO, &out[..written]);
+}
 
 fn main() {
     print(b"worked cases 1 to 3", worked::tables());

@@ -1,25 +1,19 @@
 // The thirteen worked cases of 01 again, through the compiled functions.
 ghost use mathlib.Core.Path.{_≡_};
-ghost use mathlib.Core.Bool.{true};
-ghost use Rattle.semigroups.specs.Questions.{tableRefusal};
 ghost use Rattle.invariants.specs.Answers.{indexPeriodValue, indexPeriodSays, profileValue, profileSays};
-ghost use Rattle.plain.specs.Said.{saidOf};
-ghost use Rattle.cases.specs.Said.{sameSaid};
 ghost use Rattle.cases.specs.Answering.{sameGivenPowers, sameGivenProfile};
-ghost use Rattle.cases.specs.Tally.{empty, counted, agreed};
-use crate::said::said_of;
-use crate::said::same_said;
-use crate::tally::Tally;
-use crate::tally::counted;
-use crate::tally::start;
-use crate::walk::walk;
+ghost use Rattle.comparisons.specs.Tally.{empty, agreed};
+use comparisons::judged::judged;
+use comparisons::tally::Tally;
+use comparisons::tally::counted;
+use comparisons::tally::start;
+use comparisons::walk::walk;
 use invariants::ElementProfile;
 use invariants::IndexPeriod;
 use invariants::IndexPeriodAnswer;
 use invariants::ProfileAnswer;
 use plain::Said;
 use plain::failed;
-use plain::judge;
 
 pub const MAT5: [u8; 25] = [
     1,
@@ -54,22 +48,6 @@ pub const SWAP: [u8; 4] = [1, 2, 2, 1];
 pub const TWO: [u8; 16] = [1, 1, 4, 4, 1, 2, 3, 4, 1, 3, 2, 4, 1, 4, 1, 4];
 
 // ---- tables
-
-// The four questions, compared with the second search: they agree for every table.
-pub fn compared(cells: &[u8], n: usize, tally: Tally) -> Tally
-    ensures same { λ r. ⌜ r ≡ counted tally true ⌝ }
-{
-    let said = said_of(tables::check(cells, n));
-    counted(tally, same_said(said, judge(cells, n)))
-}
-
-// The four questions, compared with what 01 says of the table, and with the second search.
-pub fn judged(cells: &[u8], n: usize, said: Said, tally: Tally) -> Tally
-    ensures answer { λ r. ⌜ r ≡ counted (counted tally (sameSaid (saidOf (tableRefusal n (now (cells .entry)))) said)) true ⌝ }
-{
-    let answered = counted(tally, same_said(said_of(tables::check(cells, n)), said));
-    compared(cells, n, answered)
-}
 
 // Cases 1 to 3.
 pub fn tables() -> Tally

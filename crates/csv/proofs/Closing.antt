@@ -13,7 +13,7 @@ use borrow.Author.Tests.{le-leb}
 use mathlib.Core.Logic.{⊎-elim}
 use Rattle.semigroups.specs.Lists.{range, find}
 use Rattle.semigroups.proofs.Booleans.{not-of-true, equal-or-not}
-use Rattle.semigroups.proofs.Lists.{mem-range, find-same, none-find, find-append}
+use Rattle.semigroups.proofs.Lists.{range-append, mem-range, find-same, none-find, find-append}
 use Rattle.semigroups.specs.Tables.{isElement}
 use Rattle.csv.specs.Passing.{a-cr, an-lf, LoadPasses}
 use Rattle.csv.specs.Calls.{loadAnswer, cellsAfter}
@@ -78,17 +78,6 @@ added false t p l h = ⊎-elim carriage-return (λ n. feed (let w : p ≡ suc (l
 
     feed : p ≡ suc (length t) → isAllowed (t ++ 13 ∷ 10 ∷ []) p ≡ true
     feed e = rw e (allowed-is (t ++ 13 ∷ 10 ∷ []) (suc (length t)) (an-lf (length t) refl (getD-append-seam t 13 (10 ∷ []) 0) (line-feed t)))
-
-range-append : (i a b : ℕ) → range i (a + b) ≡ range i a ++ range (i + a) b
-unfolding range
-range-append i zero b =
-    let x : 0 + b ≡ b = omega arith in
-    let y : i + 0 ≡ i = omega arith in
-    rw (x, y)
-range-append i (suc a) b =
-    let x : suc a + b ≡ suc (a + b) = omega arith in
-    let y : i + suc a ≡ suc i + a = omega arith in
-    rw (x, y) (ap (λ (l : List ℕ). i ∷ l) (range-append (suc i) a b))
 
 none-last : (o : Option ℕ) → orElse o none ≡ o
 unfolding orElse

@@ -27,9 +27,9 @@ use Rattle.csv.proofs.Accepted.{table-cells, table-order, table-loads, 
 
 -- ---- what an answer other than a refusal shows
 
-pub not-refused : (o : Option Refusal) (x y : ℕ) → givenUnless o x ≡ gives y → (o ≡ none) × (x ≡ y)
-not-refused none x y h = (refl, cc)
-not-refused (some r) x y h = absurd (gives-ne-refused y r (sym h))
+pub given-passed : (o : Option Refusal) (x y : ℕ) → givenUnless o x ≡ gives y → (o ≡ none) × (x ≡ y)
+given-passed none x y h = (refl, cc)
+given-passed (some r) x y h = absurd (gives-ne-refused y r (sym h))
 
 -- ---- a table saved loads as the same order and cells
 
@@ -70,7 +70,7 @@ pub record Loads (t buffer : List ℕ) (n : ℕ) : Type 0 where
 pub loads-given : (t buffer : List ℕ) (n : ℕ) → loadAnswer t buffer ≡ gives n → Loads t buffer n
 unfolding loadAnswer
 loads-given t buffer n h =
-    let p = not-refused (loadRefusal t (length buffer)) (orderOf t) n h in
+    let p = given-passed (loadRefusal t (length buffer)) (orderOf t) n h in
     let l = load-passed t (length buffer) (p .0) in
     let after = sym (load-given t buffer (p .0) .1) in
     let size = cells-length (orderOf t) t (l .grid) ∙ ap (λ (k : ℕ). k * k) (p .1) in

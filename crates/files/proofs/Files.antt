@@ -16,10 +16,11 @@ use Rattle.semigroups.proofs.Questions.{all-passed, failed-before, passed-befor
 use Rattle.csv.specs.Tables.{orderOf, cellsOf}
 use Rattle.csv.specs.Questions.{loadQuestions, loadRefusal}
 use Rattle.semigroups.specs.Calls.{Answer, refused, gives, givenUnless}
+use Rattle.semigroups.proofs.Calls.{gives-ne-refused}
 use Rattle.csv.specs.Calls.{loadAnswer, cellsAfter}
 use Rattle.csv.proofs.Loading.{cells-length, load-passed}
 use Rattle.csv.proofs.Accepted.{first-row}
-use Rattle.csv.proofs.RoundTrips.{not-refused, loads-given}
+use Rattle.csv.proofs.RoundTrips.{given-passed, loads-given}
 use denote.Enum.Declared.{tagOf}
 use types.Run.{OneOf, miss}
 use Rattle.tables.specs.Answers.{faultRefusal}
@@ -53,7 +54,7 @@ module _ (t : List ℕ) (room : ℕ) where
 -- ---- the answer
 
 refusal-given : (q : Option Refusal) (n : ℕ) {r : Refusal} → refused r ≡ givenUnless q n → q ≡ some r
-refusal-given none n e = let z : _≡_ {A = ℕ} 0 1 = cc in let w : ⊥ = omega arith in absurd w
+refusal-given none n e = absurd (gives-ne-refused n _ (sym e))
 refusal-given (some r) n e = cc
 
 module _ (t cells : List ℕ) where
@@ -64,7 +65,7 @@ module _ (t cells : List ℕ) where
   module _ (n : ℕ) (e : loadAnswer t cells ≡ gives n) where
     loads : loadRefusal t (length cells) ≡ none
     unfolding loadAnswer
-    loads = not-refused (loadRefusal t (length cells)) (orderOf t) n e .0
+    loads = given-passed (loadRefusal t (length cells)) (orderOf t) n e .0
 
     pub judged-table : {after : List ℕ} {q : Option Refusal} → after ≡ cellsAfter t cells → q ≡ tableRefusal n (take (n * n) after) → givenUnless q n ≡ fileAnswer t cells
     unfolding fileAnswer
@@ -104,7 +105,7 @@ pub record Holds (t cells : List ℕ) (n : ℕ) : Type 0 where
 
 pub accepted-file : (t cells : List ℕ) (n : ℕ) → fileAnswer t cells ≡ gives n → fileRefusal t (length cells) ≡ none
 unfolding fileAnswer
-accepted-file t cells n e = not-refused (fileRefusal t (length cells)) (orderOf t) n e .0
+accepted-file t cells n e = given-passed (fileRefusal t (length cells)) (orderOf t) n e .0
 
 pub refused-file : (t cells : List ℕ) (r : Refusal) → fileAnswer t cells ≡ refused r → fileRefusal t (length cells) ≡ some r
 unfolding fileAnswer
@@ -113,7 +114,7 @@ refused-file t cells r e = refusal-given (fileRefusal t (length cells)) (orderOf
 pub holds : (t cells : List ℕ) (n : ℕ) → fileAnswer t cells ≡ gives n → {after : List ℕ} → after ≡ cellsAfter t cells → length after ≡ length cells → Holds t after n
 unfolding fileAnswer loadAnswer
 holds t cells n e same kept =
-    let p = not-refused (fileRefusal t (length cells)) (orderOf t) n e in
+    let p = given-passed (fileRefusal t (length cells)) (orderOf t) n e in
     let loads = refusal-none t (length cells) (p .0) in
     let given : givenUnless (loadRefusal t (length cells)) (orderOf t) ≡ gives n = rw loads (ap {B = Answer ℕ} gives (p .1)) in
     let l = loads-given t cells n given in

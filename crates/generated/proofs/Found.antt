@@ -13,7 +13,7 @@ use Rattle.semigroups.specs.Lists.{elements, member, NoRepeats}
 use Rattle.semigroups.specs.Tables.{Product, Element, Closed}
 use Rattle.semigroups.specs.Generated.{Inside, generated}
 use Rattle.semigroups.proofs.Booleans.{either, equal-or-not}
-use Rattle.semigroups.proofs.Lists.{length-elements, elements-mem, length-snoc, member-mem, not-member, sorted-append}
+use Rattle.semigroups.proofs.Lists.{length-elements, elements-mem, length-snoc, member-mem, not-member, mem-take, sorted-append}
 use Rattle.semigroups.proofs.FlatMap.{mem-flatMap, flatMap-mem}
 use Rattle.semigroups.proofs.NoRepeats.{length-inside, mem-place, place-mem}
 use Rattle.semigroups.proofs.Generated.{same-length, generated-inside, generated-no-repeats, generated-closed, generated-holds, generated-smallest}
@@ -93,12 +93,6 @@ unfolding addingAll
 all-holds r [] y m = absurd (List·Memᴰ·not-nil m)
 all-holds r (x ∷ l) y (List·Memᴰ·head e) = all-keeps (adding r x) l y (subst (λ (z : ℕ). List·Memᴰ z (adding r x)) (sym e) (adding-holds r x))
 all-holds r (x ∷ l) y (List·Memᴰ·tail m) = all-holds (adding r x) l y m
-
-pub mem-take : (k : ℕ) (l : List ℕ) (y : ℕ) → List·Memᴰ y (take k l) → List·Memᴰ y l
-mem-take zero l y m = absurd (List·Memᴰ·not-nil m)
-mem-take (suc k) [] y m = m
-mem-take (suc k) (x ∷ l) y (List·Memᴰ·head e) = List·Memᴰ·head e
-mem-take (suc k) (x ∷ l) y (List·Memᴰ·tail m) = List·Memᴰ·tail (mem-take k l y m)
 
 -- ---- products of one entry
 

@@ -20,17 +20,16 @@ use Rattle.semigroups.specs.Calls.{refused, gives, overwritten}
 use Rattle.semigroups.specs.Generated.{Inside, setOf, generated}
 use Rattle.semigroups.specs.Subsemigroups.{numberIn, renumbered, partCells, subsemigroupRefusal, SubsemigroupPasses}
 use Rattle.semigroups.proofs.Booleans.{either, equal-or-not}
-use Rattle.semigroups.proofs.Lists.{length-range, getD-range, getD-map, length-elements, mem-elements, elements-mem, at-front, at-seam, length-snoc, member-mem, mem-member, not-member, unmember}
+use Rattle.semigroups.proofs.Lists.{length-range, getD-range, getD-map, length-elements, mem-elements, elements-mem, at-front, at-seam, length-snoc, member-mem, mem-member, not-member, unmember, mem-take, keep-agree}
 use Rattle.semigroups.proofs.NoRepeats.{length-inside, place-mem}
 use Rattle.semigroups.proofs.Tables.{length-grid, accepted-closed}
-use Rattle.semigroups.proofs.Generated.{keep-agree, generated-inside, generated-no-repeats, generated-closed, generated-set}
+use Rattle.semigroups.proofs.Generated.{generated-inside, generated-no-repeats, generated-closed, generated-set}
 use Rattle.semigroups.proofs.Subsemigroups.{at-mem, number-at, at-number, cells-short, elements-short, subsemigroup-passes}
 use Rattle.semigroups.proofs.Writing.{written, written-none, written-all, length-written, write-next}
 use Rattle.generated.specs.Found.{indicator}
 use Rattle.generated.specs.Parts.{markedElements, numbering, ClosedPart}
 use Rattle.generated.specs.Answers.{subsemigroupSays, partAfter, elementsAfter, SubsemigroupKeeps}
 use Rattle.generated.proofs.Indicators.{indicator-at}
-use Rattle.generated.proofs.Found.{mem-take}
 
 -- ---- the marked elements, written one by one
 

@@ -19,7 +19,7 @@ use Rattle.semigroups.proofs.Sums.{sum-append, count-same, count-at-most}
 use Rattle.semigroups.proofs.Frequencies.{frequency-cells}
 use Rattle.tables.proofs.Questions.{square-small}
 use Rattle.invariants.proofs.Lists.{range-snoc}
-use Rattle.invariants.specs.Counts.{occurrences, Reached}
+use Rattle.invariants.specs.Counts.{occurrences, InRange}
 
 -- ---- numbers in a row
 
@@ -168,20 +168,20 @@ module _ (n : ℕ) (cells : List ℕ) (t : Filled n cells) where
   pub row-within : (a : ℕ) → Element n a → (a - 1) * n + n ≤ length cells
   row-within a h = row-below (a - 1) (omega arith)
 
-  pub row-reached : (a : ℕ) → Element n a → Reached n 1 (drop ((a - 1) * n) cells)
-  row-reached a h i u = let e = length-drop ((a - 1) * n) cells in omega (arith, row-within a h)
+  pub row-in-range : (a : ℕ) → Element n a → InRange n 1 (drop ((a - 1) * n) cells)
+  row-in-range a h i u = let e = length-drop ((a - 1) * n) cells in omega (arith, row-within a h)
 
   pub column-within : (a : ℕ) → Element n a → a - 1 < length cells
   column-within a h = let r = row-below 0 (omega arith) in omega arith
 
-  pub column-reached : (a : ℕ) → Element n a → Reached n n (drop (a - 1) cells)
-  column-reached a h i u = let d = length-drop (a - 1) cells in omega (arith, row-below i u)
+  pub column-in-range : (a : ℕ) → Element n a → InRange n n (drop (a - 1) cells)
+  column-in-range a h i u = let d = length-drop (a - 1) cells in omega (arith, row-below i u)
 
-  pub diagonal-reached : Reached n (n + 1) cells
-  diagonal-reached i u = let d = ap (λ (j : ℕ). i * j) (add-one n) ∙ mul-suc i n in omega (arith, row-below i u)
+  pub diagonal-in-range : InRange n (n + 1) cells
+  diagonal-in-range i u = let d = ap (λ (j : ℕ). i * j) (add-one n) ∙ mul-suc i n in omega (arith, row-below i u)
 
-  pub table-reached : Reached (length cells) 1 cells
-  table-reached i u = omega arith
+  pub table-in-range : InRange (length cells) 1 cells
+  table-in-range i u = omega arith
 
 -- A part of a list that goes to its end.
 pub part-to-end : (l : List ℕ) (at : ℕ) → take (length l - at) (drop at l) ≡ drop at l

@@ -11,5 +11,5 @@ unfoldable pub occurrences : ℕ → ℕ → ℕ → List ℕ → ℕ
 occurrences a step k cells = count (λ i. eqb (getD cells (i * step) 0) a) (range 0 k)
 
 -- These k cells are there.
-abbrev pub Reached : ℕ → ℕ → List ℕ → Type 0
-Reached k step cells = (i : ℕ) → i < k → i * step < length cells
+abbrev pub InRange : ℕ → ℕ → List ℕ → Type 0
+InRange k step cells = (i : ℕ) → i < k → i * step < length cells

@@ -12,7 +12,7 @@ ghost use Rattle.tables.specs.Answers.{refusalNumbers};
 ghost use Rattle.invariants.specs.Answers.{elementFaultRefusal, elementVerdictRefusal, indexPeriodValue, indexPeriodSays, profileValue, profileSays};
 ghost use Rattle.invariants.specs.PerElement.{perElement, AllIndexPeriods, AllLineCounts, AllCounts};
 ghost use Rattle.invariants.specs.Powers.{settled};
-ghost use Rattle.invariants.specs.Counts.{occurrences, Reached};
+ghost use Rattle.invariants.specs.Counts.{occurrences, InRange};
 use tables::Fault;
 use tables::Refusal;
 use tables::Verdict;
@@ -135,7 +135,7 @@ pub fn all_index_periods(cells: &[u8], n: usize) -> IndexPeriods
 
 // How often a stands among k cells, the first and then each that is `step` further on.
 fn count(cells: &[u8], k: usize, step: usize, a: usize) -> usize
-    requires { ⌜ Reached k step (now cells) ⌝ }
+    requires { ⌜ InRange k step (now cells) ⌝ }
     ensures answer { λ r. ⌜ r ≡ occurrences a step k (now (cells .entry)) ⌝ }
 {
     let mut found: usize = 0;
@@ -151,7 +151,7 @@ fn count(cells: &[u8], k: usize, step: usize, a: usize) -> usize
 
 // The same for every element in one pass.
 fn tally(cells: &[u8], n: usize, k: usize, step: usize) -> [u16; 120]
-    requires { ⌜ Filled n (now cells) ⌝ ∗ ⌜ Reached k step (now cells) ⌝ ∗ ⌜ k ≤ 14400 ⌝ }
+    requires { ⌜ Filled n (now cells) ⌝ ∗ ⌜ InRange k step (now cells) ⌝ ∗ ⌜ k ≤ 14400 ⌝ }
     ensures answer { λ r. ⌜ r ≡ perElement n (λ a. occurrences a step k (now (cells .entry))) ⌝ }
 {
     let mut found = [0u16; 120];

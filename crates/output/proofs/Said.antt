@@ -1,6 +1,6 @@
 -- What the search for the first embedding says of two accepted tables, with buffers of the right length: no question fails, so the records are
 -- those of the map that it leaves, or of none. Assumes nothing.
-use mathlib.Core.Path.{_≡_, refl}
+use mathlib.Core.Path.{_≡_, refl, sym}
 use mathlib.Core.List.{List, [], _∷_}
 use mathlib.Core.Option.{Option, none, some}
 use Prim.Native.Nat.{ℕ, _≤_}
@@ -11,6 +11,7 @@ use Rattle.semigroups.specs.Tables.{Accepted}
 use Rattle.semigroups.specs.Scratch.{scratchSize}
 use Rattle.semigroups.specs.Maps.{embeddings, found, sought}
 use Rattle.semigroups.specs.Calls.{gives, overwritten, mapUnless}
+use Rattle.semigroups.proofs.Calls.{gives-ne-refused, found-ne-nothing}
 use Rattle.semigroups.proofs.Tables.{no-refusal}
 use Rattle.tables.proofs.Questions.{both-pass}
 use Rattle.search.specs.Calls.{Called, theFirst, lend, answerOf, marksOf, call}
@@ -27,16 +28,16 @@ use Rattle.output.proofs.Records.{Written, one-written, first-short}
 -- What is said where something was looked for: found with this map, or nothing.
 module _ (m n : ℕ) (bytes : List ℕ) where
   found-map : (o : Option (List ℕ)) → gives found ≡ gives (sought o) → mapRecords m n o ≡ foundRecords m n (mapUnless none o bytes)
-  found-map none e = let z : _≡_ {A = ℕ} 0 1 = cc in let w : ⊥ = omega arith in absurd w
+  found-map none e = absurd (found-ne-nothing e)
   found-map (some f) e = refl
 
   not-found : (o : Option (List ℕ)) (said : SearchAnswer) → (said ≡ Found → ⊥) → searchAnswerSays said ≡ gives (sought o) → mapRecords m n o ≡ noneRecords m n
   not-found none said h e = refl
   not-found (some f) Found h e = absurd (h refl)
-  not-found (some f) Nothing h e = let z : _≡_ {A = ℕ} 0 1 = cc in let w : ⊥ = omega arith in absurd w
-  not-found (some f) (Refused side fault) h e = let z : _≡_ {A = ℕ} 0 1 = cc in let w : ⊥ = omega arith in absurd w
-  not-found (some f) MapLength h e = let z : _≡_ {A = ℕ} 0 1 = cc in let w : ⊥ = omega arith in absurd w
-  not-found (some f) ScratchLength h e = let z : _≡_ {A = ℕ} 0 1 = cc in let w : ⊥ = omega arith in absurd w
+  not-found (some f) Nothing h e = absurd (found-ne-nothing (sym e))
+  not-found (some f) (Refused side fault) h e = absurd (gives-ne-refused found _ (sym e))
+  not-found (some f) MapLength h e = absurd (gives-ne-refused found _ (sym e))
+  not-found (some f) ScratchLength h e = absurd (gives-ne-refused found _ (sym e))
 
 module _ (source : List ℕ) (m : ℕ) (target : List ℕ) (n : ℕ) (map scratch : List ℕ) (a : Accepted m source) (b : Accepted n target) (size : length map ≡ m)
     (marks : scratchSize m n ≤ length scratch) where

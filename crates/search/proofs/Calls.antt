@@ -14,7 +14,7 @@ use Rattle.semigroups.specs.Questions.{Refusal}
 use Rattle.semigroups.specs.Calls.{refused, gives, givenUnless, overwritten, writtenUnless, mapUnless}
 use Rattle.semigroups.specs.Maps.{Kind, IsMap, beyond, found, nothing, sought}
 use Rattle.semigroups.proofs.ListOrder.{earliest-same}
-use Rattle.semigroups.proofs.Calls.{gives-ne-refused, refused-by}
+use Rattle.semigroups.proofs.Calls.{gives-ne-refused, found-ne-nothing, refused-by}
 use Rattle.semigroups.proofs.Passing.{search-passes}
 use Rattle.semigroups.proofs.Maps as maps
 use Rattle.search.specs.Calls.{Lent, Called, Request, theFirst, theNext, askOf, refusalOf, answerOf, marksOf, call}
@@ -62,7 +62,7 @@ module _ (kind : Kind) (l : Lent) (request : Request) where
     where
       go : (q : Option Refusal) (o : Option (List ℕ)) → left q o .says ≡ gives found → o ≡ some (left q o .map)
       go none (some f) e = refl
-      go none none e = absurd (let z : _≡_ {A = ℕ} 0 1 = cc in let y : ⊥ = omega arith in y)
+      go none none e = absurd (found-ne-nothing (sym e))
       go (some r) o e = absurd (gives-ne-refused found r (sym e))
 
   nothing-answer : call kind request l .says ≡ gives nothing → (answerOf kind request l ≡ none) × (call kind request l .map ≡ l .map)
@@ -71,7 +71,7 @@ module _ (kind : Kind) (l : Lent) (request : Request) where
     where
       go : (q : Option Refusal) (o : Option (List ℕ)) → left q o .says ≡ gives nothing → (o ≡ none) × (left q o .map ≡ l .map)
       go none none e = (refl, refl)
-      go none (some f) e = absurd (let z : _≡_ {A = ℕ} 0 1 = cc in let y : ⊥ = omega arith in y)
+      go none (some f) e = absurd (found-ne-nothing e)
       go (some r) o e = absurd (gives-ne-refused nothing r (sym e))
 
   -- "None" changes no byte of the map.

@@ -6,7 +6,11 @@ use mathlib.Core.Option.{Option, none, some, Option·none-ne-some, Option·some-
 use Prim.Native.Nat.{ℕ}
 use native.Mathlib.Omega.{arith}
 use Rattle.semigroups.specs.Questions.{Refusal}
+use Rattle.semigroups.specs.Maps.{found, nothing}
 use Rattle.semigroups.specs.Calls.{Answer, refused, gives, givenUnless, writtenUnless}
+
+pub found-ne-nothing : gives found ≡ gives nothing → ⊥
+found-ne-nothing e = let z : _≡_ {A = ℕ} 0 1 = cc in omega arith
 
 module _ {A : Type 0} (value : A) where
   -- What is given is no refusal.

@@ -11,7 +11,7 @@ use Rattle.semigroups.specs.Lists.{range, elements, keep, member, Sorted
 use Rattle.semigroups.specs.Tables.{Product, Element, Closed}
 use Rattle.semigroups.specs.Generated.{Inside, HoldsProducts, Smallest, setOf, products, grown, generated, GeneratedTheorem}
 use Rattle.semigroups.proofs.Booleans.{same-truth, at-most-or-above}
-use Rattle.semigroups.proofs.Lists.{length-elements, mem-elements, elements-mem, mem-keep, keep-mem, member-mem, mem-member, mem-or-not, sorted-keep, sorted-range, sorted-weaken}
+use Rattle.semigroups.proofs.Lists.{length-elements, mem-elements, elements-mem, mem-keep, keep-mem, member-mem, mem-member, mem-or-not, keep-agree, sorted-keep, sorted-range, sorted-weaken}
 use Rattle.semigroups.proofs.FlatMap.{mem-flatMap, flatMap-mem}
 use Rattle.semigroups.proofs.NoRepeats.{length-inside, elements-no-repeats}
 
@@ -38,11 +38,6 @@ pub same-length : (p q : List ℕ) → NoRepeats p → NoRepeats q → ((x : ℕ
 same-length p q u v to from = let a = length-inside p q u to in let b = length-inside q p v from in omega arith
 
 -- ---- the set of a list
-
-pub keep-agree : {A : Type 0} (p q : A → Bool) (l : List A) → ((x : A) → List·Memᴰ x l → p x ≡ q x) → keep p l ≡ keep q l
-unfolding keep
-keep-agree p q [] h = refl
-keep-agree {A} p q (x ∷ l) h = ap₂ (λ (b : Bool) (r : List A). cond b (x ∷ r) r) (h x (List·Memᴰ·head refl)) (keep-agree p q l (λ y m. h y (List·Memᴰ·tail m)))
 
 module _ (n : ℕ) (l : List ℕ) where
   pub mem-setOf : (x : ℕ) → List·Memᴰ x (setOf n l) → Element n x × List·Memᴰ x l

@@ -3,7 +3,7 @@
 use mathlib.Core.Path.{_≡_, refl, sym, ap, _∙_, subst}
 use mathlib.Core.Bool.{Bool, true, false, not, _&&_}
 use mathlib.Core.Logic.{_⊎_, _↔_}
-use mathlib.Core.Option.{Option, none, some, Option·map, orElse, map-eq-none-iff}
+use mathlib.Core.Option.{Option, none, some, Option·map, orElse, map-eq-none-iff, Option·none-ne-some}
 use mathlib.Core.List.{List, [], _∷_, flatMap, List·Memᴰ}
 use Prim.Native.Nat.{ℕ, _-_}
 use native.Mathlib.Omega.{arith}
@@ -236,7 +236,7 @@ module _ (n : ℕ) (cells l : List ℕ) where
     refuses-later t e = by-table (tableRefusal n cells) refl
       where
         first : (o : Option (List ℕ)) → badTripleThrough n s l ≡ o → Option·map (λ t. no 4 t) o ≡ some (no 4 t) → FailingThrough n s l t
-        first none b q = absurd (let z : _≡_ {A = ℕ} 0 1 = cc in let y : ⊥ = omega arith in y)
+        first none b q = absurd (Option·none-ne-some (no 4 t) q)
         first (some u) b q =
             let same : no 4 u ≡ no 4 t = cc in
             subst (FailingThrough n s l) (ap (λ (r : Refusal). r .values) same) (bad-through-first n s l u b .has)
@@ -251,7 +251,7 @@ module _ (n : ℕ) (cells l : List ℕ) where
         by-refusal r q (full.wrong-triple u o z i h) = (u, q, h .before-others t (failing .failing))
 
         by-table : (o : Option Refusal) → tableRefusal n cells ≡ o → (u : List ℕ) × (tableRefusal n cells ≡ some (no 4 u)) × ((t ≡ u) ⊎ (earlier u t ≡ true))
-        by-table none q = absurd (let z = accepts .1 q in let y : _≡_ {A = ℕ} 0 1 = cc in let x : ⊥ = omega arith in x)
+        by-table none q = absurd (Option·none-ne-some (no 4 t) (sym (accepts .1 q) ∙ e))
         by-table (some r) q = by-refusal r q (refused n cells r .0 q)
 
 pub lights-theorem : LightsTheorem
@@ -264,7 +264,7 @@ generators-pass n cells l = (
 )
   where
     clashes : (r : Refusal) → generatorsRefusal n cells l ≡ none → generatorsRefusal n cells l ≡ some r → ⊥
-    clashes r e q = let z : _≡_ {A = ℕ} 0 1 = cc in let y : ⊥ = omega arith in y
+    clashes r e q = Option·none-ne-some r (sym e ∙ q)
 
     go : generatorsRefusal n cells l ≡ none → Way n cells l → GeneratorsPass n cells l
     go e (at-cells r c) = absurd (clashes r e (cells-refused n cells l r c))

@@ -8,7 +8,7 @@ use Prim.Native.Nat.{ℕ, zero, suc, _+_, _-_, _≤_, _<_}
 use native.Mathlib.Omega.{arith}
 use borrow.Author.Tests.{eqb-true, eqb-false, leb-true, le-leb}
 use lib.Dec.{eqb, leb}
-use lib.ListN.{length, getD, length-append, List·getD-append}
+use lib.ListN.{length, getD, take, length-append, List·getD-append}
 use lib.Seq.{ext-getD, getD-append-seam}
 use Rattle.semigroups.specs.Lists.{range, elements, at, all, find, keep, least, member, Sorted}
 use Rattle.semigroups.specs.Tables.{Element, isElement}
@@ -26,6 +26,17 @@ unfolding range
 getD-range i zero j h = omega arith
 getD-range i (suc k) zero h = omega arith
 getD-range i (suc k) (suc j) h = let e = getD-range (suc i) k j (omega arith) in omega arith
+
+pub range-append : (i a b : ℕ) → range i (a + b) ≡ range i a ++ range (i + a) b
+unfolding range
+range-append i zero b =
+    let x : 0 + b ≡ b = omega arith in
+    let y : i + 0 ≡ i = omega arith in
+    rw (x, y)
+range-append i (suc a) b =
+    let x : suc a + b ≡ suc (a + b) = omega arith in
+    let y : i + suc a ≡ suc i + a = omega arith in
+    rw (x, y) (ap (λ (l : List ℕ). i ∷ l) (range-append (suc i) a b))
 
 pub mem-range : (i k x : ℕ) → List·Memᴰ x (range i k) → (i ≤ x) × (x < i + k)
 unfolding range
@@ -288,6 +299,19 @@ mem-member x l m = unfalse (member x l) (λ e. not-member x l e m)
 
 pub unmember : (x : ℕ) (l : List ℕ) → (List·Memᴰ x l → ⊥) → member x l ≡ false
 unmember x l h = untrue (member x l) (λ e. h (member-mem x l e))
+
+-- ---- parts of a list
+
+pub mem-take : (k : ℕ) (l : List ℕ) (y : ℕ) → List·Memᴰ y (take k l) → List·Memᴰ y l
+mem-take zero l y m = absurd (List·Memᴰ·not-nil m)
+mem-take (suc k) [] y m = m
+mem-take (suc k) (x ∷ l) y (List·Memᴰ·head e) = List·Memᴰ·head e
+mem-take (suc k) (x ∷ l) y (List·Memᴰ·tail m) = List·Memᴰ·tail (mem-take k l y m)
+
+pub keep-agree : {A : Type 0} (p q : A → Bool) (l : List A) → ((x : A) → List·Memᴰ x l → p x ≡ q x) → keep p l ≡ keep q l
+unfolding keep
+keep-agree p q [] h = refl
+keep-agree {A} p q (x ∷ l) h = ap₂ (λ (b : Bool) (r : List A). cond b (x ∷ r) r) (h x (List·Memᴰ·head refl)) (keep-agree p q l (λ y m. h y (List·Memᴰ·tail m)))
 
 -- ---- elements as a test
 

@@ -7,7 +7,7 @@ use lib.ListN.{length}
 use Rattle.semigroups.specs.Tables.{product}
 use Rattle.semigroups.specs.Invariants.{frequency, diagonalFrequency}
 use Rattle.invariants.specs.Counts.{occurrences}
-use Rattle.invariants.proofs.Counts.{cells-at-most, table-reached, diagonal-reached, table-counted, diagonal-counted}
+use Rattle.invariants.proofs.Counts.{cells-at-most, table-in-range, diagonal-in-range, table-counted, diagonal-counted}
 use Rattle.invariants.proofs.PerElement.{per-element-same}
 use borrow.Author.Needs.{needs}
 use Rattle.invariants.proofs.all_counts.Statement.{statement}
@@ -21,7 +21,7 @@ tally-requires c κs =
     let s = c .before .before .before .before .before in
     let n = s .args .n in
     let cells = now (s .args .cells) in
-    (s .pre, (table-reached n cells (s .pre), cells-at-most n cells (s .pre)))
+    (s .pre, (table-in-range n cells (s .pre), cells-at-most n cells (s .pre)))
 
 add-tally : tie.Need-add-tally
 add-tally c = search needs
@@ -31,7 +31,7 @@ tally-requires-2 c κs =
     let s = c .before .before .before .before .before .before in
     let n = s .args .n in
     let limit = s .pre .order .1 in
-    (s .pre, (diagonal-reached n (now (s .args .cells)) (s .pre), omega arith))
+    (s .pre, (diagonal-in-range n (now (s .args .cells)) (s .pre), omega arith))
 
 returns : tie.Need-returns
 returns c =

@@ -4,8 +4,8 @@ use denote.Ref.{now}
 use Prim.Native.Nat.{ℕ, _-_}
 use mathlib.Core.Path.{sym, ap, _∙_, subst}
 use mathlib.Core.List.{List}
-use Rattle.invariants.specs.Counts.{occurrences, Reached}
-use Rattle.invariants.proofs.Counts.{column-within, column-reached, column-counted, part-to-end}
+use Rattle.invariants.specs.Counts.{occurrences, InRange}
+use Rattle.invariants.proofs.Counts.{column-within, column-in-range, column-counted, part-to-end}
 use borrow.Author.Needs.{needs}
 use Rattle.invariants.proofs.column_frequency.Statement.{statement}
 use Rattle.invariants.proofs.column_frequency.Tie as tie
@@ -25,8 +25,8 @@ part-count-end c = search needs
 count-requires : tie.Need-count-requires
 count-requires c κs =
     let s = c .before .before in
-    subst (Reached (s .args .n) (s .args .n)) (sym (part-to-end (now (s .args .cells)) (s .args .a - 1)))
-    (column-reached (s .args .n) (now (s .args .cells)) (s .pre .0) (s .args .a) (s .pre .1))
+    subst (InRange (s .args .n) (s .args .n)) (sym (part-to-end (now (s .args .cells)) (s .args .a - 1)))
+    (column-in-range (s .args .n) (now (s .args .cells)) (s .pre .0) (s .args .a) (s .pre .1))
 
 returns : tie.Need-returns
 returns c =

@@ -3,7 +3,7 @@ use denote.Ref.{now}
 use mathlib.Core.Path.{_∙_}
 use Rattle.semigroups.specs.Invariants as marks
 use Rattle.invariants.proofs.Powers.{settled-idempotent}
-use Rattle.invariants.proofs.Counts.{diagonal-reached, table-counted, diagonal-counted}
+use Rattle.invariants.proofs.Counts.{diagonal-in-range, table-counted, diagonal-counted}
 use borrow.Author.Needs.{needs}
 use Rattle.invariants.proofs.profile_of.Statement.{statement}
 use Rattle.invariants.proofs.profile_of.Tie as tie
@@ -18,7 +18,7 @@ add-count : tie.Need-add-count
 add-count c = search needs
 
 count-requires-2 : tie.Need-count-requires-2
-count-requires-2 c κs = let s = c .before .before .before in diagonal-reached (s .args .n) (now (s .args .cells)) (s .pre .0)
+count-requires-2 c κs = let s = c .before .before .before in diagonal-in-range (s .args .n) (now (s .args .cells)) (s .pre .0)
 
 row-frequency-requires : tie.Need-row-frequency-requires
 row-frequency-requires c κs = search needs

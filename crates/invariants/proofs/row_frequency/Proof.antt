@@ -4,8 +4,8 @@ use denote.Ref.{now}
 use Prim.Native.Nat.{ℕ, _-_, _*_}
 use mathlib.Core.Path.{sym, ap, _∙_, subst}
 use mathlib.Core.List.{List}
-use Rattle.invariants.specs.Counts.{occurrences, Reached}
-use Rattle.invariants.proofs.Counts.{cells-at-most, row-within, row-reached, row-counted, part-to-end}
+use Rattle.invariants.specs.Counts.{occurrences, InRange}
+use Rattle.invariants.proofs.Counts.{cells-at-most, row-within, row-in-range, row-counted, part-to-end}
 use borrow.Author.Needs.{needs}
 use Rattle.invariants.proofs.row_frequency.Statement.{statement}
 use Rattle.invariants.proofs.row_frequency.Tie as tie
@@ -29,7 +29,7 @@ count-requires : tie.Need-count-requires
 count-requires c κs =
     let s = c .before .before in
     let at = (s .args .a - 1) * s .args .n in
-    subst (Reached (s .args .n) 1) (sym (part-to-end (now (s .args .cells)) at)) (row-reached (s .args .n) (now (s .args .cells)) (s .pre .0) (s .args .a) (s .pre .1))
+    subst (InRange (s .args .n) 1) (sym (part-to-end (now (s .args .cells)) at)) (row-in-range (s .args .n) (now (s .args .cells)) (s .pre .0) (s .args .a) (s .pre .1))
 
 returns : tie.Need-returns
 returns c =

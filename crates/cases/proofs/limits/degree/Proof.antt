@@ -1,10 +1,10 @@
 -- `degree` meets its contract: what is compared is what the definition of the call says and leaves. Assumes nothing.
 use mathlib.Core.Path.{ap, ap₂, _∙_}
 use Rattle.plain.specs.declared.Said.{Said}
-use Rattle.cases.specs.Said.{sameSaid}
+use Rattle.comparisons.specs.Said.{sameSaid}
 use Rattle.cases.specs.Answering.{answerSaid}
-use Rattle.cases.specs.Tally.{counted}
-use Rattle.cases.proofs.Agreement.{same-left}
+use Rattle.comparisons.specs.Tally.{counted}
+use Rattle.cases.proofs.Bytes.{same-left}
 use borrow.Author.Needs.{needs}
 use Rattle.cases.proofs.limits.degree.Statement.{statement}
 use Rattle.cases.proofs.limits.degree.Tie as tie

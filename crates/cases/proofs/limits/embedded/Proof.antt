@@ -5,9 +5,9 @@ use Prim.Native.Nat.{ℕ}
 use lib.Dec.{eqb}
 use lib.ListN.{drop, replicate}
 use lib.Seq.{length-take-le, length-front}
-use Rattle.cases.specs.Said.{saidNumber}
-use Rattle.cases.specs.Tally.{counted}
-use Rattle.cases.proofs.Agreement.{same-left}
+use Rattle.comparisons.specs.Said.{saidNumber}
+use Rattle.comparisons.specs.Tally.{counted}
+use Rattle.cases.proofs.Bytes.{same-left}
 use borrow.Author.Needs.{needs}
 use Rattle.cases.proofs.limits.embedded.Statement.{statement}
 use Rattle.cases.proofs.limits.embedded.Tie as tie

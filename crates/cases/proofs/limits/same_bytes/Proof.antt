@@ -1,5 +1,5 @@
 -- `same_bytes` meets its contract. Assumes nothing.
-use Rattle.cases.proofs.Agreement.{same-bytes}
+use Rattle.cases.proofs.Bytes.{same-bytes}
 use borrow.Author.Needs.{needs}
 use Rattle.cases.proofs.limits.same_bytes.Statement.{statement}
 use Rattle.cases.proofs.limits.same_bytes.Tie as tie
