@@ -42,7 +42,7 @@ int main(int count, char **arguments)
 {
     static struct table source, target;
     static uint8_t map[TICKDRIZZLE_GREATEST_ORDER];
-    static uint8_t scratch[TICKDRIZZLE_MOST_CELLS];
+    static uint8_t scratch[TICKDRIZZLE_MOST_SCRATCH];
     uint64_t answer[TICKDRIZZLE_ANSWERS];
     if (count != 3) {
         fprintf(stderr, "usage: %s SOURCE.csv TARGET.csv\n", arguments[0]);

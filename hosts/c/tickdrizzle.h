@@ -34,8 +34,12 @@ extern "C" {
 #define TICKDRIZZLE_GREATEST_ORDER 120
 #define TICKDRIZZLE_GREATEST_DEGREE 3
 #define TICKDRIZZLE_MOST_CELLS 14400   /* cells of a table of order 120 */
+#define TICKDRIZZLE_MOST_SCRATCH 1800  /* scratch bytes of a search between tables of order 120 */
 #define TICKDRIZZLE_LONGEST_TEXT 57720 /* text of a table of order 120 whose cells have three digits each */
 #define TICKDRIZZLE_ANSWERS 16         /* numbers in an answer */
+
+/* The scratch bytes that a search between tables of these orders asks for: a bit for each pair. */
+#define TICKDRIZZLE_SCRATCH_SIZE(source_order, target_order) (((source_order) * (target_order) + 7) / 8)
 
 /* The questions, by number, each with the values that its refusal carries from answer[2] on. */
 #define TICKDRIZZLE_NO_ORDER 1          /* is the order 1 to 120? */
@@ -43,7 +47,7 @@ extern "C" {
 #define TICKDRIZZLE_NO_CELL_RANGE 3     /* is every cell 1 to n? the first that is not, counted from 1 */
 #define TICKDRIZZLE_NO_ASSOCIATIVITY 4  /* is (i.j).k = i.(j.k) for all i, j, k? the first i, j, k that fail */
 #define TICKDRIZZLE_NO_MAP_LENGTH 5     /* has the map exactly one byte for each source element? */
-#define TICKDRIZZLE_NO_SCRATCH_LENGTH 6 /* has the scratch buffer at least source order * target order bytes? */
+#define TICKDRIZZLE_NO_SCRATCH_LENGTH 6 /* has the scratch buffer at least a bit for each pair, source order * target order / 8 bytes rounded up? */
 #define TICKDRIZZLE_NO_ELEMENT 7        /* is the element 1 to n? */
 #define TICKDRIZZLE_NO_DEGREE 8         /* is the degree 1 to 3? */
 #define TICKDRIZZLE_NO_TABLE_ROOM 9     /* has the buffer room for the table of transformations? */
@@ -115,9 +119,10 @@ void tickdrizzle_subsemigroup(const uint8_t *cells, size_t cells_length, size_t 
 
 /*
  * The four searches ask 1 to 4 of the source, of the target, 5 and 6, and say TICKDRIZZLE_FOUND or TICKDRIZZLE_NONE. Found:
- * map holds the map. None: there is no such map, and map is as it was. After both, scratch[(i - 1) * target order + (j - 1)]
- * is 1 where target element j has the index and period (for isomorphisms: the profile) of source element i, else 0.
- * Lists are compared byte by byte from the front.
+ * map holds the map. None: there is no such map, and map is as it was. After both, scratch begins with a bit for each pair,
+ * TICKDRIZZLE_SCRATCH_SIZE bytes of them: with k = (i - 1) * target order + (j - 1), scratch[k / 8] >> k % 8 & 1 is 1 where target
+ * element j has the index and period (for isomorphisms: the profile) of source element i, else 0. Unused bits of the last byte
+ * are 0. Lists are compared byte by byte from the front.
  */
 
 /* The earliest embedding of the source in the target: a map with no two images equal that keeps every product.

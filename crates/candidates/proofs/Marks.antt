@@ -1,121 +1,122 @@
--- Marks written pair after pair, row by row: the marks of the pairs so far, then the bytes as they were. Assumes nothing.
-use mathlib.Core.Path.{_≡_, sym, ap, ap₂, _∙_}
+-- Pairs in their order and the bytes of their marks: a pair and the one behind it, where a byte of marks begins, and that marks go by the pairs of
+-- elements alone. Assumes nothing.
+use mathlib.Core.Path.{_≡_, refl, sym, ap, ap₂, _∙_, subst}
 use mathlib.Core.Bool.{Bool, cond}
-use mathlib.Core.Logic.{⊎-elim}
-use mathlib.Core.List.{List, _++_}
-use Prim.Native.Nat.{ℕ, suc, _+_, _-_, _*_, _/_, _%_, _≤_, _<_}
-use native.Mathlib.Nat.{mul-le-mul-left, mul-le-mul-right, suc-mul, zero-mul, div-add-mod', mod-lt, div-lt-iff-lt-mul}
+use mathlib.Core.List.{List, map}
+use Prim.Native.Nat.{ℕ, suc, _+_, _-_, _*_, _/_, _%_, _^_, _≤_, _<_}
+use native.Mathlib.Nat.{mul-le-mul-left, suc-mul, mul-one, pow-suc}
 use native.Mathlib.Omega.{arith}
-use lib.ListN.{length, getD, set, take, drop}
-use lib.Seq.{ext-getD, paste, paste-zero, paste-suc, length-paste, drop-paste, take-all, drop-drop}
-use Rattle.semigroups.specs.Tables.{cellPlace, Element, grid}
-use Rattle.semigroups.specs.Scratch.{scratchSize, marks, withMark}
+use lib.ListN.{length, getD}
+use lib.Seq.{ext-getD}
+use lib.Pow.{pow-mono}
+use Rattle.semigroups.specs.Lists.{range}
+use Rattle.semigroups.specs.Tables.{cellPlace, Element}
+use Rattle.semigroups.specs.Scratch.{packedByte, scratchSize, pairMarks, marks}
 use Rattle.semigroups.specs.Calls.{overwritten, scratchAfter}
-use Rattle.semigroups.proofs.Booleans.{equal-or-not}
-use Rattle.semigroups.proofs.Tables.{place-below, length-grid, grid-at}
-use Rattle.semigroups.proofs.Candidates.{length-marks}
-
--- The bytes when the pairs before i, j are marked.
-unfoldable pub written : ℕ → ℕ → (ℕ → ℕ → Bool) → ℕ → ℕ → List ℕ → List ℕ
-written m n p i j scratch = paste scratch 0 (marks m n p) (cellPlace n i j)
+use Rattle.semigroups.proofs.Tables.{place-below, place-of, place-elements}
+use Rattle.semigroups.proofs.Packing.{worthOf, worth-none, worth-next, worth-all, worth-below, packed-below}
+use Rattle.semigroups.proofs.Candidates.{length-pairs, pair-at, mark-small}
+use Rattle.candidates.specs.Pairs.{PairAt}
 
 -- The number of a pair fits.
 pub pair-small : (n i j : ℕ) → Element 120 i → Element n j → n ≤ 120 → cellPlace n i j < 14400
 pair-small n i j hi hj hn = let size : 120 * n ≤ 120 * 120 = mul-le-mul-left 120 hn in omega (arith, place-below 120 n i j hi hj)
 
--- The mark of a pair lies within the marks of its row and those before it.
-pub pair-below : (n i j : ℕ) (scratch : List ℕ) → 1 ≤ i → Element n j → scratchSize i n ≤ length scratch → cellPlace n i j < length scratch
+-- ---- pair after pair
+
+-- A byte of the marks begins with a pair.
+pub first-pair : (m n b : ℕ) → b < scratchSize m n → PairAt n (b * 8) (b * 8 / n + 1) (b * 8 % n + 1)
 unfolding scratchSize
-pair-below n i j scratch hi hj fits = omega (arith, place-below i n i j (omega arith) hj)
+first-pair m n b h =
+    let w = place-elements m n (b * 8) (omega arith) in
+    record { number = place-of n (b * 8); row = w .0 .0; column = w .1 }
 
-module _ (m n : ℕ) (p : ℕ → ℕ → Bool) (scratch : List ℕ) where
-  -- None yet.
-  pub written-first : scratch ≡ written m n p 1 1 scratch
-  unfolding written
-  written-first = paste-zero scratch 0 (marks m n p) ∙ ap (paste scratch 0 (marks m n p)) (let z : 0 ≡ (1 - 1) * n + (1 - 1) = omega (arith, zero-mul n) in z)
+module _ {n k i j : ℕ} (a : PairAt n k i j) where
+  -- The row of a pair is not above its number by more than 1.
+  pub row-small : i ≤ k + 1
+  row-small =
+      let e = a .number in
+      let c = a .column in
+      let wide : (i - 1) * 1 ≤ (i - 1) * n = mul-le-mul-left (i - 1) (omega arith) in
+      omega (arith, mul-one (i - 1))
 
-  -- All.
-  pub written-all : written m n p (m + 1) 1 scratch ≡ scratchAfter m n p scratch
-  unfolding written scratchAfter scratchSize
-  written-all =
-      let e : (m + 1 - 1) * n ≡ m * n = ap (λ (x : ℕ). x * n) (let z : m + 1 - 1 ≡ m = omega arith in z) in
-      ap (paste scratch 0 (marks m n p)) (let z : (m + 1 - 1) * n + (1 - 1) ≡ m * n = omega arith in z)
-      ∙ ap₂ (λ (l : List ℕ) (k : ℕ). l ++ drop k scratch) (take-all (m * n) (marks m n p) (let l = length-marks m n p scratch in omega arith)) (let l = length-marks m n p scratch in let z : 0 + m * n ≡ length (marks m n p) = omega arith in z)
+  -- Behind the last column comes the first one of the next row.
+  pub next-row : n ≤ j → PairAt n (k + 1) (i + 1) 1
+  next-row h =
+      let e = a .number in
+      let c = a .column in
+      let r = a .row in
+      let following : (i + 1 - 1) * n ≡ suc (i - 1) * n = ap (λ (x : ℕ). x * n) (let z : i + 1 - 1 ≡ suc (i - 1) = omega arith in z) in
+      record { number = omega (arith, suc-mul (i - 1) n); row = omega arith; column = omega arith }
 
-module _ (m n : ℕ) (p : ℕ → ℕ → Bool) (scratch : List ℕ) (fits : scratchSize m n ≤ length scratch) (i : ℕ) (hi : Element m i) where
-  -- Pairs of row i, and the end of the row, lie within the marks.
-  within : (j : ℕ) → j ≤ n + 1 → (i - 1) * n + (j - 1) ≤ m * n
-  within j hj = let row : suc (i - 1) * n ≤ m * n = mul-le-mul-right n (omega arith) in omega (arith, suc-mul (i - 1) n)
+-- ---- eight marks
 
-  pub length-written : (j : ℕ) → j ≤ n + 1 → length (written m n p i j scratch) ≡ length scratch
-  unfolding written scratchSize
-  length-written j hj = let l = length-marks m n p scratch in let w = within j hj in length-paste scratch 0 (marks m n p) ((i - 1) * n + (j - 1)) (omega arith) (omega arith)
+module _ (m n : ℕ) (p : ℕ → ℕ → Bool) (b : ℕ) where
+  -- The first r marks of byte b are worth `byte` together; the next is worth `worth`, and its pair is i, j.
+  pub record Gathered (i j byte worth r : ℕ) : Type 0 where
+    pub inside : r ≤ 8
+    pub pair : PairAt n (8 * b + r) i j
+    pub so-far : byte ≡ worthOf (pairMarks m n p) b r
+    pub next : worth ≡ 2 ^ r
 
-  -- One pair more.
-  pub written-pair : (j : ℕ) → Element n j → withMark n (written m n p i j scratch) i j (p i j) ≡ written m n p i (j + 1) scratch
-  unfolding written withMark marks scratchSize
-  written-pair j hj =
-      let k = (i - 1) * n + (j - 1) in
-      let below : k < m * n = place-below m n i j hi hj in
-      let l = length-marks m n p scratch in
-      ap₂ (λ (x y : ℕ). set (paste scratch 0 (marks m n p) k) x y) (let z : k ≡ 0 + k = omega arith in z) (sym (grid-at m n (λ x y. cond (p x y) 1 0) i j hi hj))
-      ∙ paste-suc scratch 0 (marks m n p) k 0 (omega arith) (omega arith)
-      ∙ ap (paste scratch 0 (marks m n p)) (let z : suc k ≡ (i - 1) * n + (j + 1 - 1) = omega arith in z)
+  pub gather-begin : b < scratchSize m n → Gathered (b * 8 / n + 1) (b * 8 % n + 1) 0 1 0
+  gather-begin h =
+      record {
+        inside = omega arith;
+        pair = subst (λ (k : ℕ). PairAt n k (b * 8 / n + 1) (b * 8 % n + 1)) (omega arith) (first-pair m n b h);
+        so-far = sym (worth-none (pairMarks m n p) b);
+        next = refl;
+      }
 
-  -- Row i may as well be written over the bytes as it finds them.
-  pub written-over : (j : ℕ) → Element (n + 1) j → written m n p i j (written m n p i 1 scratch) ≡ written m n p i j scratch
-  unfolding written scratchSize
-  written-over j hj =
-      let from = (i - 1) * n + (1 - 1) in
-      let to = (i - 1) * n + (j - 1) in
-      let l = length-marks m n p scratch in
-      let w = within j (hj .1) in
-      ap (λ (r : List ℕ). take to (marks m n p) ++ r)
-      (ap (λ (k : ℕ). drop k (paste scratch 0 (marks m n p) from)) (let z : 0 + to ≡ 0 + from + (j - 1) = omega arith in z)
-      ∙ sym (drop-drop (j - 1) (0 + from) (paste scratch 0 (marks m n p) from))
-      ∙ ap (drop (j - 1)) (drop-paste scratch 0 (marks m n p) from (omega arith) (omega arith))
-      ∙ drop-drop (j - 1) (0 + from) scratch ∙ ap (λ (k : ℕ). drop k scratch) (let z : 0 + from + (j - 1) ≡ 0 + to = omega arith in z))
+  module _ {i j byte worth r : ℕ} (g : Gathered i j byte worth r) where
+    module _ (more : r < 8) (v : ℕ) (e : v ≡ getD (pairMarks m n p) (cellPlace n i j) 0) where
+      mark-here : v ≡ getD (pairMarks m n p) (8 * b + r) 0
+      mark-here = e ∙ ap (λ (k : ℕ). getD (pairMarks m n p) k 0) (g .pair .number)
 
-  -- The end of row i is the start of the next.
-  pub written-row : written m n p i (n + 1) scratch ≡ written m n p (i + 1) 1 scratch
-  unfolding written
-  written-row =
-      let e : (i + 1 - 1) * n ≡ suc (i - 1) * n = ap (λ (x : ℕ). x * n) (let z : i + 1 - 1 ≡ suc (i - 1) = omega arith in z) in
-      ap (paste scratch 0 (marks m n p)) (let z : (i - 1) * n + (n + 1 - 1) ≡ (i + 1 - 1) * n + (1 - 1) = omega (arith, suc-mul (i - 1) n) in z)
+      gathered : byte + v * worth ≡ worthOf (pairMarks m n p) b (r + 1)
+      gathered =
+          ap₂ (λ (x y : ℕ). x + y) (g .so-far) (ap₂ (λ (x y : ℕ). x * y) mark-here (g .next)) ∙ sym (worth-next (pairMarks m n p) b r)
+          ∙ ap (worthOf (pairMarks m n p) b) (let z : suc r ≡ r + 1 = omega arith in z)
 
--- Marks go by the pairs of elements alone.
+      -- Nothing wraps.
+      pub gathered-small : byte + v * worth < 256
+      gathered-small =
+          let most : 2 ^ (r + 1) ≤ 2 ^ 8 = pow-mono {i = r + 1} {j = 8} (omega arith) in
+          let below = worth-below (pairMarks m n p) (mark-small m n p) b (r + 1) in
+          let same = gathered in
+          omega arith
+
+      pub gather-next : (i′ j′ : ℕ) → PairAt n (cellPlace n i j + 1) i′ j′ → Gathered i′ j′ (byte + v * worth) (worth * 2) (r + 1)
+      gather-next i′ j′ a =
+          record {
+            inside = omega arith;
+            pair = subst (λ (k : ℕ). PairAt n k i′ j′) (let here = g .pair .number in omega arith) a;
+            so-far = gathered;
+            next = ap (λ (x : ℕ). x * 2) (g .next) ∙ sym (pow-suc 2 r) ∙ ap (λ (k : ℕ). 2 ^ k) (let z : suc r ≡ r + 1 = omega arith in z);
+          }
+
+    pub worth-small : r < 8 → worth ≤ 128
+    worth-small h = let most : 2 ^ r ≤ 2 ^ 7 = pow-mono {i = r} {j = 7} (omega arith) in let e = g .next in omega arith
+
+    pub gather-end : 8 ≤ r → byte ≡ packedByte (pairMarks m n p) b
+    gather-end h = let i = g .inside in g .so-far ∙ ap (worthOf (pairMarks m n p) b) (let z : r ≡ 8 = omega arith in z) ∙ worth-all (pairMarks m n p) b
+
+    pub gather-byte : 8 ≤ r → byte < 256
+    gather-byte h = let e = gather-end h in omega (arith, packed-below (pairMarks m n p) (mark-small m n p) b)
+
+-- ---- marks go by the pairs of elements alone
+
 module _ (m n : ℕ) (p q : ℕ → ℕ → Bool) (same : (i j : ℕ) → Element m i → Element n j → p i j ≡ q i j) where
-  marks-same : marks m n p ≡ marks m n q
-  unfolding marks
-  marks-same = ext-getD 0 (grid m n f) (grid m n g) (length-grid m n f ∙ sym (length-grid m n g)) entry
+  pairs-same : pairMarks m n p ≡ pairMarks m n q
+  pairs-same = ext-getD 0 (pairMarks m n p) (pairMarks m n q) (length-pairs m n p ∙ sym (length-pairs m n q)) entry
     where
-      f : ℕ → ℕ → ℕ
-      f i j = cond (p i j) 1 0
-
-      g : ℕ → ℕ → ℕ
-      g i j = cond (q i j) 1 0
-
-      at-pair : (i j : ℕ) → Element m i → Element n j → getD (grid m n f) (cellPlace n i j) 0 ≡ getD (grid m n g) (cellPlace n i j) 0
-      at-pair i j hi hj = grid-at m n f i j hi hj ∙ ap (λ (b : Bool). cond b 1 0) (same i j hi hj) ∙ sym (grid-at m n g i j hi hj)
-
-      entry : (k : ℕ) → k < length (grid m n f) → getD (grid m n f) k 0 ≡ getD (grid m n g) k 0
-      entry k h = ⊎-elim (λ (e : n ≡ 0). absurd (none e)) (λ (ne : n ≡ 0 → ⊥). some (omega arith)) (equal-or-not n 0)
-        where
-          below : k < m * n
-          below = let l = length-grid m n f in omega arith
-
-          none : n ≡ 0 → ⊥
-          none e = let z = ap (λ (x : ℕ). m * x) e in let y : ⊥ = omega (arith, below) in y
-
-          some : 0 < n → getD (grid m n f) k 0 ≡ getD (grid m n g) k 0
-          some h =
-              let row = div-lt-iff-lt-mul {k = n} {x = k} {y = m} h .1 below in
-              let column = mod-lt k h in
-              let i = suc (k / n) in
-              let j = suc (k % n) in
-              let place : (i - 1) * n + (j - 1) ≡ k = ap₂ (λ (x y : ℕ). x * n + y) (let z : suc (k / n) - 1 ≡ k / n = omega arith in z) (let z : suc (k % n) - 1 ≡ k % n = omega arith in z) ∙ div-add-mod' k n in
-              ap (λ (x : ℕ). getD (grid m n f) x 0) (sym place) ∙ at-pair i j (omega arith) (omega arith) ∙ ap (λ (x : ℕ). getD (grid m n g) x 0) place
+      entry : (k : ℕ) → k < length (pairMarks m n p) → getD (pairMarks m n p) k 0 ≡ getD (pairMarks m n q) k 0
+      entry k h =
+          let i = k / n + 1 in
+          let j = k % n + 1 in
+          let w = place-elements m n k (let l = length-pairs m n p in omega arith) in
+          pair-at m n p k i j (place-of n k) (w .0) (w .1) ∙ ap (λ (b : Bool). cond b 1 0) (same i j (w .0) (w .1)) ∙ sym (pair-at m n q k i j (place-of n k) (w .0) (w .1))
 
   pub scratch-same : (scratch : List ℕ) → scratchAfter m n p scratch ≡ scratchAfter m n q scratch
-  unfolding scratchAfter
-  scratch-same scratch = ap (λ (l : List ℕ). overwritten l scratch) marks-same
+  unfolding scratchAfter marks
+  scratch-same scratch = ap (λ (l : List ℕ). overwritten (map (packedByte l) (range 0 (scratchSize m n))) scratch) pairs-same

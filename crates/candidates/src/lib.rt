@@ -1,15 +1,16 @@
 // Candidates and their marks in the scratch buffer. This crate alone knows where a mark stands and how many bytes the marks take.
 // What is compared of an element is packed into one number, its key, once for each element; a pair of elements is then one comparison.
 ghost use mathlib.Core.Path.{_≡_};
-ghost use Prim.Native.Nat.{_≤_, _<_};
-ghost use lib.ListN.{length};
+ghost use Prim.Native.Nat.{_+_, _≤_, _<_};
+ghost use lib.ListN.{length, getD};
 ghost use Rattle.semigroups.specs.Tables.{cellPlace, product, Element, Filled};
 ghost use Rattle.semigroups.specs.Invariants.{indexPeriod, profile};
 ghost use Rattle.semigroups.specs.Maps.{embeddings, isomorphisms};
 ghost use Rattle.semigroups.specs.Candidates.{candidate};
-ghost use Rattle.semigroups.specs.Scratch.{scratchSize, marked, withMark};
+ghost use Rattle.semigroups.specs.Scratch.{packedByte, scratchSize, pairMarks, marked};
 ghost use Rattle.semigroups.specs.Calls.{scratchAfter};
 ghost use Rattle.invariants.specs.PerElement.{perElement};
+ghost use Rattle.candidates.specs.Pairs.{PairAt};
 ghost use Rattle.candidates.specs.Keys.{indexPeriodKey, profileKey, appended, Room, sameKey};
 
 // ---- marks
@@ -19,7 +20,7 @@ pub fn scratch_size(m: usize, n: usize) -> usize
     requires { ⌜ (m ≤ 120) × (n ≤ 120) ⌝ }
     ensures answer { λ r. ⌜ r ≡ scratchSize m n ⌝ }
 {
-    m * n
+    (m * n + 7) / 8
 }
 
 // The number of the pair of source element i and target element j of n, counted from 0.
@@ -37,16 +38,8 @@ pub fn marked(scratch: &[u8], n: usize, i: usize, j: usize) -> bool
     requires { ⌜ scratchSize i n ≤ length (now scratch) ⌝ }
     ensures answer { λ r. ⌜ r ≡ marked n (now (scratch .entry)) i j ⌝ }
 {
-    scratch[pair_number(n, i, j)] == 1
-}
-
-// Marks target element j of n as a candidate for source element i, or as none.
-fn mark(scratch: &mut [u8], n: usize, i: usize, j: usize, candidate: bool)
-    requires { ⌜ Element 120 i × Element n j × (n ≤ 120) ⌝ }
-    requires { ⌜ scratchSize i n ≤ length (now scratch) ⌝ }
-    ensures scratch { λ _. ⌜ now (scratch .exit) ≡ withMark n (now (scratch .entry)) i j candidate ⌝ }
-{
-    scratch[pair_number(n, i, j)] = candidate as u8;
+    let pair = pair_number(n, i, j);
+    (scratch[pair / 8] >> (pair % 8)) % 2 == 1
 }
 
 // ---- keys
@@ -93,21 +86,75 @@ fn profile_keys(cells: &[u8], n: usize) -> [u64; 120]
 
 // ---- filling
 
-// Marks the pairs of elements with equal keys, row by row.
+// A source element i and a target element j. Past the last pair i is above the source's order.
+struct Pair {
+    i: usize,
+    j: usize,
+}
+
+// The pair behind another, row by row.
+fn following(pair: Pair, n: usize) -> Pair
+    requires { ⌜ (1 ≤ pair .i) × (pair .i ≤ 14400) × Element n (pair .j) × (n ≤ 120) ⌝ }
+    ensures next { λ r. ⌜ PairAt n (cellPlace n (pair .i) (pair .j) + 1) (r .i) (r .j) ⌝ }
+{
+    if pair.j < n {
+        return Pair {
+            i: pair.i,
+            j: pair.j + 1,
+        };
+    }
+    Pair {
+        i: pair.i + 1,
+        j: 1,
+    }
+}
+
+// The mark of a pair: 1 where its elements have equal keys, else 0; past the last pair 0.
+fn mark(source: &[u64; 120], m: usize, target: &[u64; 120], n: usize, pair: Pair) -> usize
+    requires { ⌜ (1 ≤ pair .i) × Element n (pair .j) × (m ≤ 120) × (n ≤ 120) ⌝ }
+    ensures answer { λ r. ⌜ r ≡ getD (pairMarks m n (sameKey (now (source .entry)) (now (target .entry)))) (cellPlace n (pair .i) (pair .j)) 0 ⌝ }
+{
+    let i = pair.i;
+    let j = pair.j;
+    if i <= m {
+        return (source[i - 1] == target[j - 1]) as usize;
+    }
+    0
+}
+
+// A byte of the marks of elements with equal keys: eight pairs, each worth twice the one before it.
+fn marks_byte(source: &[u64; 120], m: usize, target: &[u64; 120], n: usize, place: usize) -> u8
+    requires { ⌜ (m ≤ 120) × (n ≤ 120) × (place < scratchSize m n) ⌝ }
+    ensures answer { λ r. ⌜ r ≡ packedByte (pairMarks m n (sameKey (now (source .entry)) (now (target .entry)))) place ⌝ }
+{
+    let first = place * 8;
+    let mut pair = Pair {
+        i: first / n + 1,
+        j: first % n + 1,
+    };
+    let mut byte: usize = 0;
+    let mut worth: usize = 1;
+    let mut r: usize = 0;
+    while r < 8 {
+        byte += mark(source, m, target, n, pair) * worth;
+        pair = following(pair, n);
+        worth *= 2;
+        r += 1;
+    }
+    byte as u8
+}
+
+// Marks the pairs of elements with equal keys.
 fn fill(source: &[u64; 120], m: usize, target: &[u64; 120], n: usize, scratch: &mut [u8])
     requires { ⌜ (m ≤ 120) × (n ≤ 120) ⌝ }
     requires { ⌜ scratchSize m n ≤ length (now scratch) ⌝ }
     ensures scratch { λ _. ⌜ now (scratch .exit) ≡ scratchAfter m n (sameKey (now (source .entry)) (now (target .entry))) (now (scratch .entry)) ⌝ }
 {
-    let mut i: usize = 1;
-    while i <= m {
-        let key = source[i - 1];
-        let mut j: usize = 1;
-        while j <= n {
-            mark(scratch, n, i, j, key == target[j - 1]);
-            j += 1;
-        }
-        i += 1;
+    let size = scratch_size(m, n);
+    let mut place: usize = 0;
+    while place < size {
+        scratch[place] = marks_byte(source, m, target, n, place);
+        place += 1;
     }
 }
 

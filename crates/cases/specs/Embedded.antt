@@ -1,4 +1,4 @@
--- The first embedding of swap in two, with a scratch buffer of some bytes at the start of 8: what is compared. Assumes nothing.
+-- The first embedding of swap in two, with a scratch buffer of some bytes at the start of 3: what is compared. Assumes nothing.
 use mathlib.Core.List.{List, [], _∷_, _++_}
 use Prim.Native.Nat.{ℕ}
 use lib.Dec.{eqb}
@@ -23,10 +23,10 @@ abbrev pub mat5Cells : List ℕ
 mat5Cells = 1 ∷ 1 ∷ 1 ∷ 1 ∷ 1 ∷ 1 ∷ 2 ∷ 3 ∷ 2 ∷ 3 ∷ 1 ∷ 1 ∷ 1 ∷ 2 ∷ 3 ∷ 1 ∷ 4 ∷ 5 ∷ 4 ∷ 5 ∷ 1 ∷ 1 ∷ 1 ∷ 4 ∷ 5 ∷ []
 
 abbrev pub embeddedCall : ℕ → Called
-embeddedCall size = call embeddings theFirst (lend swapCells 2 twoCells 4 (0 ∷ 0 ∷ []) (take size (replicate 8 7)))
+embeddedCall size = call embeddings theFirst (lend swapCells 2 twoCells 4 (0 ∷ 0 ∷ []) (take size (replicate 3 255)))
 
 -- What is said, the map buffer, and the scratch buffer with the bytes behind it.
 abbrev pub embeddedTally : ℕ → ℕ → List ℕ → List ℕ → Tally → Tally
 embeddedTally size said map scratch t =
     let c = embeddedCall size in
-    counted (counted (counted t (eqb (saidNumber (c .says)) said)) (sameBytes (c .map) map)) (sameBytes (c .scratch ++ drop size (replicate 8 7)) scratch)
+    counted (counted (counted t (eqb (saidNumber (c .says)) said)) (sameBytes (c .map) map)) (sameBytes (c .scratch ++ drop size (replicate 3 255)) scratch)

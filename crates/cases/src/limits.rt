@@ -98,24 +98,24 @@ pub fn large_target() -> Tally
 // ---- buffers and fields
 
 // The first embedding of swap in two with a scratch buffer of `size` bytes: what is said, and both buffers afterwards.
-fn embedded(size: usize, said: usize, map: [u8; 2], scratch: [u8; 8], tally: Tally) -> Tally
-    requires { ⌜ size ≤ 8 ⌝ }
+fn embedded(size: usize, said: usize, map: [u8; 2], scratch: [u8; 3], tally: Tally) -> Tally
+    requires { ⌜ size ≤ 3 ⌝ }
     ensures answer { λ r. ⌜ r ≡ embeddedTally size said map scratch tally ⌝ }
 {
     let mut images = [0u8; 2];
-    let mut marks = [7u8; 8];
+    let mut marks = [255u8; 3];
     let answer = search::first_embedding(&SWAP, 2, &TWO, 4, &mut images, &mut marks[..size]);
     let answered = counted(tally, said_number(answer) == said);
     let mapped = counted(answered, same_bytes(&images, &map));
     counted(mapped, same_bytes(&marks, &scratch))
 }
 
-// Scratch of 2 x 4 bytes is enough, and one byte less is not: nothing is changed then.
+// One byte of scratch is enough for 2 x 4 pairs, and one byte less is not: nothing is changed then.
 pub fn scratch() -> Tally
     ensures answer { λ r. ⌜ r ≡ agreed 6 empty ⌝ }
 {
-    let short = embedded(7, 6, [0, 0], [7; 8], start());
-    embedded(8, 100, [2, 3], [1, 1, 0, 1, 0, 0, 1, 0], short)
+    let short = embedded(0, 6, [0, 0], [255; 3], start());
+    embedded(1, 100, [2, 3], [75, 255, 255], short)
 }
 
 // The question that fails, and what is said with it.

@@ -2,9 +2,9 @@
 use mathlib.Core.Path.{_≡_, refl, ap}
 use mathlib.Core.List.{[], _∷_, flatMap, List·Memᴰ·head, List·Memᴰ·tail}
 use mathlib.Core.Option.{some, orElse}
-use Prim.Native.Nat.{ℕ}
+use Prim.Native.Nat.{ℕ, _≤_}
 use native.Mathlib.Omega.{arith}
-use lib.ListN.{length, replicate}
+use lib.ListN.{length, replicate, length-replicate}
 use Rattle.semigroups.specs.Lists.{range, elements, at, find, firstOf, sum, count, earlier, lists}
 use Rattle.semigroups.specs.Tables.{product, grid, isElement, associates, badCell, badTriple}
 use Rattle.semigroups.specs.Scratch.{scratchSize}
@@ -22,7 +22,7 @@ use Rattle.maps.specs.Answers.{mapCheck}
 use Rattle.transformations.specs.Answers as transformations
 use Rattle.search.specs.Calls.{Lent, lend, Called, theFirst, refusalOf, answerOf, call}
 use Rattle.search.specs.Wanted.{Passes}
-use Rattle.search.proofs.Calls.{refused-exactly, refused-unchanged, nothing-keeps-map}
+use Rattle.search.proofs.Calls.{refused-exactly, refused-unchanged, nothing-keeps-map, scratch-apart}
 use Rattle.csv.specs.Tables.{orderOf, cellsOf, tableText}
 use Rattle.csv.specs.Questions.{loadQuestions, loadRefusal, saveQuestions, saveRefusal}
 use Rattle.csv.specs.Calls.{loadAnswer, cellsAfter, saveAnswer, textAfter}
@@ -62,34 +62,38 @@ demand-1 =
 unfoldable pub lent : ℕ → Lent
 lent scratch = lend (swap .cells) (swap .order) (two .cells) (two .order) (0 ∷ 0 ∷ []) (replicate scratch 9)
 
--- Eight bytes are enough: the call is answered.
-pub enough : Passes (lent 8)
+-- One byte, or more, is enough: the call is answered.
+pub enough : (k : ℕ) → 1 ≤ k → Passes (lent k)
 unfolding lent two scratchSize transformationOrder
-enough =
+enough k h =
     record {
       check = record {
         source-table = worked .accepted swap (List·Memᴰ·tail (List·Memᴰ·head refl));
         target-table = worked .accepted two (List·Memᴰ·tail (List·Memᴰ·tail (List·Memᴰ·tail (List·Memᴰ·tail (List·Memᴰ·tail (List·Memᴰ·head refl))))));
         map-size = refl;
       };
-      scratch-room = omega arith;
+      scratch-room = omega (arith, length-replicate {A = ℕ} k 9);
     }
 
-enough-given : call embeddings theFirst (lent 8) .says ≡ gives (sought (answerOf embeddings theFirst (lent 8)))
-enough-given = demand-1 .search embeddings theFirst (lent 8) .given-exactly .1 enough
+enough-given : call embeddings theFirst (lent 1) .says ≡ gives (sought (answerOf embeddings theFirst (lent 1)))
+enough-given = demand-1 .search embeddings theFirst (lent 1) .given-exactly .1 (enough 1 (omega arith))
 
--- Seven are not: question 6 is the earliest that fails, and both buffers stay as they are.
-short : refusalOf embeddings theFirst (lent 7) ≡ some (no 6 [])
+-- The scratch buffer makes no difference to what is said and found.
+enough-apart : (call embeddings theFirst (lent 1) .says ≡ call embeddings theFirst (lent 9) .says) × (call embeddings theFirst (lent 1) .map ≡ call embeddings theFirst (lent 9) .map)
+enough-apart = unfold lent in scratch-apart embeddings theFirst (swap .cells) (swap .order) (two .cells) (two .order) (0 ∷ 0 ∷ []) (replicate 1 9) (replicate 9 9) (enough 1 (omega arith)) (enough 9 (omega arith))
+
+-- None is not: question 6 is the earliest that fails, and both buffers stay as they are.
+short : refusalOf embeddings theFirst (lent 0) ≡ some (no 6 [])
 unfolding lent two range elements at sum count find firstOf earlier lists product grid isElement associates badCell badTriple searchRefusal scratchSize after image-lists transformationOrder transformation numberOf transformationProduct transformationCells orElse flatMap
 short = refl
 
-short-refused : call embeddings theFirst (lent 7) .says ≡ refused (no 6 [])
-short-refused = refused-exactly embeddings (lent 7) theFirst (no 6 []) .1 short
+short-refused : call embeddings theFirst (lent 0) .says ≡ refused (no 6 [])
+short-refused = refused-exactly embeddings (lent 0) theFirst (no 6 []) .1 short
 
-short-earliest : EarliestNo (searchQuestions (swap .order) (swap .cells) (two .order) (two .cells) 2 7) (no 6 [])
+short-earliest : EarliestNo (searchQuestions (swap .order) (swap .cells) (two .order) (two .cells) 2 0) (no 6 [])
 unfolding lent
-short-earliest = demand-1 .search embeddings theFirst (lent 7) .refused-exactly (no 6 []) .0 short-refused
+short-earliest = demand-1 .search embeddings theFirst (lent 0) .refused-exactly (no 6 []) .0 short-refused
 
-short-unchanged : (call embeddings theFirst (lent 7) .map ≡ 0 ∷ 0 ∷ []) × (call embeddings theFirst (lent 7) .scratch ≡ replicate 7 9)
+short-unchanged : (call embeddings theFirst (lent 0) .map ≡ 0 ∷ 0 ∷ []) × (call embeddings theFirst (lent 0) .scratch ≡ replicate 0 9)
 unfolding lent
-short-unchanged = demand-1 .search-refused embeddings theFirst (lent 7) (no 6 []) short-refused
+short-unchanged = demand-1 .search-refused embeddings theFirst (lent 0) (no 6 []) short-refused

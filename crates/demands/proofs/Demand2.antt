@@ -63,15 +63,15 @@ demand-2 =
 -- ---- instances, to show that it is not empty
 
 -- Case 6: swap embeds in the degree 2 table, so a call finds a map; the earliest is (2,3).
-swap-wanted : Wanted embeddings (lent 8) theFirst (2 ∷ 3 ∷ [])
+swap-wanted : Wanted embeddings (lent 1) theFirst (2 ∷ 3 ∷ [])
 unfolding lent two range elements at all sum count member distinct earlier lists product grid isElement isHomomorphism isEmbedding after transformations transformationOrder transformation numberOf transformationProduct transformationCells flatMap
 swap-wanted = is-embedding (swap .order) (product (swap .order) (swap .cells)) (two .order) (product (two .order) (two .cells)) (2 ∷ 3 ∷ []) refl
 
-swap-found : call embeddings theFirst (lent 8) .says ≡ gives found
-swap-found = demand-2 .wanted-found embeddings theFirst (lent 8) enough (2 ∷ 3 ∷ []) swap-wanted
+swap-found : call embeddings theFirst (lent 1) .says ≡ gives found
+swap-found = demand-2 .wanted-found embeddings theFirst (lent 1) (enough 1 (omega arith)) (2 ∷ 3 ∷ []) swap-wanted
 
-swap-earliest : Earliest (Wanted embeddings (lent 8) theFirst) (call embeddings theFirst (lent 8) .map)
-swap-earliest = demand-2 .found-exactly embeddings theFirst (lent 8) enough (call embeddings theFirst (lent 8) .map) .0 (swap-found, refl)
+swap-earliest : Earliest (Wanted embeddings (lent 1) theFirst) (call embeddings theFirst (lent 1) .map)
+swap-earliest = demand-2 .found-exactly embeddings theFirst (lent 1) (enough 1 (omega arith)) (call embeddings theFirst (lent 1) .map) .0 (swap-found, refl)
 
 -- Case 4: element 3 of mat5 has index 2 and period 1.
 third : ElementPasses (mat5 .order) (mat5 .cells) 3

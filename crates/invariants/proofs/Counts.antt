@@ -14,11 +14,10 @@ use lib.Seq.{getD-drop, take-all}
 use Rattle.semigroups.specs.Lists.{range, elements, sum, count}
 use Rattle.semigroups.specs.Tables.{product, Element, Filled}
 use Rattle.semigroups.specs.Invariants.{frequency, diagonalFrequency, rowFrequency, columnFrequency, commuting}
-use Rattle.semigroups.proofs.Lists.{length-range}
+use Rattle.semigroups.proofs.Lists.{length-range, range-snoc}
 use Rattle.semigroups.proofs.Sums.{sum-append, count-same, count-at-most}
 use Rattle.semigroups.proofs.Frequencies.{frequency-cells}
 use Rattle.tables.proofs.Questions.{square-small}
-use Rattle.invariants.proofs.Lists.{range-snoc}
 use Rattle.invariants.specs.Counts.{occurrences, InRange}
 
 -- ---- numbers in a row

@@ -2,14 +2,9 @@
 use mathlib.Core.Path.{_≡_, refl, ap, ap₂, _∙_}
 use mathlib.Core.List.{List, [], _∷_, _++_, map, map-append, List·Memᴰ, List·Memᴰ·head, List·Memᴰ·tail}
 use Prim.Native.Nat.{ℕ, zero, suc, _+_}
-use native.Mathlib.Omega.{arith}
 use lib.ListN.{length, getD, replicate}
 use Rattle.semigroups.specs.Lists.{range}
-
-pub range-snoc : (i k : ℕ) → range i (suc k) ≡ range i k ++ (i + k) ∷ []
-unfolding range
-range-snoc i zero = ap {B = List ℕ} (λ (x : ℕ). x ∷ []) (let z : i ≡ i + 0 = omega arith in z)
-range-snoc i (suc k) = ap {B = List ℕ} (λ (l : List ℕ). i ∷ l) (range-snoc (suc i) k ∙ ap {B = List ℕ} (λ (x : ℕ). range (suc i) k ++ x ∷ []) (let z : suc i + k ≡ i + suc k = omega arith in z))
+use Rattle.semigroups.proofs.Lists.{range-snoc}
 
 pub map-range-snoc : (w : ℕ → ℕ) (i k : ℕ) → map w (range i (suc k)) ≡ map w (range i k) ++ w (i + k) ∷ []
 map-range-snoc w i k = ap (map w) (range-snoc i k) ∙ map-append w (range i k) ((i + k) ∷ [])

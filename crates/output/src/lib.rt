@@ -72,17 +72,16 @@ fn put_found(out: &mut [u8], n: usize, map: &[u8]) -> usize
     put_pairs(out, at, map)
 }
 
-// Asks for the first embedding of one table in another, writes what is found, or none, to the start of `out` and answers the length. The buffers lent
-// to the search have the right length, so no question fails.
+// Asks for the first embedding of one table in another, writes what is found, or none, to the start of `out` and answers the length. The map buffer has
+// the right length, and scratch is enough for the largest tables, so no question fails.
 fn put_answer(out: &mut [u8; 1095], source: &[u8], m: usize, target: &[u8], n: usize) -> usize
     requires tables { ⌜ Accepted m (now source) × Accepted n (now target) ⌝ }
     ensures answer { λ r. ⌜ r ≡ length (rowsText (answerRecords m (now (source .entry)) n (now (target .entry)))) ⌝ }
     ensures out { λ _. ⌜ now (out .exit) ≡ overwritten (rowsText (answerRecords m (now (source .entry)) n (now (target .entry)))) (now (out .entry)) ⌝ }
 {
     let mut map = [0u8; 120];
-    let mut scratch = [0u8; 14400];
-    let marks = m * n;
-    let said = search::first_embedding(source, m, target, n, &mut map[..m], &mut scratch[..marks]);
+    let mut scratch = [0u8; 1800];
+    let said = search::first_embedding(source, m, target, n, &mut map[..m], &mut scratch);
     let SearchAnswer::Found = said else {
         return put_record(out, b"none", m, n);
     };

@@ -17,8 +17,8 @@ use Rattle.semigroups.proofs.ListOrder.{earliest-same}
 use Rattle.semigroups.proofs.Calls.{gives-ne-refused, found-ne-nothing, refused-by}
 use Rattle.semigroups.proofs.Passing.{search-passes}
 use Rattle.semigroups.proofs.Maps as maps
-use Rattle.search.specs.Calls.{Lent, Called, Request, theFirst, theNext, askOf, refusalOf, answerOf, marksOf, call}
-use Rattle.search.specs.Wanted.{Passes, Wanted}
+use Rattle.search.specs.Calls.{Lent, lend, Called, Request, theFirst, theNext, askOf, refusalOf, answerOf, marksOf, call}
+use Rattle.search.specs.Wanted.{Passes, Wanted, ScratchApart}
 
 module _ (kind : Kind) (l : Lent) (request : Request) where
   -- ---- refused or not
@@ -129,3 +129,14 @@ module _ (kind : Kind) (l : Lent) (request : Request) where
       let h = late-wanted f .1 w in
       let r = maps.map-found kind (l .m) (product (l .m) (l .source)) (l .n) (product (l .n) (l .target)) (askOf request (l .map)) f (h .0) (h .1) in
       ap (λ (c : Called). c .says) (not-refused (passed p) (some (r .0)) (r .1))
+
+-- The map asked for does not depend on the scratch buffer.
+pub scratch-apart : ScratchApart
+scratch-apart kind request source m target n map one other p q =
+    let a = lend source m target n map one in
+    let b = lend source m target n map other in
+    let e = not-refused kind a request (passed kind a request p) (answerOf kind request a) refl in
+    let f = not-refused kind b request (passed kind b request q) (answerOf kind request b) refl in (
+      ap (λ (c : Called). c .says) e ∙ sym (ap (λ (c : Called). c .says) f),
+      ap (λ (c : Called). c .map) e ∙ sym (ap (λ (c : Called). c .map) f),
+    )

@@ -107,13 +107,13 @@ onto scratch = lending (two .order) (two .cells) (two .cells) scratch
 
 -- Other cells and another order: swap, for which the map buffer is too long; and a table that is not associative.
 too-few : Beside
-too-few = record { source = swap .cells; m = swap .order; target = two .cells; n = two .order; scratch = replicate 16 0 }
+too-few = record { source = swap .cells; m = swap .order; target = two .cells; n = two .order; scratch = replicate 2 0 }
 
 not-associative : Beside
 not-associative = record { source = 2 ∷ 1 ∷ 1 ∷ 1 ∷ []; m = 2; target = two .cells; n = two .order; scratch = [] }
 
 calls : List Beside
-calls = onto (replicate 16 0) ∷ onto (replicate 15 0) ∷ too-few ∷ not-associative ∷ onto (replicate 20 7) ∷ onto (replicate 16 9) ∷ onto [] ∷ onto (replicate 16 0) ∷ []
+calls = onto (replicate 2 0) ∷ onto (replicate 1 0) ∷ too-few ∷ not-associative ∷ onto (replicate 20 7) ∷ onto (replicate 2 9) ∷ onto [] ∷ onto (replicate 2 0) ∷ []
 
 -- Two maps are found, with three refused calls between; then there is none each time, with a refused call between.
 answers : List (Outcome)
@@ -123,7 +123,7 @@ answers =
     ∷ record { says = gives found; buffer = 4 ∷ 2 ∷ 3 ∷ 1 ∷ [] } ∷ record { says = gives nothing; buffer = 4 ∷ 2 ∷ 3 ∷ 1 ∷ [] }
     ∷ record { says = refused (no 6 []); buffer = 4 ∷ 2 ∷ 3 ∷ 1 ∷ [] } ∷ record { says = gives nothing; buffer = 4 ∷ 2 ∷ 3 ∷ 1 ∷ [] } ∷ []
 
-refusals : (refusal (two .order) (onto (replicate 15 0)) ≡ some (no 6 [])) × (refusal (two .order) too-few ≡ some (no 5 [])) × (refusal (two .order) not-associative ≡ some (naming 1 (no 4 (1 ∷ 1 ∷ 2 ∷ [])))) × (refusal (two .order) (onto []) ≡ some (no 6 []))
+refusals : (refusal (two .order) (onto (replicate 1 0)) ≡ some (no 6 [])) × (refusal (two .order) too-few ≡ some (no 5 [])) × (refusal (two .order) not-associative ≡ some (naming 1 (no 4 (1 ∷ 1 ∷ 2 ∷ [])))) × (refusal (two .order) (onto []) ≡ some (no 6 []))
 unfolding onto lending too-few not-associative refusal two range elements at find count sum earlier lists product grid isElement associates badCell badTriple firstOf searchRefusal scratchSize after transformations transformationOrder transformation numberOf transformationProduct transformationCells orElse flatMap
 refusals = (refl, refl, refl, refl)
 
@@ -156,7 +156,7 @@ across : List ℕ → Beside
 across scratch = lending 2 (left .cells) (right .cells) scratch
 
 calls-across : List Beside
-calls-across = across (replicate 4 0) ∷ across (replicate 3 0) ∷ across (replicate 5 7) ∷ []
+calls-across = across (replicate 1 0) ∷ across [] ∷ across (replicate 5 7) ∷ []
 
 answers-across : List (Outcome)
 answers-across = record { says = gives nothing; buffer = 0 ∷ 0 ∷ [] } ∷ record { says = refused (no 6 []); buffer = 0 ∷ 0 ∷ [] } ∷ record { says = gives nothing; buffer = 0 ∷ 0 ∷ [] } ∷ []

@@ -9,7 +9,7 @@ use Rattle.semigroups.specs.Lists.{earlier}
 use Rattle.semigroups.specs.Tables.{product}
 use Rattle.semigroups.specs.Maps.{Kind, IsMap}
 use Rattle.semigroups.specs.Passing.{SearchPasses}
-use Rattle.search.specs.Calls.{Lent, Request, theFirst, theNext}
+use Rattle.search.specs.Calls.{Lent, Request, theFirst, theNext, lend, call}
 
 -- Two accepted tables, a map buffer of m bytes and a scratch buffer that is long enough.
 abbrev pub Passes : Lent → Type 0
@@ -19,3 +19,11 @@ Passes l = SearchPasses (l .m) (l .source) (l .n) (l .target) (length (l .map)) 
 abbrev pub Wanted : Kind → Lent → Request → List ℕ → Type 0
 Wanted kind l theFirst f = IsMap kind (l .m) (product (l .m) (l .source)) (l .n) (product (l .n) (l .target)) f
 Wanted kind l theNext f = IsMap kind (l .m) (product (l .m) (l .source)) (l .n) (product (l .n) (l .target)) f × (earlier (l .map) f ≡ true)
+
+-- What is said and the map that is left go by the tables and the map buffer alone (02, (v): all maps and answers of "none" are what they were): two
+-- calls that lend different scratch buffers, both long enough, say the same and leave the same map.
+abbrev pub ScratchApart : Type 0
+ScratchApart =
+    (kind : Kind) (request : Request) (source : List ℕ) (m : ℕ) (target : List ℕ) (n : ℕ) (map one other : List ℕ) → Passes (lend source m target n map one) → Passes (lend source m target n map other)
+    → (call kind request (lend source m target n map one) .says ≡ call kind request (lend source m target n map other) .says)
+    × (call kind request (lend source m target n map one) .map ≡ call kind request (lend source m target n map other) .map)

@@ -38,6 +38,11 @@ range-append i (suc a) b =
     let y : i + suc a ≡ suc i + a = omega arith in
     rw (x, y) (ap (λ (l : List ℕ). i ∷ l) (range-append (suc i) a b))
 
+pub range-snoc : (i k : ℕ) → range i (suc k) ≡ range i k ++ (i + k) ∷ []
+unfolding range
+range-snoc i zero = ap {B = List ℕ} (λ (x : ℕ). x ∷ []) (let z : i ≡ i + 0 = omega arith in z)
+range-snoc i (suc k) = ap {B = List ℕ} (λ (l : List ℕ). i ∷ l) (range-snoc (suc i) k ∙ ap {B = List ℕ} (λ (x : ℕ). range (suc i) k ++ x ∷ []) (let z : suc i + k ≡ i + suc k = omega arith in z))
+
 pub mem-range : (i k x : ℕ) → List·Memᴰ x (range i k) → (i ≤ x) × (x < i + k)
 unfolding range
 mem-range i zero x m = absurd (List·Memᴰ·not-nil m)

@@ -5,8 +5,8 @@ use mathlib.Core.Bool.{Bool, true, false, not}
 use mathlib.Core.Logic.{_⊎_, inl, inr, ⊎-elim, _↔_}
 use mathlib.Core.Option.{Option, none, some, orElse, map-eq-none-iff, Option·none-ne-some}
 use mathlib.Core.List.{List, [], _∷_, map, List·Memᴰ·not-nil, List·Memᴰ·cases-cons}
-use Prim.Native.Nat.{ℕ, suc, _-_, _*_, _≤_, _<_}
-use native.Mathlib.Nat.{mul-le-mul-right, suc-mul}
+use Prim.Native.Nat.{ℕ, suc, _+_, _-_, _*_, _/_, _%_, _≤_, _<_}
+use native.Mathlib.Nat.{mul-le-mul-right, suc-mul, div-add-mod', mod-lt, div-lt-iff-lt-mul}
 use native.Mathlib.Omega.{arith}
 use borrow.Author.Tests.{eqb-true, eqb-false, eq-eqb, ne-eqb, not-true, not-false}
 use lib.Dec.{eqb}
@@ -28,6 +28,18 @@ pub place-below : (m n i j : ℕ) → Element m i → Element n j → cellPlace 
 place-below m n i j hi hj =
     let b : suc (i - 1) * n ≤ m * n = mul-le-mul-right n (omega arith) in
     omega (arith, suc-mul (i - 1) n)
+
+-- The row and the column of place k.
+pub place-of : (n k : ℕ) → cellPlace n (k / n + 1) (k % n + 1) ≡ k
+place-of n k =
+    ap₂ (λ (x y : ℕ). x * n + y) (let z : k / n + 1 - 1 ≡ k / n = omega arith in z) (let z : k % n + 1 - 1 ≡ k % n = omega arith in z) ∙ div-add-mod' k n
+
+pub place-elements : (m n k : ℕ) → k < m * n → Element m (k / n + 1) × Element n (k % n + 1)
+place-elements m n k h =
+    let wide : 0 < n = ⊎-elim (λ (e : n ≡ 0). let z = ap (λ (x : ℕ). m * x) e in omega (arith, h)) (λ (ne : n ≡ 0 → ⊥). omega arith) (equal-or-not n 0) in
+    let row = div-lt-iff-lt-mul {k = n} {x = k} {y = m} wide .1 h in
+    let column = mod-lt k wide in
+    ((omega arith, omega arith), (omega arith, omega arith))
 
 module _ (m n : ℕ) (f : ℕ → ℕ → ℕ) where
   row-long : (i : ℕ) → length (map (f i) (elements n)) ≡ n

@@ -1,24 +1,50 @@
--- The layout of the scratch buffer (01, "Maps"): the one place that knows where the mark of a pair stands and how many bytes the marks take.
+-- The layout of the scratch buffer (01, "Maps"; 02, (v)): one bit for each pair of a source and a target element. The one place that knows where the
+-- mark of a pair stands and how many bytes the marks take.
 -- Assumes nothing.
+use mathlib.Core.Path.{_≡_}
 use mathlib.Core.Bool.{Bool, cond}
-use mathlib.Core.List.{List}
-use Prim.Native.Nat.{ℕ, _*_}
+use mathlib.Core.List.{List, map}
+use Prim.Native.Nat.{ℕ, _+_, _*_, _/_, _%_, _^_, _≤_, _<_}
 use lib.Dec.{eqb}
-use lib.ListN.{getD, set}
-use Rattle.semigroups.specs.Tables.{cellPlace, grid}
+use lib.ListN.{length, getD}
+use Rattle.semigroups.specs.Lists.{range, sum}
+use Rattle.semigroups.specs.Tables.{Element, cellPlace, grid}
 
--- How many bytes the marks of m source and n target elements take.
+-- ---- eight to a byte
+
+-- Byte b of a list of zeros and ones: number 8 × b + r of the list, counted from 0, is worth 2 to the power r. Past the end of the list are zeros.
+unfoldable pub packedByte : List ℕ → ℕ → ℕ
+packedByte l b = sum (λ r. getD l (8 * b + r) 0 * 2 ^ r) (range 0 8)
+
+-- The bit of a byte that is worth 2 to the power r.
+unfoldable pub bit : ℕ → ℕ → ℕ
+bit byte r = byte / 2 ^ r % 2
+
+-- ---- the marks
+
+-- How many bytes the marks of m source and n target elements take: m × n divided by 8, rounded up.
 unfoldable pub scratchSize : ℕ → ℕ → ℕ
-scratchSize m n = m * n
+scratchSize m n = (m * n + 7) / 8
 
--- The marks: at the place of row i, column j, a 1 where target element j is a candidate for source element i, else 0.
+-- A number for each pair, row after row: 1 where target element j is a candidate for source element i, else 0.
+unfoldable pub pairMarks : ℕ → ℕ → (ℕ → ℕ → Bool) → List ℕ
+pairMarks m n candidate = grid m n (λ i j. cond (candidate i j) 1 0)
+
+-- The marks: those numbers, eight to a byte.
 unfoldable pub marks : ℕ → ℕ → (ℕ → ℕ → Bool) → List ℕ
-marks m n candidate = grid m n (λ i j. cond (candidate i j) 1 0)
+marks m n candidate = map (packedByte (pairMarks m n candidate)) (range 0 (scratchSize m n))
 
--- Whether the scratch bytes mark target element j, of n, as a candidate for source element i.
+-- Whether the scratch bytes mark target element j, of n, as a candidate for source element i: pair number k stands in byte k / 8, at the bit worth 2
+-- to the power k modulo 8.
 unfoldable pub marked : ℕ → List ℕ → ℕ → ℕ → Bool
-marked n scratch i j = eqb (getD scratch (cellPlace n i j) 0) 1
+marked n scratch i j = let k = cellPlace n i j in eqb (bit (getD scratch (k / 8) 0) (k % 8)) 1
 
--- The scratch bytes with the mark of the pair i, j; the other bytes are as they were.
-unfoldable pub withMark : ℕ → List ℕ → ℕ → ℕ → Bool → List ℕ
-withMark n scratch i j candidate = set scratch (cellPlace n i j) (cond candidate 1 0)
+-- ---- in plain words
+
+-- These bytes are the marks: m × n divided by 8, rounded up, of them; a bit for each pair; unused bits are 0.
+pub record AreMarks (m n : ℕ) (candidate : ℕ → ℕ → Bool) (bytes : List ℕ) : Type 0 where
+  pub enough : m * n ≤ 8 * length bytes
+  pub no-more : 8 * length bytes < m * n + 8
+  pub byte : (b : ℕ) → b < length bytes → getD bytes b 0 < 256
+  pub mark : (i j : ℕ) → Element m i → Element n j → marked n bytes i j ≡ candidate i j
+  pub unused : (b r : ℕ) → b < length bytes → r < 8 → m * n ≤ 8 * b + r → bit (getD bytes b 0) r ≡ 0

@@ -38,7 +38,7 @@ pub enum Question {
     },
     /// 5: has the map exactly one byte for each source element?
     MapLength,
-    /// 6: has the scratch buffer at least source order × target order bytes?
+    /// 6: has the scratch buffer at least a bit for each pair, source order × target order / 8 bytes rounded up?
     ScratchLength,
     /// 7: is the element 1 to n?
     Element,

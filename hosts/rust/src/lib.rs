@@ -9,11 +9,11 @@
 //! said to write stay as they were.
 //!
 //! ```
-//! use tickdrizzle::{first_embedding, Search};
+//! use tickdrizzle::{first_embedding, scratch_size, Search};
 //!
 //! let swap = [1, 2, 2, 1];
 //! let transformations = [1, 1, 4, 4, 1, 2, 3, 4, 1, 3, 2, 4, 1, 4, 1, 4];
-//! let (mut map, mut scratch) = ([0; 2], [0; 8]);
+//! let (mut map, mut scratch) = ([0; 2], [0; scratch_size(2, 4)]);
 //! let search = first_embedding(&swap, 2, &transformations, 4, &mut map, &mut scratch);
 //! assert_eq!(search, Ok(Search::Found));
 //! assert_eq!(map, [2, 3]);
@@ -32,10 +32,17 @@ pub use answers::{IndexPeriod, MapCheck, Profile, Question, Refusal, Search, Sid
 pub const GREATEST_ORDER: usize = 120;
 /// The cells of a table of the greatest order.
 pub const MOST_CELLS: usize = GREATEST_ORDER * GREATEST_ORDER;
+/// The scratch bytes of a search between tables of the greatest order.
+pub const MOST_SCRATCH: usize = scratch_size(GREATEST_ORDER, GREATEST_ORDER);
 /// The text of a table of the greatest order whose cells have three digits each.
 pub const LONGEST_TEXT: usize = 57_720;
 /// The greatest degree of a table of transformations.
 pub const GREATEST_DEGREE: usize = 3;
+
+/// The scratch bytes that a search between tables of these orders asks for: a bit for each pair.
+pub const fn scratch_size(source_order: usize, target_order: usize) -> usize {
+    (source_order * target_order).div_ceil(8)
+}
 
 /// Makes a call and decodes what it answers.
 fn answered<T>(call: impl FnOnce(&mut Answer), decode: impl FnOnce(&Answer) -> T) -> Result<T, Refusal> {
@@ -100,9 +107,10 @@ macro_rules! searches {
     ($($(#[$says:meta])* $name:ident;)*) => {$(
         $(#[$says])*
         ///
-        /// Found: `map` holds it. None: there is no such map, and `map` is as it was. After both, byte
-        /// (i − 1) × target order + (j − 1) of `scratch` is 1 where target element j has the index and period (for
-        /// isomorphisms: the profile) of source element i, else 0.
+        /// Found: `map` holds it. None: there is no such map, and `map` is as it was. After both, `scratch` begins with a bit
+        /// for each pair, [`scratch_size`] bytes of them: with k = (i − 1) × target order + (j − 1), the bit worth 2 to the
+        /// power k modulo 8 of byte k / 8 is 1 where target element j has the index and period (for isomorphisms: the profile)
+        /// of source element i, else 0. Unused bits of the last byte are 0.
         pub fn $name(
             source: &[u8],
             source_order: usize,

@@ -1,14 +1,15 @@
--- `mark` meets its contract: the pair's number is a place in the buffer. Assumes nothing.
-use mathlib.Core.Path.{_≡_, refl, ap₂}
+-- `mark` meets its contract: a pair within the source's order has its number, and past the last pair there is none. Assumes nothing.
+use mathlib.Core.Path.{_≡_, refl, sym, _∙_}
 use mathlib.Core.Bool.{Bool, true, false, cond}
-use Prim.Native.Nat.{ℕ}
+use Prim.Native.Nat.{_-_, _*_, _≤_}
+use native.Mathlib.Nat.{mul-le-mul-right}
 use native.Mathlib.Omega.{arith}
 use borrow.Author.Needs.{needs}
 use denote.Ref.{now}
 use mir.Val.{boolByte}
-use lib.ListN.{set}
-use Rattle.semigroups.specs.Scratch.{withMark}
-use Rattle.candidates.proofs.Marks.{pair-below}
+use Rattle.semigroups.specs.Lists.{at}
+use Rattle.semigroups.proofs.Candidates.{pair-at, pair-past}
+use Rattle.candidates.specs.Keys.{sameKey}
 use Rattle.candidates.proofs.mark.Statement.{statement}
 use Rattle.candidates.proofs.mark.Tie as tie
 
@@ -16,23 +17,52 @@ byte : (b : Bool) → boolByte b ≡ cond b 1 0
 byte true = refl
 byte false = refl
 
-cast-scratch : tie.Need-cast-scratch
-cast-scratch c = search needs
+sub-result : tie.Need-sub-result
+sub-result c = search needs
 
-pair-number-requires : tie.Need-pair-number-requires
-pair-number-requires c κs = search needs
+mul-result : tie.Need-mul-result
+mul-result c = search needs
 
-slice-write-scratch : tie.Need-slice-write-scratch
-slice-write-scratch c =
-    let s = c .before .before in
-    omega (arith, c .pair-number .ensures, pair-below (s .args .n) (s .args .i) (s .args .j) (now (s .args .scratch)) (s .pre .0 .0 .0) (s .pre .0 .1) (s .pre .1))
+element-copy-out-result : tie.Need-element-copy-out-result
+element-copy-out-result c = search needs
 
-same-length : tie.Need-same-length
-same-length c = search needs
+sub-result-2 : tie.Need-sub-result-2
+sub-result-2 c = search needs
+
+mul-result-2 : tie.Need-mul-result-2
+mul-result-2 c = search needs
+
+element-copy-out-result-2 : tie.Need-element-copy-out-result-2
+element-copy-out-result-2 c = search needs
+
+cast-result : tie.Need-cast-result
+cast-result c = search needs
 
 returns : tie.Need-returns
-unfolding withMark
-returns c = let a = c .before .before .args in ap₂ (λ (k v : ℕ). set (now (a .scratch)) k v) (c .pair-number .ensures) (byte (a .candidate))
+unfolding sameKey at
+returns c =
+    let z = c .before .before .before in
+    let a = z .args in
+    byte (sameKey (now (a .source)) (now (a .target)) (a .pair .i) (a .pair .j)) ∙ sym (pair-at (a .m) (a .n) (sameKey (now (a .source)) (now (a .target))) _ (a .pair .i) (a .pair .j) refl (z .pre .0, c .before .before .if1 .taken) (z .pre .1))
+
+returns-2 : tie.Need-returns-2
+returns-2 c =
+    let a = c .before .args in
+    let above = c .if1 .left in
+    let first = c .before .pre .0 in
+    let past : a .m * a .n ≤ (a .pair .i - 1) * a .n = mul-le-mul-right (a .n) (omega arith) in
+    sym (pair-past (a .m) (a .n) (sameKey (now (a .source)) (now (a .target))) _ (omega arith))
 
 pub mark-spec : {M : Type 1} → statement M
-mark-spec = tie.close (tie.spec cast-scratch pair-number-requires slice-write-scratch same-length returns)
+mark-spec =
+    tie.close
+    (tie.spec
+    sub-result
+    mul-result
+    element-copy-out-result
+    sub-result-2
+    mul-result-2
+    element-copy-out-result-2
+    cast-result
+    returns
+    returns-2)

@@ -1,14 +1,14 @@
 -- `put_answer` lends buffers of the right length, so no question fails: the map is found, or there is none. Assumes nothing.
 use mathlib.Core.Path.{_≡_, ap, sym, _∙_}
 use mathlib.Core.List.{List, [], _∷_, _++_}
-use Prim.Native.Nat.{ℕ, _*_, _≤_}
+use Prim.Native.Nat.{ℕ, _≤_}
 use Rattle.semigroups.specs.Scratch.{scratchSize}
 use native.Mathlib.Omega.{arith}
-use native.Mathlib.Nat.{mul-le-mul}
 use lib.ListN.{length, take, drop, replicate, length-append}
 use lib.Seq.{length-take-le, take-at}
 use denote.Enum.Declared.{tagOf}
 use types.Run.{OneOf, miss}
+use Rattle.semigroups.proofs.Candidates.{size-limit}
 use Rattle.search.proofs.SearchAnswer as search-answer
 use Rattle.search.specs.declared.SearchAnswer.{SearchAnswer}
 use Rattle.search.specs.declared.SearchAnswer.the-variants.{Found}
@@ -18,22 +18,18 @@ use borrow.Author.Needs.{needs}
 use Rattle.output.proofs.put_answer.Statement.{statement}
 use Rattle.output.proofs.put_answer.Tie as tie
 
--- Scratch has room for the marks of two tables of order 120.
-marks-room : (c : tie.Start) → c .args .m * c .args .n ≤ 14400
-marks-room c = mul-le-mul (c .pre .0 .filled .order .1) (c .pre .1 .filled .order .1)
-
 abbrev map-lent : tie.Start → List ℕ
 map-lent c = take (c .args .m) (replicate 120 0)
 
-abbrev scratch-lent : tie.Start → List ℕ
-scratch-lent c = take (c .args .m * c .args .n) (replicate 14400 0)
+abbrev scratch-lent : List ℕ
+scratch-lent = replicate 1800 0
 
 map-size : (c : tie.Start) → length (map-lent c) ≡ c .args .m
 map-size c = length-take-le (c .args .m) (replicate 120 0) (c .pre .0 .filled .order .1)
 
-scratch-size : (c : tie.Start) → scratchSize (c .args .m) (c .args .n) ≤ length (scratch-lent c)
-unfolding scratchSize
-scratch-size c = omega (arith, length-take-le {A = ℕ} (c .args .m * c .args .n) (replicate 14400 0) (marks-room c))
+-- Scratch has room for the marks of two tables of order 120.
+scratch-size : (c : tie.Start) → scratchSize (c .args .m) (c .args .n) ≤ 1800
+scratch-size c = size-limit (c .args .m) (c .args .n) (c .pre .0 .filled .order .1) (c .pre .1 .filled .order .1)
 
 -- What is not the first case is not found.
 other : (said : SearchAnswer) → OneOf (1 ∷ 2 ∷ 3 ∷ 4 ∷ []) (tagOf search-answer.the-type said) → said ≡ Found → ⊥
@@ -59,20 +55,14 @@ module _ (c : tie.After-first-embedding) where
   front : length (take (start-of .args .m) (map-left ++ behind)) ≡ start-of .args .m
   front = length-take-le (start-of .args .m) (map-left ++ behind) within
 
-mul-marks : tie.Need-mul-marks
-mul-marks c = omega (arith, marks-room (c .before .before))
-
 array-borrow-prefix-map : tie.Need-array-borrow-prefix-map
 array-borrow-prefix-map c = search needs
 
 slice-aggregate-first-embedding : tie.Need-slice-aggregate-first-embedding
 slice-aggregate-first-embedding c = sym (length-take-le _ _ (c .before .before .before .pre .0 .filled .order .1))
 
-array-borrow-prefix-scratch : tie.Need-array-borrow-prefix-scratch
-array-borrow-prefix-scratch c = marks-room (c .before .before .before)
-
 slice-aggregate-first-embedding-2 : tie.Need-slice-aggregate-first-embedding-2
-slice-aggregate-first-embedding-2 c = sym (length-take-le _ _ (marks-room (c .before .before .before .before)))
+slice-aggregate-first-embedding-2 c = search needs
 
 first-embedding-requires : tie.Need-first-embedding-requires
 first-embedding-requires c κs = search needs
@@ -90,7 +80,7 @@ returns : tie.Need-returns
 returns c =
     let searched = c .before .before .before .before .before .before in
     let z = start-of searched in
-    let w = none-answer _ _ _ _ (map-lent z) (scratch-lent z) (z .pre .0) (z .pre .1) (map-size z) (scratch-size z) _ (searched .first-embedding .result) (other _ (c .before .before .before .match .keys2)) (searched .first-embedding .ensures .0) (search needs) (c .put-record .ensures .0) (c .put-record .ensures .1) in
+    let w = none-answer _ _ _ _ (map-lent z) scratch-lent (z .pre .0) (z .pre .1) (map-size z) (scratch-size z) _ (searched .first-embedding .result) (other _ (c .before .before .before .match .keys2)) (searched .first-embedding .ensures .0) (search needs) (c .put-record .ensures .0) (c .put-record .ensures .1) in
     (w .size, w .text)
 
 array-share-prefix-map : tie.Need-array-share-prefix-map
@@ -111,17 +101,15 @@ returns-2 c =
     let z = start-of searched in
     let found = sym (ap searchAnswerSays (c .before .before .before .enum-told .given .1)) ∙ searched .first-embedding .ensures .0 in
     let same = take-at (map-left searched) (behind searched) (z .args .m) (whole searched) ∙ searched .first-embedding .ensures .1 .0 in
-    let w = found-answer _ _ _ _ (map-lent z) (scratch-lent z) (z .pre .0) (z .pre .1) (map-size z) (scratch-size z) _ _ found same (front searched) (c .put-found .ensures .0) (c .put-found .ensures .1) in
+    let w = found-answer _ _ _ _ (map-lent z) scratch-lent (z .pre .0) (z .pre .1) (map-size z) (scratch-size z) _ _ found same (front searched) (c .put-found .ensures .0) (c .put-found .ensures .1) in
     (w .size, w .text)
 
 pub put-answer-spec : {M : Type 1} → statement M
 put-answer-spec =
     tie.close
     (tie.spec
-    mul-marks
     array-borrow-prefix-map
     slice-aggregate-first-embedding
-    array-borrow-prefix-scratch
     slice-aggregate-first-embedding-2
     first-embedding-requires
     enum-told

@@ -158,7 +158,7 @@ type PlainSearch = fn(&plain::Lent, &mut [u8], &mut [u8]) -> Result<tickdrizzle:
 fn time_search(name: &str, proved: ProvedSearch, plain: PlainSearch, source: &Table, target: &Table) {
     let (m, n) = (source.order, target.order);
     let lent = plain::Lent { source: &source.cells, source_order: m, target: &target.cells, target_order: n };
-    let (mut map, mut scratch) = (vec![0; m], vec![0; m * n]);
+    let (mut map, mut scratch) = (vec![0; m], vec![0; tickdrizzle::scratch_size(m, n)]);
     let (mut other_map, mut other_scratch) = (map.clone(), scratch.clone());
     row(
         name,

@@ -34,7 +34,7 @@ pub fn any(random: &mut Random, greatest: usize) -> Semigroup {
 pub fn easy(random: &mut Random) -> Semigroup {
     let n = random.within(8, 40);
     match random.below(3) {
-        0 => table("null", n, |_, _| 0),
+        0 => null_of_order(n),
         1 => table("left zero", n, |i, _| i),
         _ => table("right zero", n, |_, j| j),
     }
@@ -76,6 +76,11 @@ fn monogenic(random: &mut Random, greatest: usize) -> Semigroup {
         }
     };
     table("monogenic", n, |i, j| power(i + j + 2) - 1)
+}
+
+/// Every product is element 1.
+pub fn null_of_order(order: usize) -> Semigroup {
+    table("null", order, |_, _| 0)
 }
 
 fn null(random: &mut Random, greatest: usize) -> Semigroup {

@@ -18,6 +18,7 @@ use std::process::ExitCode;
 use std::time::{SystemTime, UNIX_EPOCH};
 use tally::Tally;
 use tickdrizzle::abi::Answer;
+use tickdrizzle::scratch_size;
 
 const CALLS_BY_DEFAULT: u64 = 100_000;
 
@@ -33,6 +34,7 @@ fn main() -> ExitCode {
     println!("seed {seed}");
     let mut comparison = Comparison { random: Random::new(seed), tally: Tally::default() };
     comparison.small_tables();
+    comparison.scratch_lengths();
     let enough = comparison.tally.calls + calls;
     while comparison.tally.calls < enough {
         comparison.some_calls();
@@ -123,9 +125,28 @@ impl Comparison {
     fn first_maps(&mut self, source: &LentTable, target: &LentTable) {
         for kind in [Kind::Embedding, Kind::Isomorphism] {
             let map = Lent::random(&mut self.random, source.order);
-            let scratch = Lent::random(&mut self.random, source.order * target.order);
+            let scratch = Lent::random(&mut self.random, scratch_size(source.order, target.order));
             let (source, target) = (source.clone(), target.clone());
             self.compare(&mut Call::Search { kind, ask: Ask::First, source, target, map, scratch }, SMALL);
+        }
+    }
+
+    /// Searches with 1, 7, 8, 9 and 14,400 pairs over scratch bytes of 255: a byte too few, exactly enough, and more.
+    fn scratch_lengths(&mut self) {
+        for (m, n) in [(1, 1), (1, 7), (7, 1), (2, 4), (4, 2), (3, 3), (120, 120)] {
+            let source = inputs::lend(&mut self.random, &families::null_of_order(m));
+            let target = inputs::lend(&mut self.random, &families::null_of_order(n));
+            for length in lengths(scratch_size(m, n)) {
+                for kind in [Kind::Embedding, Kind::Isomorphism] {
+                    let map = Lent::random(&mut self.random, m);
+                    let scratch = Lent::new(&mut self.random, &vec![255; length]);
+                    let (source, target) = (source.table.clone(), target.table.clone());
+                    self.compare(
+                        &mut Call::Search { kind, ask: Ask::First, source, target, map, scratch },
+                        "scratch of 255",
+                    );
+                }
+            }
         }
     }
 
@@ -242,7 +263,7 @@ impl Comparison {
 
     /// A scratch buffer for two orders, of a length around the one that is asked for.
     fn scratch(&mut self, source_order: usize, target_order: usize) -> Lent {
-        let length = inputs::length(&mut self.random, source_order.min(120) * target_order.min(120));
+        let length = inputs::length(&mut self.random, scratch_size(source_order.min(120), target_order.min(120)));
         Lent::random(&mut self.random, length)
     }
 
@@ -277,7 +298,7 @@ impl Comparison {
     /// after it.
     fn walk_step(&mut self, kind: Kind, source: &Input, target: &Input, map: Lent, entry: Option<&Vec<u8>>) -> Lent {
         let expected = entry.map_or_else(|| map.to_vec(), Vec::clone);
-        let length = source.table.order * target.table.order + self.random.below(3);
+        let length = scratch_size(source.table.order, target.table.order) + self.random.below(3);
         let scratch = Lent::random(&mut self.random, length);
         let (from, to) = (source.table.clone(), target.table.clone());
         let mut call = Call::Search { kind, ask: Ask::Next, source: from, target: to, map, scratch };
@@ -309,7 +330,7 @@ impl Comparison {
     fn refused_step(&mut self, kind: Kind, source: &LentTable, target: &LentTable, map: Lent) -> Lent {
         let (mut source, mut target) = (source.clone(), target.clone());
         let other = inputs::table(&mut self.random, 5).table;
-        let mut scratch_length = source.order * target.order;
+        let mut scratch_length = scratch_size(source.order, target.order);
         match self.random.below(4) {
             0 => source = other,
             1 => target = other,

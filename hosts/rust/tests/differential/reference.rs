@@ -355,7 +355,7 @@ impl<'a> Pair<'a> {
         })
     }
 
-    /// The scratch bytes: a 1 for each candidate.
+    /// The scratch bytes: a 1 for each candidate, pair after pair, the first in the lowest bit of the first byte.
     fn candidates(&self, kind: Kind) -> Vec<u8> {
         let invariants = |table: &Table, element: usize| match kind {
             Kind::Embedding => table.index_period(element).to_vec(),
@@ -365,9 +365,10 @@ impl<'a> Pair<'a> {
         let mut marks = Vec::new();
         for i in self.source.elements() {
             let of_source = invariants(&self.source, i);
-            marks.extend(of_target.iter().map(|of_target| u8::from(of_source == *of_target)));
+            marks.extend(of_target.iter().map(|of_target| of_source == *of_target));
         }
-        marks
+        let byte = |eight: &[bool]| eight.iter().rev().fold(0, |byte, &mark| byte << 1 | u8::from(mark));
+        marks.chunks(8).map(byte).collect()
     }
 }
 
@@ -405,7 +406,7 @@ pub fn search(
 ) -> Answer {
     answer(Pair::accepted(source, source_order, target, target_order).and_then(|pair| {
         ask(map.len() == source_order, 5)?;
-        ask(scratch.len() >= source_order * target_order, 6)?;
+        ask(8 * scratch.len() >= source_order * target_order, 6)?;
         write_front(scratch, &pair.candidates(kind));
         let after = (asked == Ask::Next).then_some(&*map);
         let found = pair.earliest(kind, after);

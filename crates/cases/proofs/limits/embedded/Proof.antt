@@ -52,7 +52,7 @@ slice-aggregate-same-bytes-3 : tie.Need-slice-aggregate-same-bytes-3
 slice-aggregate-same-bytes-3 c =
     let asked = c .before .before .before .before .before .before .before .before .before in
     let s = asked .before .before .before .before .before in
-    sym (length-front (replicate 8 7) (asked .first-embedding .last .1 .1 .1 .1 .1 .0) (s .args .size) (search needs))
+    sym (length-front (replicate 3 255) (asked .first-embedding .last .1 .1 .1 .1 .1 .0) (s .args .size) (search needs))
 
 slice-aggregate-same-bytes-4 : tie.Need-slice-aggregate-same-bytes-4
 slice-aggregate-same-bytes-4 c = search needs
@@ -71,7 +71,7 @@ returns c =
     let one = c .before .before .before .before .before .before .before .before .counted .ensures ∙ ap (λ (k : ℕ). counted (a .tally) (eqb k (a .said))) said in
     let maps = same-left _ _ _ _ (c .before .before .before .before .before .same-bytes .ensures) (asked .first-embedding .ensures .1 .0) in
     let two = c .before .before .before .before .counted2 .ensures ∙ ap₂ counted one maps in
-    let marks = same-left _ _ _ _ (c .before .same-bytes2 .ensures) (ap (λ (l : List ℕ). l ++ drop (a .size) (replicate 8 7)) (asked .first-embedding .ensures .1 .1)) in
+    let marks = same-left _ _ _ _ (c .before .same-bytes2 .ensures) (ap (λ (l : List ℕ). l ++ drop (a .size) (replicate 3 255)) (asked .first-embedding .ensures .1 .1)) in
     c .counted3 .ensures ∙ ap₂ counted two marks
 
 pub embedded-spec : {M : Type 1} → statement M

@@ -5,7 +5,7 @@ use mathlib.Core.Option.{orElse}
 use Rattle.semigroups.specs.Lists.{range, elements, at, all, find, keep, member, distinct, sum, count, least, lists, firstOf}
 use Rattle.semigroups.specs.Tables.{product, grid, isElement, associates, badCell, badTriple}
 use Rattle.semigroups.specs.Questions.{cellsRefusal, tableRefusal, tablesRefusal, checkRefusal, searchRefusal}
-use Rattle.semigroups.specs.Scratch.{scratchSize, marks}
+use Rattle.semigroups.specs.Scratch.{packedByte, scratchSize, pairMarks, marks}
 use Rattle.semigroups.specs.Calls.{scratchAfter}
 use Rattle.semigroups.specs.Invariants.{power, periodFrom, index, period, indexPeriod, sameIndexPeriod}
 use Rattle.semigroups.specs.Candidates.{candidate}
@@ -18,8 +18,8 @@ use borrow.Author.Needs.{needs}
 use Rattle.cases.proofs.limits.scratch.Statement.{statement}
 use Rattle.cases.proofs.limits.scratch.Tie as tie
 
-both : embeddedTally 8 100 (2 ∷ 3 ∷ []) (1 ∷ 1 ∷ 0 ∷ 1 ∷ 0 ∷ 0 ∷ 1 ∷ 0 ∷ []) (embeddedTally 7 6 (0 ∷ 0 ∷ []) (7 ∷ 7 ∷ 7 ∷ 7 ∷ 7 ∷ 7 ∷ 7 ∷ 7 ∷ []) empty) ≡ agreed 6 empty
-unfolding agreed range elements at find keep all member distinct sum count least lists marks product grid isElement associates badCell badTriple firstOf cellsRefusal tableRefusal tablesRefusal checkRefusal searchRefusal scratchSize scratchAfter power periodFrom index period indexPeriod sameIndexPeriod candidate isHomomorphism isEmbedding maps earliest call sameBytes orElse flatMap
+both : embeddedTally 1 100 (2 ∷ 3 ∷ []) (75 ∷ 255 ∷ 255 ∷ []) (embeddedTally 0 6 (0 ∷ 0 ∷ []) (255 ∷ 255 ∷ 255 ∷ []) empty) ≡ agreed 6 empty
+unfolding agreed range elements at find keep all member distinct sum count least lists packedByte pairMarks marks product grid isElement associates badCell badTriple firstOf cellsRefusal tableRefusal tablesRefusal checkRefusal searchRefusal scratchSize scratchAfter power periodFrom index period indexPeriod sameIndexPeriod candidate isHomomorphism isEmbedding maps earliest call sameBytes orElse flatMap
 both = refl
 
 start-requires : tie.Need-start-requires
@@ -34,7 +34,7 @@ embedded-requires-2 c κs = search needs
 returns : tie.Need-returns
 returns c =
     let first = c .before in
-    c .embedded2 .ensures ∙ ap (embeddedTally 8 100 (2 ∷ 3 ∷ []) (1 ∷ 1 ∷ 0 ∷ 1 ∷ 0 ∷ 0 ∷ 1 ∷ 0 ∷ [])) (first .embedded .ensures ∙ ap (embeddedTally 7 6 (0 ∷ 0 ∷ []) (7 ∷ 7 ∷ 7 ∷ 7 ∷ 7 ∷ 7 ∷ 7 ∷ 7 ∷ [])) (first .before .start .ensures)) ∙ both
+    c .embedded2 .ensures ∙ ap (embeddedTally 1 100 (2 ∷ 3 ∷ []) (75 ∷ 255 ∷ 255 ∷ [])) (first .embedded .ensures ∙ ap (embeddedTally 0 6 (0 ∷ 0 ∷ []) (255 ∷ 255 ∷ 255 ∷ [])) (first .before .start .ensures)) ∙ both
 
 pub scratch-spec : {M : Type 1} → statement M
 scratch-spec = tie.close (tie.spec start-requires embedded-requires embedded-requires-2 returns)

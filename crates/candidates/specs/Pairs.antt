@@ -1,0 +1,10 @@
+-- Pairs of a source and a target element in the order in which they are marked. Assumes nothing.
+use mathlib.Core.Path.{_≡_}
+use Prim.Native.Nat.{ℕ, _≤_}
+use Rattle.semigroups.specs.Tables.{cellPlace, Element}
+
+-- Pair number k, counted from 0, is i, j, where there are n target elements.
+pub record PairAt (n k i j : ℕ) : Type 0 where
+  pub number : cellPlace n i j ≡ k
+  pub row : 1 ≤ i
+  pub column : Element n j
