@@ -79,6 +79,7 @@ extern "C" {
 /* What a search says: answer[2]. */
 #define TICKDRIZZLE_NONE 0
 #define TICKDRIZZLE_FOUND 1
+#define TICKDRIZZLE_STOPPED 2 /* only by a search with a limit */
 
 /* Asks whether the cells are a table of this order (questions 1 to 4).
    Says no values; writes nothing but the answer. */
@@ -168,6 +169,29 @@ void tickdrizzle_load(const uint8_t *text, size_t text_length, uint8_t *TICKDRIZ
    Says its length; writes as many bytes of text. */
 void tickdrizzle_save(const uint8_t *cells, size_t cells_length, size_t order, uint8_t *TICKDRIZZLE_RESTRICT text,
                       size_t text_length, uint64_t *TICKDRIZZLE_RESTRICT answer);
+
+/*
+ * The two searches with a limit say TICKDRIZZLE_FOUND or TICKDRIZZLE_NONE and the exact number of trials, or TICKDRIZZLE_STOPPED
+ * where more are needed than the limit. A trial is one candidate, unused so far, tested as the image of the next element;
+ * images are tried in rising order, elements from 1 upward. A larger limit never changes a map or a none. Stopped, map is as
+ * it was, and scratch as after none.
+ */
+
+/* The earliest embedding within a limit of trials (questions 1 to 4 of the source, of the target, 5, 6).
+   Writes map (only where found) and scratch. */
+void tickdrizzle_first_embedding_within(const uint8_t *source, size_t source_length, size_t source_order,
+                                        const uint8_t *target, size_t target_length, size_t target_order,
+                                        uint8_t *TICKDRIZZLE_RESTRICT map, size_t map_length,
+                                        uint8_t *TICKDRIZZLE_RESTRICT scratch, size_t scratch_length, uint32_t limit,
+                                        uint64_t *TICKDRIZZLE_RESTRICT answer);
+
+/* The earliest isomorphism within a limit of trials (questions 1 to 4 of the source, of the target, 5, 6).
+   Writes map (only where found) and scratch. */
+void tickdrizzle_first_isomorphism_within(const uint8_t *source, size_t source_length, size_t source_order,
+                                          const uint8_t *target, size_t target_length, size_t target_order,
+                                          uint8_t *TICKDRIZZLE_RESTRICT map, size_t map_length,
+                                          uint8_t *TICKDRIZZLE_RESTRICT scratch, size_t scratch_length, uint32_t limit,
+                                          uint64_t *TICKDRIZZLE_RESTRICT answer);
 
 #ifdef __cplusplus
 }

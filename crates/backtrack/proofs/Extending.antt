@@ -8,18 +8,20 @@ use native.Mathlib.Numerals.{add-one}
 use native.Mathlib.Omega.{arith}
 use borrow.Author.Tests.{not-true}
 use lib.Dec.{eqb, leb}
-use lib.ListN.{length, getD, take}
+use lib.ListN.{length, getD, take, replicate}
 use Rattle.semigroups.specs.Lists.{range, elements, all, member}
 use Rattle.semigroups.specs.Tables.{Product, Element, Closed}
 use Rattle.semigroups.specs.Scratch.{scratchSize, marked}
-use Rattle.semigroups.specs.Search.{passes, search}
+use Rattle.semigroups.specs.Search.{passes}
+use Rattle.semigroups.specs.Trials.{Work, work, counted}
 use Rattle.semigroups.proofs.Booleans.{and-left, and-right}
 use Rattle.semigroups.proofs.Candidates.{size-rows}
 use Rattle.backtrack.specs.declared.Partial.{Partial}
-use Rattle.backtrack.specs.declared.Found.{Found}
-use Rattle.backtrack.specs.State.{prefix, Holds, Ready, foundIn, bounded}
+use Rattle.backtrack.specs.declared.Outcome.{Outcome}
+use Rattle.backtrack.specs.State.{prefix, Holds, Ready, foundIn, Remainder, exhausted, remaining, within, outcomeOf, bounded}
 use Rattle.backtrack.proofs.Placing.{prefix-length, image-padded, used-image}
-use Rattle.backtrack.proofs.Steps.{lowest, leftFrom, whole, begin, end, isOpen, shut, fails, back, hit, still}
+use Rattle.backtrack.proofs.Limits.{resumed, within-nothing, within-skip, within-unpaid, within-paid, over-stopped, over-found, not-over}
+use Rattle.backtrack.proofs.Steps.{lowest, leftFrom, whole, begin, end, isOpen, tested, shut, opened, fails, goes, still}
 
 -- Nothing placed.
 pub start : (s : Product) (m : ℕ) (t : Product) (n : ℕ) (scratch after : List ℕ) (tight : Bool) (p : Partial) → p .len ≡ 0 → Holds s n t p → scratchSize m n ≤ length scratch → length after ≡ m
@@ -41,15 +43,15 @@ unfolding foundIn
 none-found none e = refl
 none-found (some f) e = absurd (false≢true (sym e))
 
--- What a call is to answer, and what is left of it from x on.
-abbrev pub Called : Product → ℕ → Product → ℕ → List ℕ → List ℕ → Bool → Partial → Option (List ℕ)
-Called s m t n scratch after tight p = search s t (marked n scratch) (bounded tight after) n (m - p .len) (prefix p)
+-- The work of a call, and what is left of it from x on.
+abbrev pub Called : Product → ℕ → Product → ℕ → List ℕ → List ℕ → Bool → Partial → Work
+Called s m t n scratch after tight p = counted s t (marked n scratch) (bounded tight after) n (m - p .len) (prefix p)
 
-abbrev pub Rest : Product → ℕ → Product → ℕ → List ℕ → List ℕ → Bool → Partial → ℕ → Option (List ℕ)
+abbrev pub Rest : Product → ℕ → Product → ℕ → List ℕ → List ℕ → Bool → Partial → ℕ → Work
 Rest s m t n scratch after tight p x = leftFrom s t (marked n scratch) (bounded tight after) n (m - (p .len + 1)) (prefix p) x
 
 module _ (s : Product) (m : ℕ) (t : Product) (n : ℕ) (scratch after : List ℕ) (tight : Bool) (p : Partial) (Q : Ready s m t n scratch after tight p) where
-  abbrev Whole : Option (List ℕ)
+  abbrev Whole : Work
   Whole = Called s m t n scratch after tight p
 
   long : length (prefix p) ≡ p .len
@@ -59,50 +61,57 @@ module _ (s : Product) (m : ℕ) (t : Product) (n : ℕ) (scratch after : List �
   same e = ap (λ (k : ℕ). take k after) long ∙ Q .same e
 
   -- All elements placed: the map is found unless it is the bound itself.
-  done : m ≤ p .len → cond (not tight) (some (prefix p)) none ≡ Whole
-  done h =
+  done : m ≤ p .len → (b : Bool) → tight ≡ b → work (cond (not b) (some (prefix p)) none) 0 ≡ Whole
+  done h b f =
       let w = Q .within in
-      let b = Q .bound in
+      let g = Q .bound in
       let l = long in
       let e : 0 ≡ m - p .len = omega arith in
-      whole s t (marked n scratch) n after (prefix p) tight same (omega arith) ∙ ap (λ (d : ℕ). search s t (marked n scratch) (bounded tight after) n d (prefix p)) e
+      ap (λ (c : Bool). work (cond (not c) (some (prefix p)) none) 0) (sym f)
+      ∙ whole s t (marked n scratch) n after (prefix p) tight same (omega arith) ∙ ap (λ (d : ℕ). counted s t (marked n scratch) (bounded tight after) n d (prefix p)) e
 
-  pub done-bound : m ≤ p .len → tight ≡ true → none ≡ Whole
-  done-bound h e = ap {B = Option (List ℕ)} (λ (b : Bool). cond (not b) (some (prefix p)) none) (sym e) ∙ done h
+  module _ (counting : Bool) (limit : ℕ) where
+    pub done-bound : m ≤ p .len → tight ≡ true → record { stopped = false; left = limit; ok = false; image = replicate 120 0 } ≡ outcomeOf (within counting limit Whole)
+    unfolding outcomeOf foundIn
+    done-bound h e = ap outcomeOf (sym (within-nothing counting limit none) ∙ ap (within counting limit) (done h true e))
 
-  pub done-found : m ≤ p .len → tight ≡ false → record { ok = true; image = p .image } ≡ foundIn Whole
-  unfolding foundIn
-  done-found h e =
-      ap {B = Found} (λ (l : List ℕ). record { ok = true; image = l }) (image-padded n (p .image) (p .used) (p .len) (Q .holds .placing))
-      ∙ ap foundIn (ap {B = Option (List ℕ)} (λ (b : Bool). cond (not b) (some (prefix p)) none) (sym e) ∙ done h)
+    pub done-found : m ≤ p .len → tight ≡ false → record { stopped = false; left = limit; ok = true; image = p .image } ≡ outcomeOf (within counting limit Whole)
+    unfolding outcomeOf foundIn
+    done-found h e =
+        ap {B = Outcome} (λ (l : List ℕ). record { stopped = false; left = limit; ok = true; image = l }) (image-padded n (p .image) (p .used) (p .len) (Q .holds .placing))
+        ∙ ap outcomeOf (sym (within-nothing counting limit (some (prefix p))) ∙ ap (within counting limit) (done h false e))
 
   module _ (room : p .len < m) where
     short : length (prefix p) < length after
     short = let b = Q .bound in let l = long in omega arith
 
-    abbrev Left : ℕ → Option (List ℕ)
+    abbrev Left : ℕ → Work
     Left = Rest s m t n scratch after tight p
 
     pub begins : Whole ≡ Left 1
     begins =
-        ap (λ (d : ℕ). search s t (marked n scratch) (bounded tight after) n d (prefix p)) (let e : m - p .len ≡ suc (m - (p .len + 1)) = omega arith in e)
+        ap (λ (d : ℕ). counted s t (marked n scratch) (bounded tight after) n d (prefix p)) (let e : m - p .len ≡ suc (m - (p .len + 1)) = omega arith in e)
         ∙ begin s t (marked n scratch) n after (prefix p) tight same (m - (p .len + 1)) short
 
-    pub ends : (x : ℕ) → n < x → Whole ≡ Left x → none ≡ Whole
-    ends x h e = sym (e ∙ end s t (marked n scratch) n after (prefix p) tight same (m - (p .len + 1)) short x h)
+    pub ends : (counting : Bool) (limit left x : ℕ) → n < x → within counting limit Whole ≡ within counting left (Left x)
+        → record { stopped = false; left = left; ok = false; image = replicate 120 0 } ≡ outcomeOf (within counting limit Whole)
+    unfolding outcomeOf foundIn
+    ends counting limit left x h e =
+        ap outcomeOf (sym (e ∙ ap (within counting left) (end s t (marked n scratch) n after (prefix p) tight same (m - (p .len + 1)) short x h) ∙ within-nothing counting left none))
 
     -- The row of marks that is read lies in scratch.
     pub row-marked : scratchSize (p .len + 1) n ≤ length scratch
     row-marked = let rows = size-rows m n (p .len + 1) (omega arith) in let space = Q .space in omega arith
 
--- One turn of the loop: x is looked at, and o says whether it is open.
-pub record Turn (s : Product) (m : ℕ) (t : Product) (n : ℕ) (scratch after : List ℕ) (tight : Bool) (p : Partial) (low x : ℕ) (o : Bool) : Type 0 where
+-- One turn of the loop: x is looked at with so many trials left, and o says whether it is open.
+pub record Turn (s : Product) (m : ℕ) (t : Product) (n : ℕ) (scratch after : List ℕ) (tight counting : Bool) (limit : ℕ) (p : Partial) (low left x : ℕ) (o : Bool) : Type 0 where
   pub ready : Ready s m t n scratch after tight p
   pub closed : Closed m s
   pub orders : (m ≤ 120) × (n ≤ 120)
   pub room : p .len < m
   pub bound : low ≡ lowest tight after (p .len)
   pub element : Element n x
+  pub so-far : within counting limit (Called s m t n scratch after tight p) ≡ within counting left (Rest s m t n scratch after tight p x)
   pub opened : o ≡ (leb low x && (eqb (getD (p .used) x 0) 0 && marked n scratch (p .len + 1) x))
 
 -- What is told of x placed, which gives r, and tested, which gives b and hands q back.
@@ -120,36 +129,47 @@ handed-passes s t p q el ep e = let k : q .len - 1 ≡ p .len = omega arith in r
 pub verdict : {s t : Product} {p : Partial} {x : ℕ} {r q : Partial} {b : Bool} → Verdict s t p x r q b → b ≡ passes s t (prefix p ++ x ∷ [])
 verdict {s} {t} v = v .says ∙ ap (passes s t) (v .longer)
 
-module _ {s : Product} {m : ℕ} {t : Product} {n : ℕ} {scratch after : List ℕ} {tight : Bool} {p : Partial} {low x : ℕ} {o : Bool} (T : Turn s m t n scratch after tight p low x o) where
+module _ {s : Product} {m : ℕ} {t : Product} {n : ℕ} {scratch after : List ℕ} {tight counting : Bool} {limit : ℕ} {p : Partial} {low left x : ℕ} {o : Bool} (T : Turn s m t n scratch after tight counting limit p low left x o) where
   abbrev longer : List ℕ
   longer = prefix p ++ x ∷ []
 
-  -- What the code tests is whether x is open.
-  abbrev Open : Bool
-  Open = isOpen s t (marked n scratch) n after (prefix p) tight (same s m t n scratch after tight p (T .ready)) (m - (p .len + 1)) (short s m t n scratch after tight p (T .ready) (T .room)) x (T .element .0)
+  -- What the laws of one step ask for.
+  abbrev kept : tight ≡ true → take (length (prefix p)) after ≡ prefix p
+  kept = same s m t n scratch after tight p (T .ready)
 
+  abbrev shorter : length (prefix p) < length after
+  shorter = short s m t n scratch after tight p (T .ready) (T .room)
+
+  abbrev d : ℕ
+  d = m - (p .len + 1)
+
+  -- What the code tests is whether x is open.
   low-here : low ≡ lowest tight after (length (prefix p))
   low-here = T .bound ∙ ap (lowest tight after) (sym (long s m t n scratch after tight p (T .ready)))
 
   used-here : eqb (getD (p .used) x 0) 0 ≡ not (member x (prefix p))
   used-here = used-image n (p .image) (p .used) (p .len) (T .ready .holds .placing) x (omega arith)
 
-  open-is : o ≡ Open
+  open-is : o ≡ isOpen s t (marked n scratch) n after (prefix p) tight kept d shorter x (T .element .0)
   open-is =
       T .opened
       ∙ ap₂ _&&_ (ap (λ (k : ℕ). leb k x) low-here)
       (ap₂ _&&_ used-here (ap (λ (k : ℕ). marked n scratch k x) (add-one (p .len) ∙ ap suc (sym (long s m t n scratch after tight p (T .ready))))))
 
-  -- What is left from x on is the answer: it is what is left from x + 1 on.
-  abbrev Onward : Type 0
-  Onward = Called s m t n scratch after tight p ≡ Rest s m t n scratch after tight p x → Called s m t n scratch after tight p ≡ Rest s m t n scratch after tight p (x + 1)
+  -- The answer so far, and what is left of it behind x.
+  abbrev Answer : Remainder
+  Answer = within counting limit (Called s m t n scratch after tight p)
 
-  pub skip : o ≡ false → Onward
-  skip h e = e ∙ shut s t (marked n scratch) n after (prefix p) tight (same s m t n scratch after tight p (T .ready)) (m - (p .len + 1)) (short s m t n scratch after tight p (T .ready) (T .room)) x (T .element .0) (sym open-is ∙ h) (T .element .1)
+  abbrev Behind : Work
+  Behind = Rest s m t n scratch after tight p (x + 1)
 
-  pub refuse : passes s t longer ≡ false → Onward
-  refuse h e = e ∙ fails s t (marked n scratch) n after (prefix p) tight (same s m t n scratch after tight p (T .ready)) (m - (p .len + 1)) (short s m t n scratch after tight p (T .ready) (T .room)) x (T .element .0) h (T .element .1)
+  pub skip : o ≡ false → Answer ≡ within counting left Behind
+  skip h =
+      T .so-far
+      ∙ ap (within counting left) (shut s t (marked n scratch) n after (prefix p) tight kept d shorter x (T .element .0) (sym open-is ∙ h) (T .element .1))
+      ∙ within-skip counting left Behind
 
+  -- x is open: it is a trial.
   module _ (h : o ≡ true) where
     pub unused : member x (prefix p) ≡ false
     unused =
@@ -157,49 +177,69 @@ module _ {s : Product} {m : ℕ} {t : Product} {n : ℕ} {scratch after : List �
         let mark = marked n scratch (p .len + 1) x in
         not-true (member x (prefix p)) (sym used-here ∙ and-left test mark (and-right (leb low x) (test && mark) (sym (T .opened) ∙ h)))
 
-    -- The test said whether the list passes, and it did.
-    module _ (r q : Partial) (b : Bool) (v : Verdict s t p x r q b) (passed : b ≡ true) where
-      pass : passes s t longer ≡ true
-      pass = sym (verdict v) ∙ passed
+    -- No trial is left for it.
+    pub stop : exhausted ≡ within counting left (work none 1) → record { stopped = true; left = 0; ok = false; image = replicate 120 0 } ≡ outcomeOf Answer
+    unfolding outcomeOf
+    stop e =
+        ap outcomeOf (sym (T .so-far
+        ∙ ap (within counting left) (opened s t (marked n scratch) n after (prefix p) tight kept d shorter x (T .element .0) (sym open-is ∙ h) (T .element .1))
+        ∙ within-unpaid counting left (tested s t (marked n scratch) n after (prefix p) tight kept d shorter x (T .element .0)) Behind e))
 
-      eq : prefix q ≡ longer
-      eq = ap₂ take (v .same-length) (v .same-images) ∙ v .longer
+    -- It is paid for, and `rest` trials are left.
+    module _ (rest : ℕ) (paid : remaining rest none ≡ within counting left (work none 1)) where
+      pub refuse : passes s t longer ≡ false → Answer ≡ within counting rest Behind
+      refuse f =
+          T .so-far
+          ∙ ap (within counting left) (fails s t (marked n scratch) n after (prefix p) tight kept d shorter x (T .element .0) (sym open-is ∙ h) f (T .element .1))
+          ∙ within-paid counting left (work none 0) Behind rest paid
+          ∙ ap (λ (r : Remainder). resumed r (λ i. within counting i Behind)) (within-nothing counting rest none)
 
-      len : q .len ≡ p .len + 1
-      len = v .same-length ∙ v .one-more
+      -- The test said whether the list passes, and it did.
+      module _ (r q : Partial) (b : Bool) (v : Verdict s t p x r q b) (passed : b ≡ true) where
+        pass : passes s t longer ≡ true
+        pass = sym (verdict v) ∙ passed
 
-      -- The call for the next element.
-      abbrev Inner : Option (List ℕ)
-      Inner = Called s m t n scratch after (eqb x low) q
+        eq : prefix q ≡ longer
+        eq = ap₂ take (v .same-length) (v .same-images) ∙ v .longer
 
-      inner : Inner ≡ search s t (marked n scratch) (bounded (eqb x (lowest tight after (length (prefix p)))) after) n (m - (p .len + 1)) longer
-      inner =
-          ap (λ (k : ℕ). search s t (marked n scratch) (bounded (eqb x k) after) n (m - q .len) (prefix q)) low-here
-          ∙ ap₂ (λ (d : ℕ) (l : List ℕ). search s t (marked n scratch) (bounded (eqb x (lowest tight after (length (prefix p)))) after) n d l) (let e : m - q .len ≡ m - (p .len + 1) = omega arith in e) eq
+        len : q .len ≡ p .len + 1
+        len = v .same-length ∙ v .one-more
 
-      pub onward : Holds s n t q → Ready s m t n scratch after (eqb x low) q
-      onward H =
-          let room = T .room in
-          record {
-            holds = H;
-            within = omega arith;
-            passed = ap (passes s t) eq ∙ pass;
-            space = T .ready .space;
-            bound = T .ready .bound;
-            same = λ w.
-                ap (λ (k : ℕ). take k after) (len ∙ add-one (p .len) ∙ ap suc (sym (long s m t n scratch after tight p (T .ready))))
-                ∙ still s t (marked n scratch) n after (prefix p) tight (same s m t n scratch after tight p (T .ready)) (m - (p .len + 1)) (short s m t n scratch after tight p (T .ready) (T .room)) x (T .element .0) (ap (eqb x) (sym low-here) ∙ w) ∙ sym eq;
-          }
+        pub onward : Holds s n t q → Ready s m t n scratch after (eqb x low) q
+        onward H =
+            let room = T .room in
+            record {
+              holds = H;
+              within = omega arith;
+              passed = ap (passes s t) eq ∙ pass;
+              space = T .ready .space;
+              bound = T .ready .bound;
+              same = λ w.
+                  ap (λ (k : ℕ). take k after) (len ∙ add-one (p .len) ∙ ap suc (sym (long s m t n scratch after tight p (T .ready))))
+                  ∙ still s t (marked n scratch) n after (prefix p) tight kept d shorter x (T .element .0) (ap (eqb x) (sym low-here) ∙ w) ∙ sym eq;
+            }
 
-      pub fail : foundIn Inner .ok ≡ false → Onward
-      fail f e =
-          e ∙ back s t (marked n scratch) n after (prefix p) tight (same s m t n scratch after tight p (T .ready)) (m - (p .len + 1)) (short s m t n scratch after tight p (T .ready) (T .room)) x (T .element .0) (sym open-is ∙ h) pass
-          (sym inner ∙ none-found Inner f) (T .element .1)
+        -- What the call for the next element leaves.
+        abbrev Inner : Remainder
+        Inner = within counting rest (Called s m t n scratch after (eqb x low) q)
 
-      pub found : foundIn Inner .ok ≡ true → Called s m t n scratch after tight p ≡ Rest s m t n scratch after tight p x → Inner ≡ Called s m t n scratch after tight p
-      unfolding foundIn
-      found f e = go Inner refl f
-        where
-          go : (o : Option (List ℕ)) → Inner ≡ o → foundIn o .ok ≡ true → o ≡ Called s m t n scratch after tight p
-          go none q w = absurd (false≢true w)
-          go (some l) q w = sym (e ∙ hit s t (marked n scratch) n after (prefix p) tight (same s m t n scratch after tight p (T .ready)) (m - (p .len + 1)) (short s m t n scratch after tight p (T .ready) (T .room)) x (T .element .0) (sym open-is ∙ h) pass l (sym inner ∙ q) (T .element .1))
+        inner : Called s m t n scratch after (eqb x low) q ≡ counted s t (marked n scratch) (bounded (eqb x (lowest tight after (length (prefix p)))) after) n d longer
+        inner =
+            ap (λ (k : ℕ). counted s t (marked n scratch) (bounded (eqb x k) after) n (m - q .len) (prefix q)) low-here
+            ∙ ap₂ (λ (i : ℕ) (l : List ℕ). counted s t (marked n scratch) (bounded (eqb x (lowest tight after (length (prefix p)))) after) n i l) (let e : m - q .len ≡ d = omega arith in e) eq
+
+        resumes : Answer ≡ resumed Inner (λ i. within counting i Behind)
+        resumes =
+            T .so-far
+            ∙ ap (within counting left) (goes s t (marked n scratch) n after (prefix p) tight kept d shorter x (T .element .0) (sym open-is ∙ h) pass (T .element .1))
+            ∙ within-paid counting left (counted s t (marked n scratch) (bounded (eqb x (lowest tight after (length (prefix p)))) after) n d longer) Behind rest paid
+            ∙ ap (λ (w : Work). resumed (within counting rest w) (λ i. within counting i Behind)) (sym inner)
+
+        pub halt : outcomeOf Inner .stopped ≡ true → outcomeOf Inner ≡ outcomeOf Answer
+        halt e = ap outcomeOf (sym (resumes ∙ over-stopped (λ i. within counting i Behind) Inner e))
+
+        pub found : outcomeOf Inner .ok ≡ true → outcomeOf Inner ≡ outcomeOf Answer
+        found e = ap outcomeOf (sym (resumes ∙ over-found (λ i. within counting i Behind) Inner e))
+
+        pub fail : outcomeOf Inner .stopped ≡ false → outcomeOf Inner .ok ≡ false → Answer ≡ within counting (outcomeOf Inner .left) Behind
+        fail e f = resumes ∙ not-over (λ i. within counting i Behind) Inner e f

@@ -1,9 +1,9 @@
 -- The steps of one call of the search, over the values that it holds: what is left of the search at x is the answer at x, or what is left at x + 1.
 -- Assumes nothing.
 use mathlib.Core.Path.{_≡_, refl, sym, ap, ap₂, _∙_}
-use mathlib.Core.Bool.{Bool, true, false, cond, not, _&&_, and-false}
+use mathlib.Core.Bool.{Bool, true, false, cond, not, _&&_, and-true, and-false}
 use mathlib.Core.Logic.{_⊎_, inl, inr}
-use mathlib.Core.Option.{Option, none, some}
+use mathlib.Core.Option.{none, some}
 use mathlib.Core.List.{List, [], _∷_, _++_, append-assoc}
 use Prim.Native.Nat.{ℕ, zero, suc, _+_, _≤_, _<_}
 use native.Mathlib.Omega.{arith}
@@ -14,81 +14,74 @@ use lib.Seq.{split-at, take-suc, take-all}
 use Rattle.semigroups.specs.Lists.{elements, member, earlier}
 use Rattle.semigroups.specs.Tables.{Product}
 use Rattle.semigroups.specs.Maps.{Ask, first, next, beyond}
-use Rattle.semigroups.specs.Search.{notBefore, passes, admits, search}
-use Rattle.semigroups.proofs.Booleans.{both, and-left, trichotomy}
+use Rattle.semigroups.specs.Search.{notBefore, passes}
+use Rattle.semigroups.specs.Trials.{Work, work, andThen, tried, workAt, counted}
+use Rattle.semigroups.proofs.Booleans.{and-left, trichotomy}
 use Rattle.semigroups.proofs.ListOrder.{earlier-skip, earlier-above, earlier-head, earlier-tail, earlier-irreflexive}
-use Rattle.semigroups.proofs.Completions.{firstFrom, first-start, first-skip, first-hit, first-end, firstOf-same}
+use Rattle.semigroups.proofs.Trials.{turnsFrom, turns-same, turns-start, turns-step, turns-end}
 use Rattle.backtrack.specs.State.{bounded}
 
 -- The smallest next entry that is not too early.
 abbrev pub lowest : Bool → List ℕ → ℕ → ℕ
 lowest tight after i = cond tight (getD after i 0) 0
 
--- The answer at x of the search behind p, where d elements are left to place after x.
-abbrev answerAt : Product → Product → (ℕ → ℕ → Bool) → Ask → ℕ → ℕ → List ℕ → ℕ → Option (List ℕ)
-answerAt s t candidate ask n d p x = cond (admits s t candidate ask p x) (search s t candidate ask n d (p ++ x ∷ [])) none
+-- The work at x of the search behind p, where d elements are left to place after x.
+abbrev searchAt : Product → Product → (ℕ → ℕ → Bool) → Ask → ℕ → ℕ → List ℕ → ℕ → Work
+searchAt s t candidate ask n d p x = workAt s t candidate ask p x (counted s t candidate ask n d (p ++ x ∷ []))
 
 -- What is left of it from x on.
-unfoldable pub leftFrom : Product → Product → (ℕ → ℕ → Bool) → Ask → ℕ → ℕ → List ℕ → ℕ → Option (List ℕ)
-leftFrom s t candidate ask n d p x = firstFrom (answerAt s t candidate ask n d p) n x
+unfoldable pub leftFrom : Product → Product → (ℕ → ℕ → Bool) → Ask → ℕ → ℕ → List ℕ → ℕ → Work
+leftFrom s t candidate ask n d p x = turnsFrom (searchAt s t candidate ask n d p) n x
 
-regroup : (c u p l : Bool) → (c && (u && (p && l))) ≡ ((l && (u && c)) && p)
-regroup c u p true = regroup′ c u p
-  where
-    regroup′ : (c u p : Bool) → (c && (u && (p && true))) ≡ ((u && c) && p)
-    regroup′ true true true = refl
-    regroup′ true true false = refl
-    regroup′ true false p = refl
-    regroup′ false true p = refl
-    regroup′ false false p = refl
-regroup c u p false = ap (λ (b : Bool). c && (u && b)) (and-false p) ∙ ap (λ (b : Bool). c && b) (and-false u) ∙ and-false c
+regroup : (c u l : Bool) → (c && (u && l)) ≡ (l && (u && c))
+regroup true true l = sym (and-true l)
+regroup true false l = sym (and-false l)
+regroup false true l = sym (and-false l)
+regroup false false l = sym (and-false l)
 
 module _ (s t : Product) (candidate : ℕ → ℕ → Bool) (n : ℕ) where
   -- ---- a list that is late already is bound no more
 
-  loose : (pre : List ℕ) (y : ℕ) (rest : List ℕ) (x : ℕ) → y < x → (d : ℕ) (q : List ℕ) → search s t candidate (next (pre ++ y ∷ rest)) n d (pre ++ x ∷ q) ≡ search s t candidate first n d (pre ++ x ∷ q)
-  unfolding search
-  loose pre y rest x h zero q = ap {B = Option (List ℕ)} (λ (b : Bool). cond b (some (pre ++ x ∷ q)) none) (earlier-skip pre (y ∷ rest) (x ∷ q) ∙ earlier-head y rest x q h)
+  loose : (pre : List ℕ) (y : ℕ) (rest : List ℕ) (x : ℕ) → y < x → (d : ℕ) (q : List ℕ) → counted s t candidate (next (pre ++ y ∷ rest)) n d (pre ++ x ∷ q) ≡ counted s t candidate first n d (pre ++ x ∷ q)
+  unfolding counted
+  loose pre y rest x h zero q = ap {B = Work} (λ (b : Bool). work (cond b (some (pre ++ x ∷ q)) none) 0) (earlier-skip pre (y ∷ rest) (x ∷ q) ∙ earlier-head y rest x q h)
   loose pre y rest x h (suc d) q =
-      firstOf-same (λ v. cond (admits s t candidate (next (pre ++ y ∷ rest)) (pre ++ x ∷ q) v) (search s t candidate (next (pre ++ y ∷ rest)) n d ((pre ++ x ∷ q) ++ v ∷ [])) none)
-      (λ v. cond (admits s t candidate first (pre ++ x ∷ q) v) (search s t candidate first n d ((pre ++ x ∷ q) ++ v ∷ [])) none) (elements n)
-      (λ v k. ap₂ {C = Option (List ℕ)} (λ (b : Bool) (r : Option (List ℕ)). cond b r none) (same v)
-      (ap (search s t candidate (next (pre ++ y ∷ rest)) n d) (append-assoc pre (x ∷ q) (v ∷ [])) ∙ loose pre y rest x h d (q ++ v ∷ []) ∙ ap (search s t candidate first n d) (sym (append-assoc pre (x ∷ q) (v ∷ [])))))
+      turns-same (searchAt s t candidate (next (pre ++ y ∷ rest)) n d (pre ++ x ∷ q)) (searchAt s t candidate first n d (pre ++ x ∷ q)) (elements n)
+      (λ v k. same v (counted s t candidate (next (pre ++ y ∷ rest)) n d ((pre ++ x ∷ q) ++ v ∷ []))
+      ∙ ap (workAt s t candidate first (pre ++ x ∷ q) v)
+      (ap (counted s t candidate (next (pre ++ y ∷ rest)) n d) (append-assoc pre (x ∷ q) (v ∷ [])) ∙ loose pre y rest x h d (q ++ v ∷ []) ∙ ap (counted s t candidate first n d) (sym (append-assoc pre (x ∷ q) (v ∷ [])))))
     where
-      same : (v : ℕ) → admits s t candidate (next (pre ++ y ∷ rest)) (pre ++ x ∷ q) v ≡ admits s t candidate first (pre ++ x ∷ q) v
-      same v =
-          unfold admits in
-          ap (λ (b : Bool). candidate (suc (length (pre ++ x ∷ q))) v && (not (member v (pre ++ x ∷ q)) && (passes s t ((pre ++ x ∷ q) ++ v ∷ []) && not b)))
+      same : (v : ℕ) (behind : Work) → workAt s t candidate (next (pre ++ y ∷ rest)) (pre ++ x ∷ q) v behind ≡ workAt s t candidate first (pre ++ x ∷ q) v behind
+      same v behind =
+          unfold workAt tried in
+          ap {B = Work} (λ (b : Bool). cond (candidate (suc (length (pre ++ x ∷ q))) v && (not (member v (pre ++ x ∷ q)) && not b)) (andThen (work none 1) (cond (passes s t ((pre ++ x ∷ q) ++ v ∷ [])) behind (work none 0))) (work none 0))
           (ap (λ (l : List ℕ). earlier l (pre ++ y ∷ rest)) (append-assoc pre (x ∷ q) (v ∷ [])) ∙ earlier-skip pre (x ∷ (q ++ v ∷ [])) (y ∷ rest) ∙ earlier-above x (q ++ v ∷ []) y rest h)
 
   -- ---- one call, where p is placed and `after` bounds it while `tight`
 
   module _ (after p : List ℕ) (tight : Bool) (same : tight ≡ true → take (length p) after ≡ p) where
     -- A whole list: it is found unless it is the bound itself.
-    pub whole : length after ≡ length p → cond (not tight) (some p) none ≡ search s t candidate (bounded tight after) n 0 p
-    unfolding search
+    pub whole : length after ≡ length p → work (cond (not tight) (some p) none) 0 ≡ counted s t candidate (bounded tight after) n 0 p
+    unfolding counted
     whole l = go tight refl
       where
-        go : (b : Bool) → tight ≡ b → cond (not b) (some p) none ≡ cond (beyond (bounded b after) p) (some p) none
+        go : (b : Bool) → tight ≡ b → work (cond (not b) (some p) none) 0 ≡ work (cond (beyond (bounded b after) p) (some p) none) 0
         go false e = refl
         go true e =
             let eq : after ≡ p = sym (take-all (length p) after (omega arith)) ∙ same e in
-            ap {B = Option (List ℕ)} (λ (b : Bool). cond b (some p) none) (sym (ap (λ (a : List ℕ). earlier a p) eq ∙ earlier-irreflexive p))
+            ap {B = Work} (λ (b : Bool). work (cond b (some p) none) 0) (sym (ap (λ (a : List ℕ). earlier a p) eq ∙ earlier-irreflexive p))
 
     module _ (d : ℕ) (room : length p < length after) where
-      abbrev here : ℕ → Option (List ℕ)
-      here = answerAt s t candidate (bounded tight after) n d p
-
-      abbrev left : ℕ → Option (List ℕ)
+      abbrev left : ℕ → Work
       left = leftFrom s t candidate (bounded tight after) n d p
 
-      pub begin : search s t candidate (bounded tight after) n (suc d) p ≡ left 1
-      unfolding search leftFrom
-      begin = first-start here n
+      pub begin : counted s t candidate (bounded tight after) n (suc d) p ≡ left 1
+      unfolding counted leftFrom
+      begin = turns-start (searchAt s t candidate (bounded tight after) n d p) n
 
-      pub end : (x : ℕ) → n < x → left x ≡ none
+      pub end : (x : ℕ) → n < x → left x ≡ work none 0
       unfolding leftFrom
-      end x h = first-end here n x h
+      end x h = turns-end (searchAt s t candidate (bounded tight after) n d p) n x h
 
       split : tight ≡ true → after ≡ p ++ getD after (length p) 0 ∷ drop (suc (length p)) after
       split e = split-at after (length p) 0 room ∙ ap (λ (g : List ℕ). g ++ getD after (length p) 0 ∷ drop (suc (length p)) after) (same e)
@@ -120,52 +113,58 @@ module _ (s t : Product) (candidate : ℕ → ℕ → Bool) (n : ℕ) where
         abbrev pub isOpen : Bool
         isOpen = leb low x && (not (member x p) && candidate (suc (length p)) x)
 
-        admitted : admits s t candidate (bounded tight after) p x ≡ (isOpen && passes s t (p ++ x ∷ []))
-        unfolding admits
-        admitted =
-            ap (λ (b : Bool). candidate (suc (length p)) x && (not (member x p) && (passes s t (p ++ x ∷ []) && b))) late
-            ∙ regroup (candidate (suc (length p)) x) (not (member x p)) (passes s t (p ++ x ∷ [])) (leb low x)
+        tried-open : tried s t candidate (bounded tight after) p x ≡ isOpen
+        unfolding tried
+        tried-open =
+            ap (λ (b : Bool). candidate (suc (length p)) x && (not (member x p) && b)) late
+            ∙ regroup (candidate (suc (length p)) x) (not (member x p)) (leb low x)
 
-        skipped : admits s t candidate (bounded tight after) p x ≡ false → x ≤ n → left x ≡ left (x + 1)
+        -- What is left at x is the work at x, and behind it what is left at x + 1.
+        abbrev pub behind : Work → Work
+        behind w = andThen w (left (x + 1))
+
+        step : x ≤ n → left x ≡ behind (searchAt s t candidate (bounded tight after) n d p x)
         unfolding leftFrom
-        skipped e h = first-skip here n x h (ap {B = Option (List ℕ)} (λ (b : Bool). cond b (search s t candidate (bounded tight after) n d (p ++ x ∷ [])) none) e)
+        step h = turns-step (searchAt s t candidate (bounded tight after) n d p) n x h
 
-        -- An image that is not open, or does not pass, is passed over.
-        pub shut : isOpen ≡ false → x ≤ n → left x ≡ left (x + 1)
-        shut e h = skipped (admitted ∙ ap (λ (b : Bool). b && passes s t (p ++ x ∷ [])) e) h
+        -- The work behind the trial of x: the test decides.
+        abbrev pub tested : Work
+        tested = cond (passes s t (p ++ x ∷ [])) (counted s t candidate (bounded tight after) n d (p ++ x ∷ [])) (work none 0)
 
-        pub fails : passes s t (p ++ x ∷ []) ≡ false → x ≤ n → left x ≡ left (x + 1)
-        fails e h = skipped (admitted ∙ ap (λ (b : Bool). isOpen && b) e ∙ and-false isOpen) h
+        -- An image that is open is a trial; one that is not open is none.
+        decided : (b : Bool) → isOpen ≡ b → x ≤ n → left x ≡ behind (cond b (andThen (work none 1) tested) (work none 0))
+        unfolding workAt
+        decided b e h = step h ∙ ap (λ (c : Bool). behind (cond c (andThen (work none 1) tested) (work none 0))) (tried-open ∙ e)
+
+        pub shut : isOpen ≡ false → x ≤ n → left x ≡ behind (work none 0)
+        shut e h = decided false e h
+
+        pub opened : isOpen ≡ true → x ≤ n → left x ≡ behind (andThen (work none 1) tested)
+        opened e h = decided true e h
+
+        pub fails : isOpen ≡ true → passes s t (p ++ x ∷ []) ≡ false → x ≤ n → left x ≡ behind (andThen (work none 1) (work none 0))
+        fails o e h = opened o h ∙ ap (λ (b : Bool). behind (andThen (work none 1) (cond b (counted s t candidate (bounded tight after) n d (p ++ x ∷ [])) (work none 0)))) e
 
         -- The search behind x is bound on only where x is the bound's own entry.
-        narrowed : low ≤ x → search s t candidate (bounded tight after) n d (p ++ x ∷ []) ≡ search s t candidate (bounded (eqb x low) after) n d (p ++ x ∷ [])
+        narrowed : low ≤ x → counted s t candidate (bounded tight after) n d (p ++ x ∷ []) ≡ counted s t candidate (bounded (eqb x low) after) n d (p ++ x ∷ [])
         narrowed h = go tight refl h
           where
-            behind : tight ≡ true → (b : Bool) → eqb x (getD after (length p) 0) ≡ b → getD after (length p) 0 ≤ x → search s t candidate (next after) n d (p ++ x ∷ []) ≡ search s t candidate (bounded b after) n d (p ++ x ∷ [])
-            behind e true q g = refl
-            behind e false q g =
+            bound : tight ≡ true → (b : Bool) → eqb x (getD after (length p) 0) ≡ b → getD after (length p) 0 ≤ x → counted s t candidate (next after) n d (p ++ x ∷ []) ≡ counted s t candidate (bounded b after) n d (p ++ x ∷ [])
+            bound e true q g = refl
+            bound e false q g =
                 let ne = eqb-false x (getD after (length p) 0) q in
-                ap (λ (a : List ℕ). search s t candidate (next a) n d (p ++ x ∷ [])) (split e) ∙ loose p (getD after (length p) 0) (drop (suc (length p)) after) x (omega arith) d []
+                ap (λ (a : List ℕ). counted s t candidate (next a) n d (p ++ x ∷ [])) (split e) ∙ loose p (getD after (length p) 0) (drop (suc (length p)) after) x (omega arith) d []
 
-            go : (b : Bool) → tight ≡ b → lowest b after (length p) ≤ x → search s t candidate (bounded b after) n d (p ++ x ∷ []) ≡ search s t candidate (bounded (eqb x (lowest b after (length p))) after) n d (p ++ x ∷ [])
-            go false e g = ap (λ (b : Bool). search s t candidate (bounded b after) n d (p ++ x ∷ [])) (sym (ne-eqb x 0 (λ q. let z : ⊥ = omega arith in z)))
-            go true e g = behind e (eqb x (getD after (length p) 0)) refl g
+            go : (b : Bool) → tight ≡ b → lowest b after (length p) ≤ x → counted s t candidate (bounded b after) n d (p ++ x ∷ []) ≡ counted s t candidate (bounded (eqb x (lowest b after (length p))) after) n d (p ++ x ∷ [])
+            go false e g = ap (λ (b : Bool). counted s t candidate (bounded b after) n d (p ++ x ∷ [])) (sym (ne-eqb x 0 (λ q. let z : ⊥ = omega arith in z)))
+            go true e g = bound e (eqb x (getD after (length p) 0)) refl g
 
-        module _ (open? : isOpen ≡ true) (pass : passes s t (p ++ x ∷ []) ≡ true) where
-          -- The answer at x is that of the call for the next element.
-          answer : here x ≡ search s t candidate (bounded (eqb x low) after) n d (p ++ x ∷ [])
-          answer =
-              ap {B = Option (List ℕ)} (λ (b : Bool). cond b (search s t candidate (bounded tight after) n d (p ++ x ∷ [])) none) (admitted ∙ both isOpen (passes s t (p ++ x ∷ [])) open? pass)
-              ∙ narrowed (leb-true low x (and-left (leb low x) (not (member x p) && candidate (suc (length p)) x) open?))
-
-          -- Nothing behind x: it is passed over.
-          pub back : search s t candidate (bounded (eqb x low) after) n d (p ++ x ∷ []) ≡ none → x ≤ n → left x ≡ left (x + 1)
-          unfolding leftFrom
-          back e h = first-skip here n x h (answer ∙ e)
-
-          pub hit : (f : List ℕ) → search s t candidate (bounded (eqb x low) after) n d (p ++ x ∷ []) ≡ some f → x ≤ n → left x ≡ some f
-          unfolding leftFrom
-          hit f e h = first-hit here n x f h (answer ∙ e)
+        -- Where the list with x passes, the work behind the trial is that of the call for the next element.
+        pub goes : isOpen ≡ true → passes s t (p ++ x ∷ []) ≡ true → x ≤ n → left x ≡ behind (andThen (work none 1) (counted s t candidate (bounded (eqb x low) after) n d (p ++ x ∷ [])))
+        goes o e h =
+            opened o h
+            ∙ ap (λ (b : Bool). behind (andThen (work none 1) (cond b (counted s t candidate (bounded tight after) n d (p ++ x ∷ [])) (work none 0)))) e
+            ∙ ap (λ (w : Work). behind (andThen (work none 1) w)) (narrowed (leb-true low x (and-left (leb low x) (not (member x p) && candidate (suc (length p)) x) o)))
 
         -- The call for the next element is bound only where it has to be.
         pub still : eqb x low ≡ true → take (suc (length p)) after ≡ p ++ x ∷ []

@@ -5,15 +5,18 @@ use mathlib.Core.Bool.{Bool, true, false, cond, _&&_}
 use mathlib.Core.Option.{Option, none, some}
 use mathlib.Core.List.{List, _++_}
 use Prim.Native.Nat.{ℕ, suc, _-_, _≤_, _<_}
+use lib.Dec.{leb}
 use lib.ListN.{length, getD, take, drop, replicate}
 use Rattle.semigroups.specs.Lists.{elements, at, all, member}
 use Rattle.semigroups.specs.Tables.{Product, Element}
 use Rattle.semigroups.specs.Scratch.{scratchSize}
 use Rattle.semigroups.specs.Maps.{Ask, first, next}
 use Rattle.semigroups.specs.Search.{passes, Placed}
+use Rattle.semigroups.specs.Trials.{Work}
 use Rattle.backtrack.specs.Constraints.{imageProduct, asks, agreeOn, cross, Reads}
 use Rattle.backtrack.specs.declared.Partial.{Partial}
 use Rattle.backtrack.specs.declared.Found.{Found}
+use Rattle.backtrack.specs.declared.Outcome.{Outcome}
 
 -- The list placed so far.
 abbrev pub prefix : Partial → List ℕ
@@ -53,6 +56,22 @@ pub record Holds (s : Product) (n : ℕ) (t : Product) (p : Partial) : Type 0 wh
 unfoldable pub foundIn : Option (List ℕ) → Found
 foundIn (some f) = record { ok = true; image = f ++ replicate (120 - length f) 0 }
 foundIn none = record { ok = false; image = replicate 120 0 }
+
+-- What becomes of the trials that a search may take: they are not enough; or so many are left, with what is found.
+pub data Remainder : Type 0 where
+  exhausted : Remainder
+  remaining : ℕ → Option (List ℕ) → Remainder
+
+-- A search that may take so many trials, where they are counted; else it takes none of them.
+unfoldable pub within : Bool → ℕ → Work → Remainder
+within counting limit w =
+    let limited = cond (leb (w .trials) limit) (remaining (limit - w .trials) (w .found)) exhausted in
+    cond counting limited (remaining limit (w .found))
+
+-- What a search with a limit answers; zeros where it is stopped.
+unfoldable pub outcomeOf : Remainder → Outcome
+outcomeOf exhausted = record { stopped = true; left = 0; ok = false; image = replicate 120 0 }
+outcomeOf (remaining left o) = record { stopped = false; left = left; ok = foundIn o .ok; image = foundIn o .image }
 
 -- The search is bound by a list as long as what is placed equals its beginning.
 abbrev pub bounded : Bool → List ℕ → Ask

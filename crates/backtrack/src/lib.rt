@@ -2,18 +2,19 @@
 // inside that for element i, and returning means going back. A placing is tested by the products of the new element alone: what the pairs placed
 // before ask of it stands in constraints.
 ghost use mathlib.Core.Path.{_≡_};
-ghost use mathlib.Core.Bool.{true, false, _&&_};
+ghost use mathlib.Core.Bool.{true, false, cond, _&&_};
 ghost use mathlib.Core.List.{[], _∷_, _++_};
 ghost use mathlib.Core.Option.{none};
 ghost use Prim.Native.Nat.{ℕ, _+_, _-_, _≤_, _<_};
 ghost use lib.Dec.{eqb, leb};
-ghost use lib.ListN.{length, getD, take};
+ghost use lib.ListN.{length, getD, take, replicate};
 ghost use Rattle.semigroups.specs.Lists.{at, member};
 ghost use Rattle.semigroups.specs.Tables.{Product, product, Element, Filled};
 ghost use Rattle.semigroups.specs.Scratch.{scratchSize, marked};
 ghost use Rattle.semigroups.specs.Search.{fits, passes, search};
+ghost use Rattle.semigroups.specs.Trials.{work, counted};
 ghost use Rattle.backtrack.specs.Constraints.{allows, noted, imageProduct, newFits};
-ghost use Rattle.backtrack.specs.State.{prefix, Placing, Trial, Tracks, Holds, Ready, foundIn, bounded};
+ghost use Rattle.backtrack.specs.State.{prefix, Placing, Trial, Tracks, Holds, Ready, foundIn, bounded, exhausted, remaining, within, outcomeOf};
 
 // The map placed so far. Element i's image is image[i - 1]; used[y] is 1 where y is an image. The constraints: forced[c] is the target product that the
 // pairs placed ask of source element c, owner[y] the source element that they reserve target element y for.
@@ -35,6 +36,20 @@ pub struct Tested {
 pub struct Found {
     pub ok: bool,
     pub image: [u8; 120],
+}
+
+// What becomes of a search with a limit: whether it is stopped; if not, the trials left, and as in `Found`.
+pub struct Outcome {
+    pub stopped: bool,
+    pub left: u32,
+    pub ok: bool,
+    pub image: [u8; 120],
+}
+
+// Whether the trials left are enough for one more, and what is left then.
+struct Paid {
+    enough: bool,
+    left: u32,
 }
 
 // Whether a constraint allows the value y.
@@ -303,17 +318,39 @@ impl Partial {
     }
 }
 
-// No map found.
-fn nothing() -> Found
-    ensures answer { λ r. ⌜ r ≡ foundIn none ⌝ }
+// No map found: the search is stopped, or it ended with so many trials left.
+fn no_map(stopped: bool, left: u32) -> Outcome
+    ensures answer { λ r. ⌜ r ≡ record { stopped = stopped; left = left; ok = false; image = replicate 120 0 } ⌝ }
 {
-    Found {
+    Outcome {
+        stopped,
+        left,
         ok: false,
         image: [0u8; 120],
     }
 }
 
-// The earliest map asked for that begins with what is placed. `tight`: what is placed equals the beginning of `after`, so the rest must be later.
+// One trial more is paid for, where trials are counted.
+fn pay(counting: bool, left: u32) -> Paid
+    ensures answer { λ r. ⌜ cond (r .enough) (remaining (r .left) none) exhausted ≡ within counting left (work none 1) ⌝ }
+{
+    if !counting {
+        return Paid { enough: true, left };
+    }
+    if left == 0 {
+        return Paid {
+            enough: false,
+            left,
+        };
+    }
+    Paid {
+        enough: true,
+        left: left - 1,
+    }
+}
+
+// The earliest map asked for that begins with what is placed, within `limit` trials where they are counted. `tight`: what is placed equals the beginning
+// of `after`, so the rest must be later.
 fn extend(
     source: &[u8],
     m: usize,
@@ -322,24 +359,37 @@ fn extend(
     scratch: &[u8],
     after: &[u8],
     tight: bool,
+    counting: bool,
+    limit: u32,
     p: Partial,
-) -> Found
+) -> Outcome
     requires { ⌜ Filled m (now source) × Filled n (now target) ⌝ }
     requires { ⌜ Ready (product m (now source)) m (product n (now target)) n (now scratch) (now after) tight p ⌝ }
-    ensures answer { λ r. ⌜ r ≡ foundIn (search (product m (now (source .entry))) (product n (now (target .entry))) (marked n (now (scratch .entry))) (bounded tight (now (after .entry))) n (m - p .len) (prefix p)) ⌝ }
+    ensures answer { λ r. ⌜ r ≡ outcomeOf (within counting limit (counted (product m (now (source .entry))) (product n (now (target .entry))) (marked n (now (scratch .entry))) (bounded tight (now (after .entry))) n (m - p .len) (prefix p))) ⌝ }
 {
     let at = p.len;
     if m <= at {
         if tight {
-            return nothing();
+            return no_map(false, limit);
         }
         let image = p.image;
-        return Found { ok: true, image };
+        return Outcome {
+            stopped: false,
+            left: limit,
+            ok: true,
+            image,
+        };
     }
     let low: usize = if tight { after[at] as usize } else { 0 };
+    let mut left: u32 = limit;
     let mut x: usize = 1;
     while x <= n {
         if open(&p.used, scratch, n, at + 1, low, x) {
+            let paid = pay(counting, left);
+            if !paid.enough {
+                return no_map(true, 0);
+            }
+            left = paid.left;
             // A look by reference first, so that an image that does not fit costs no copy of the map. The test decides.
             if passes_with(
                 source,
@@ -355,16 +405,31 @@ fn extend(
             ) {
                 let q = p.place(n, x).test(source, m, target, n);
                 if q.ok {
-                    let r = extend(source, m, target, n, scratch, after, x == low, q.map);
+                    let r = extend(
+                        source,
+                        m,
+                        target,
+                        n,
+                        scratch,
+                        after,
+                        x == low,
+                        counting,
+                        left,
+                        q.map,
+                    );
+                    if r.stopped {
+                        return r;
+                    }
                     if r.ok {
                         return r;
                     }
+                    left = r.left;
                 }
             }
         }
         x += 1;
     }
-    nothing()
+    no_map(false, left)
 }
 
 // The earliest map of the marked candidates, or with `next` the earliest that is later than `after`.
@@ -381,5 +446,47 @@ pub fn find(
     requires { ⌜ (scratchSize m n ≤ length (now scratch)) × (length (now after) ≡ m) ⌝ }
     ensures answer { λ r. ⌜ r ≡ foundIn (search (product m (now (source .entry))) (product n (now (target .entry))) (marked n (now (scratch .entry))) (bounded next (now (after .entry))) n m []) ⌝ }
 {
-    extend(source, m, target, n, scratch, after, next, Partial::new())
+    let r = extend(
+        source,
+        m,
+        target,
+        n,
+        scratch,
+        after,
+        next,
+        false,
+        0,
+        Partial::new(),
+    );
+    let image = r.image;
+    Found { ok: r.ok, image }
+}
+
+// The same within `limit` trials, counted; stopped where it needs more.
+pub fn find_within(
+    source: &[u8],
+    m: usize,
+    target: &[u8],
+    n: usize,
+    scratch: &[u8],
+    after: &[u8],
+    next: bool,
+    limit: u32,
+) -> Outcome
+    requires { ⌜ Filled m (now source) × Filled n (now target) ⌝ }
+    requires { ⌜ (scratchSize m n ≤ length (now scratch)) × (length (now after) ≡ m) ⌝ }
+    ensures answer { λ r. ⌜ r ≡ outcomeOf (within true limit (counted (product m (now (source .entry))) (product n (now (target .entry))) (marked n (now (scratch .entry))) (bounded next (now (after .entry))) n m [])) ⌝ }
+{
+    extend(
+        source,
+        m,
+        target,
+        n,
+        scratch,
+        after,
+        next,
+        true,
+        limit,
+        Partial::new(),
+    )
 }

@@ -17,6 +17,7 @@ use Rattle.semigroups.specs.Subsemigroups.{subsemigroupQuestions, subsemigroupR
 use Rattle.semigroups.specs.Transformations.{transformationOrder, transformationQuestions, transformationRefusal}
 use Rattle.semigroups.specs.Calls.{givenUnless}
 use Rattle.semigroups.specs.Maps.{Kind, sought}
+use Rattle.semigroups.specs.Trials.{limited}
 use Rattle.semigroups.specs.MapCheck.{checkMap}
 use Rattle.semigroups.proofs.Booleans.{clash}
 use Rattle.semigroups.proofs.Questions.{number-listed, Listed, listed}
@@ -27,8 +28,9 @@ use Rattle.csv.specs.Tables.{orderOf, tableText}
 use Rattle.csv.specs.Questions.{sizeQuestions, loadQuestions, loadRefusal, saveQuestions, saveRefusal}
 use Rattle.csv.specs.Calls.{loadAnswer, saveAnswer}
 use Rattle.csv.proofs.Loading.{load-listed}
-use Rattle.search.specs.Calls.{Lent, Request, refusalOf, answerOf, call}
-use Rattle.exports.specs.Answers.{refusalWords, questionWords, answerWords, checkedValues, soughtValues, numberValues}
+use Rattle.search.specs.Calls.{Lent, Request, theFirst, refusalOf, answerOf, call}
+use Rattle.limited.specs.Calls.{firstWork, limitedCall}
+use Rattle.exports.specs.Answers.{refusalWords, questionWords, answerWords, checkedValues, soughtValues, limitedValues, numberValues}
 
 -- No question fails, or one with a number from 1 on.
 data Numbered : Option Refusal → Type 0 where
@@ -90,6 +92,11 @@ pub search-told : (kind : Kind) (request : Request) (l : Lent) → Tells (answer
 unfolding call searchRefusal member
 search-told kind request l =
     answer-told soughtValues (sought (answerOf kind request l)) (numbered (searchQuestions (l .m) (l .source) (l .n) (l .target) (length (l .map)) (length (l .scratch))) refl)
+
+pub limited-told : (kind : Kind) (limit : ℕ) (l : Lent) → Tells (answerWords limitedValues (limitedCall kind limit l .says)) (refusalOf kind theFirst l)
+unfolding limitedCall searchRefusal member
+limited-told kind limit l =
+    answer-told limitedValues (limited limit (firstWork kind l)) (numbered (searchQuestions (l .m) (l .source) (l .n) (l .target) (length (l .map)) (length (l .scratch))) refl)
 
 pub generators-told : (n : ℕ) (cells l : List ℕ) → Tells (questionWords (generatorsRefusal n cells l)) (generatorsRefusal n cells l)
 unfolding generatorsRefusal member

@@ -9,6 +9,7 @@ use Rattle.semigroups.specs.Calls.{Answer, refused, gives}
 use Rattle.semigroups.specs.Invariants.{IndexPeriod, Profile}
 use Rattle.semigroups.specs.MapCheck.{Checked, holds, outside, equalImages, wrongProduct}
 use Rattle.semigroups.specs.Maps.{Sought, found, nothing}
+use Rattle.semigroups.specs.Trials.{Limited, stopped, ended}
 use Rattle.tables.specs.Answers.{sideOf}
 use Rattle.tables.specs.declared.Refusal.{Refusal as Numbers}
 
@@ -63,6 +64,12 @@ checkedValues (wrongProduct pair) = 3 ∷ pair
 abbrev pub soughtValues : Sought → List ℕ
 soughtValues found = 1 ∷ []
 soughtValues nothing = 0 ∷ []
+
+-- 1 for found and 0 for none, with the number of trials; 2 for stopped.
+abbrev pub limitedValues : Limited → List ℕ
+limitedValues (ended found trials) = 1 ∷ trials ∷ []
+limitedValues (ended nothing trials) = 0 ∷ trials ∷ []
+limitedValues stopped = 2 ∷ []
 
 -- An order or a length.
 abbrev pub numberValues : ℕ → List ℕ

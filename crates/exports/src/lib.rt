@@ -15,14 +15,17 @@ ghost use Rattle.maps.specs.Answers.{mapCheck, mapAnswerSays};
 ghost use Rattle.generated.specs.Answers.{generatorsVerdictRefusal, subsemigroupSays, partAfter, elementsAfter, subsemigroupAnswerSays};
 ghost use Rattle.search.specs.Calls.{theFirst, theNext, lend, call};
 ghost use Rattle.search.specs.Answers.{searchAnswerSays};
+ghost use Rattle.limited.specs.Calls.{limitedCall};
+ghost use Rattle.limited.specs.Answers.{limitedAnswerSays};
 ghost use Rattle.transformations.specs.Answers.{transformationSays, transformationCellsAfter, transformationAnswerSays};
 ghost use Rattle.csv.specs.Calls.{loadAnswer, cellsAfter, saveAnswer, textAfter};
 ghost use Rattle.text.specs.Answers.{loadedAnswer, savedAnswer};
-ghost use Rattle.exports.specs.Answers.{words, numbersWords, questionWords, answerWords, indexPeriodValues, profileValues, checkedValues, soughtValues, numberValues};
+ghost use Rattle.exports.specs.Answers.{words, numbersWords, questionWords, answerWords, indexPeriodValues, profileValues, checkedValues, soughtValues, limitedValues, numberValues};
 use generated::GeneratorsVerdict;
 use generated::SubsemigroupAnswer;
 use invariants::IndexPeriodAnswer;
 use invariants::ProfileAnswer;
+use limited::LimitedAnswer;
 use maps::MapAnswer;
 use search::SearchAnswer;
 use tables::Refusal;
@@ -140,6 +143,19 @@ fn search_words(said: SearchAnswer) -> [u64; 16]
         SearchAnswer::Refused(side, fault) => refusal_words(fault.refusal().naming(side)),
         SearchAnswer::MapLength => refusal_words(Refusal::by(5, 0)),
         SearchAnswer::ScratchLength => refusal_words(Refusal::by(6, 0)),
+    }
+}
+
+fn limited_words(said: LimitedAnswer) -> [u64; 16]
+    ensures answer { λ r. ⌜ r ≡ answerWords limitedValues (limitedAnswerSays said) ⌝ }
+{
+    match said {
+        LimitedAnswer::Found(trials) => words(0, 0, &[1, trials as usize]),
+        LimitedAnswer::Nothing(trials) => words(0, 0, &[0, trials as usize]),
+        LimitedAnswer::Stopped => words(0, 0, &[2]),
+        LimitedAnswer::Refused(side, fault) => refusal_words(fault.refusal().naming(side)),
+        LimitedAnswer::MapLength => refusal_words(Refusal::by(5, 0)),
+        LimitedAnswer::ScratchLength => refusal_words(Refusal::by(6, 0)),
     }
 }
 
@@ -370,4 +386,44 @@ pub extern "C" fn tickdrizzle_save(
     ensures text { λ _. ⌜ now (text .exit) ≡ textAfter order (now (cells .entry)) (now (text .entry)) ⌝ }
 {
     *answer = saved_words(text::save(cells, order, text));
+}
+
+#[no_mangle]
+pub extern "C" fn tickdrizzle_first_embedding_within(
+    source: &[u8],
+    m: usize,
+    target: &[u8],
+    n: usize,
+    map: &mut [u8],
+    scratch: &mut [u8],
+    limit: u32,
+    answer: &mut [u64; 16],
+)
+    ensures answer { λ _. ⌜ now (answer .exit) ≡ answerWords limitedValues (limitedCall embeddings limit (lend (now (source .entry)) m (now (target .entry)) n (now (map .entry)) (now (scratch .entry))) .says) ⌝ }
+    ensures map { λ _. ⌜ now (map .exit) ≡ limitedCall embeddings limit (lend (now (source .entry)) m (now (target .entry)) n (now (map .entry)) (now (scratch .entry))) .map ⌝ }
+    ensures scratch { λ _. ⌜ now (scratch .exit) ≡ limitedCall embeddings limit (lend (now (source .entry)) m (now (target .entry)) n (now (map .entry)) (now (scratch .entry))) .scratch ⌝ }
+{
+    *answer = limited_words(limited::first_embedding_within(
+        source, m, target, n, map, scratch, limit,
+    ));
+}
+
+#[no_mangle]
+pub extern "C" fn tickdrizzle_first_isomorphism_within(
+    source: &[u8],
+    m: usize,
+    target: &[u8],
+    n: usize,
+    map: &mut [u8],
+    scratch: &mut [u8],
+    limit: u32,
+    answer: &mut [u64; 16],
+)
+    ensures answer { λ _. ⌜ now (answer .exit) ≡ answerWords limitedValues (limitedCall isomorphisms limit (lend (now (source .entry)) m (now (target .entry)) n (now (map .entry)) (now (scratch .entry))) .says) ⌝ }
+    ensures map { λ _. ⌜ now (map .exit) ≡ limitedCall isomorphisms limit (lend (now (source .entry)) m (now (target .entry)) n (now (map .entry)) (now (scratch .entry))) .map ⌝ }
+    ensures scratch { λ _. ⌜ now (scratch .exit) ≡ limitedCall isomorphisms limit (lend (now (source .entry)) m (now (target .entry)) n (now (map .entry)) (now (scratch .entry))) .scratch ⌝ }
+{
+    *answer = limited_words(limited::first_isomorphism_within(
+        source, m, target, n, map, scratch, limit,
+    ));
 }

@@ -30,7 +30,7 @@ pub enum SearchAnswer {
 }
 
 // Whether tables of orders m and n can have a map of the kind.
-fn order_fits(kind: Kind, m: usize, n: usize) -> bool
+pub fn order_fits(kind: Kind, m: usize, n: usize) -> bool
     ensures answer { λ r. ⌜ r ≡ orderFits (kindOf kind) m n ⌝ }
 {
     match kind {
@@ -40,7 +40,7 @@ fn order_fits(kind: Kind, m: usize, n: usize) -> bool
 }
 
 // Marks the candidates of the kind in scratch.
-fn fill(kind: Kind, source: &[u8], m: usize, target: &[u8], n: usize, scratch: &mut [u8])
+pub fn fill(kind: Kind, source: &[u8], m: usize, target: &[u8], n: usize, scratch: &mut [u8])
     requires { ⌜ Accepted m (now source) × Accepted n (now target) ⌝ }
     requires { ⌜ scratchSize m n ≤ length (now scratch) ⌝ }
     ensures scratch { λ _. ⌜ now (scratch .exit) ≡ scratchAfter m n (candidate (kindOf kind) m (product m (now (source .entry))) n (product n (now (target .entry)))) (now (scratch .entry)) ⌝ }
@@ -52,7 +52,7 @@ fn fill(kind: Kind, source: &[u8], m: usize, target: &[u8], n: usize, scratch: &
 }
 
 // Writes the images of the m elements.
-fn write_map(map: &mut [u8], image: &[u8; 120], m: usize)
+pub fn write_map(map: &mut [u8], image: &[u8; 120], m: usize)
     requires { ⌜ (length (now map) ≡ m) × (m ≤ 120) × (length (now image) ≡ 120) ⌝ }
     ensures map { λ _. ⌜ now (map .exit) ≡ take m (now (image .entry)) ⌝ }
 {

@@ -16,3 +16,4 @@ pub mod Cases
 pub mod Generated
 pub mod Light
 pub mod Subsemigroups
+pub mod Trials

@@ -180,6 +180,61 @@ searches! {
     next_isomorphism is tickdrizzle_next_isomorphism;
 }
 
+/// The searches with a limit, which have one signature.
+macro_rules! limited_searches {
+    ($($name:ident is $symbol:ident;)*) => {$(
+        #[allow(clippy::too_many_arguments)]
+        pub fn $name(
+            source: &[u8],
+            source_order: usize,
+            target: &[u8],
+            target_order: usize,
+            map: &mut [u8],
+            scratch: &mut [u8],
+            limit: u32,
+            answer: &mut Answer,
+        ) {
+            extern "C" {
+                fn $symbol(
+                    source: *const u8,
+                    source_length: usize,
+                    source_order: usize,
+                    target: *const u8,
+                    target_length: usize,
+                    target_order: usize,
+                    map: *mut u8,
+                    map_length: usize,
+                    scratch: *mut u8,
+                    scratch_length: usize,
+                    limit: u32,
+                    answer: &mut Answer,
+                );
+            }
+            unsafe {
+                $symbol(
+                    source.as_ptr(),
+                    source.len(),
+                    source_order,
+                    target.as_ptr(),
+                    target.len(),
+                    target_order,
+                    map.as_mut_ptr(),
+                    map.len(),
+                    scratch.as_mut_ptr(),
+                    scratch.len(),
+                    limit,
+                    answer,
+                )
+            }
+        }
+    )*};
+}
+
+limited_searches! {
+    first_embedding_within is tickdrizzle_first_embedding_within;
+    first_isomorphism_within is tickdrizzle_first_isomorphism_within;
+}
+
 pub fn transformations(degree: usize, cells: &mut [u8], answer: &mut Answer) {
     unsafe { tickdrizzle_transformations(degree, cells.as_mut_ptr(), cells.len(), answer) }
 }

@@ -282,6 +282,35 @@ impl Search {
     }
 }
 
+/// What a search with a limit says.
+#[derive(Clone, Copy, Debug, PartialEq, Eq)]
+pub enum LimitedSearch {
+    /// The map buffer holds the map, after this exact number of trials.
+    Found {
+        /// The trials up to the map, its last one included.
+        trials: u32,
+    },
+    /// There is no such map, which this exact number of trials shows.
+    None {
+        /// The trials of the whole search.
+        trials: u32,
+    },
+    /// More trials are needed than the limit.
+    Stopped,
+}
+
+impl LimitedSearch {
+    pub(crate) fn decode(answer: &Answer) -> LimitedSearch {
+        let trials = || u32::try_from(answer[3]).expect("no more trials than the limit");
+        match answer[2] {
+            0 => LimitedSearch::None { trials: trials() },
+            1 => LimitedSearch::Found { trials: trials() },
+            2 => LimitedSearch::Stopped,
+            other => panic!("no outcome of a search with a limit has the number {other}"),
+        }
+    }
+}
+
 /// The size that a call gives: an order or a length.
 pub(crate) fn size(answer: &Answer) -> usize {
     number(answer, 2)

@@ -26,7 +26,7 @@ pub mod abi;
 mod answers;
 
 use abi::Answer;
-pub use answers::{IndexPeriod, MapCheck, Profile, Question, Refusal, Search, Side};
+pub use answers::{IndexPeriod, LimitedSearch, MapCheck, Profile, Question, Refusal, Search, Side};
 
 /// The greatest order of a table.
 pub const GREATEST_ORDER: usize = 120;
@@ -137,6 +137,38 @@ searches! {
     /// The earliest isomorphism that is later than the bytes in `map`: called again and again from zeros, it finds each
     /// isomorphism once.
     next_isomorphism;
+}
+
+/// The searches with a limit, which differ in the map they are after.
+macro_rules! limited_searches {
+    ($($(#[$says:meta])* $name:ident;)*) => {$(
+        $(#[$says])*
+        ///
+        /// A trial is one candidate, unused so far, tested as the image of the next element; images are tried in rising order,
+        /// elements from 1 upward. Stopped: more trials are needed, `map` is as it was, and `scratch` is filled as after
+        /// none. A larger limit never changes a map or a none.
+        pub fn $name(
+            source: &[u8],
+            source_order: usize,
+            target: &[u8],
+            target_order: usize,
+            map: &mut [u8],
+            scratch: &mut [u8],
+            limit: u32,
+        ) -> Result<LimitedSearch, Refusal> {
+            answered(
+                |answer| abi::$name(source, source_order, target, target_order, map, scratch, limit, answer),
+                LimitedSearch::decode,
+            )
+        }
+    )*};
+}
+
+limited_searches! {
+    /// The earliest embedding of the source in the target, within so many trials.
+    first_embedding_within;
+    /// The earliest isomorphism of the source onto the target, within so many trials.
+    first_isomorphism_within;
 }
 
 /// Writes the table of all transformations of `degree` points, numbered in list order and composed from left to right,

@@ -1,34 +1,39 @@
--- `extend` meets its contract. The measure is what is left to place. The loop's invariant: the answer of the call is what is left of it
--- from x on. Assumes nothing.
+-- `extend` meets its contract. The measure is what is left to place. The loop's invariant: what becomes of the call is what becomes of the work that is
+-- left from x on, within the trials that are left. Assumes nothing.
 use mathlib.Core.Path.{_≡_, sym, ap, subst, _∙_}
 use mathlib.Core.Logic.{⊎-elim}
+use mathlib.Core.Bool.{Bool, true, false, cond, not}
+use mathlib.Core.Option.{none}
 use Prim.Native.Nat.{_+_, _-_, _≤_, ℕ, _<_}
 use native.Mathlib.Omega.{arith}
 use borrow.Author.Needs.{needs}
+use borrow.Author.Tests.{not-true, not-false}
 use borrow.Fn.Kinds.{In}
 use borrow.Fn.PlainCycle.{Measures, is, falls, and}
 use Rattle.semigroups.specs.Tables.{product}
 use Rattle.semigroups.specs.Search.{passes}
+use Rattle.semigroups.specs.Trials.{work}
 use Rattle.semigroups.proofs.Tables.{product-element}
-use Rattle.backtrack.specs.State.{foundIn}
-use Rattle.backtrack.specs.declared.Found.{Found}
+use Rattle.backtrack.specs.State.{Remainder, exhausted, remaining, within, outcomeOf}
+use Rattle.backtrack.specs.declared.Outcome.{Outcome}
 use Rattle.backtrack.proofs.Placing.{as-trial}
 use Rattle.backtrack.proofs.Noting.{handed-on}
 use Rattle.backtrack.proofs.Steps.{lowest}
-use Rattle.backtrack.proofs.Extending.{Called, Rest, Turn, Verdict, done-bound, done-found, begins, ends, row-marked, unused, skip, refuse, handed-passes, onward, fail, found}
-use Rattle.backtrack.proofs.+extend.{statement}
-use Rattle.backtrack.proofs.+extend.Tie.{close}
+use Rattle.backtrack.proofs.Extending.{Called, Rest, Turn, Verdict, done-bound, done-found, begins, ends, row-marked, unused, skip, stop, refuse, handed-passes, onward, halt, found, fail}
 use Rattle.backtrack.proofs.extend.Reads as extend
 use Rattle.backtrack.proofs.extend.Kinds as extend-kinds
 use Rattle.backtrack.proofs.+extend.Lts-extend as extend-lts
 use Rattle.backtrack.proofs.Partial.place.Reads as place-reads
 use Rattle.backtrack.proofs.Partial.test.Reads as test-reads
-use Rattle.backtrack.proofs.nothing.Reads as nothing-reads
+use Rattle.backtrack.proofs.no_map.Reads as no-map-reads
 use Rattle.backtrack.proofs.open.Reads as open-reads
 use Rattle.backtrack.proofs.passes_with.Reads as passes-with-reads
+use Rattle.backtrack.proofs.pay.Reads as pay-reads
+use Rattle.backtrack.proofs.+extend.{statement}
+use Rattle.backtrack.proofs.+extend.Tie.{close}
 
 abbrev μ-extend : Measures 4 extend-kinds.ps ℕ
-μ-extend κs a = a .1 .0 - a .1 .1 .1 .1 .1 .1 .1 .0 .len
+μ-extend κs a = a .1 .0 - a .1 .1 .1 .1 .1 .1 .1 .1 .1 .0 .len
 
 abbrev extend-at : ℕ → In 4 extend-kinds.ps
 extend-at t = and 4 extend-kinds.ps (is 4 extend-kinds.ps μ-extend t) extend.Pre
@@ -37,16 +42,16 @@ abbrev extend-below : ℕ → In 4 extend-kinds.ps
 extend-below t = and 4 extend-kinds.ps (falls 4 extend-kinds.ps _<_ μ-extend t) extend.Pre
 
 abbrev extend-Inv-loop : extend-lts.InvT-loop
-extend-Inv-loop source m target n scratch after tight p at low x₀ x =
-    (1 ≤ x) × (x ≤ n + 1) × (low ≡ lowest tight after (p .len)) × (Called (product m source) m (product n target) n scratch after tight p ≡ Rest (product m source) m (product n target) n scratch after tight p x)
+extend-Inv-loop source m target n scratch after tight counting limit p at low left₀ x₀ left x =
+    (1 ≤ x) × (x ≤ n + 1) × (low ≡ lowest tight after (p .len)) × (within counting limit (Called (product m source) m (product n target) n scratch after tight p) ≡ within counting left (Rest (product m source) m (product n target) n scratch after tight p x))
 
 abbrev extend-μ-loop : extend-lts.MeasureT-loop
-extend-μ-loop source m target n scratch after tight p at low x₀ x = n + 1 - x
+extend-μ-loop source m target n scratch after tight counting limit p at low left₀ x₀ left x = n + 1 - x
 
 -- What the calls ask and tell.
 abbrev calls : ℕ → extend-lts.Claims
 calls t =
-    (nothing-reads.Asked, nothing-reads.Learnt, open-reads.Asked, open-reads.Learnt, passes-with-reads.Asked, passes-with-reads.Learnt, place-reads.Asked, place-reads.Learnt, test-reads.Asked, test-reads.Learnt, extend-below t, extend.Post)
+    (no-map-reads.Asked, no-map-reads.Learnt, open-reads.Asked, open-reads.Learnt, pay-reads.Asked, pay-reads.Learnt, passes-with-reads.Asked, passes-with-reads.Learnt, place-reads.Asked, place-reads.Learnt, test-reads.Asked, test-reads.Learnt, extend-below t, extend.Post)
 
 abbrev Start : ℕ → Type 0
 Start t = extend-lts.Start (calls t) (extend-at t) extend.Post extend-Inv-loop extend-μ-loop
@@ -59,27 +64,36 @@ start t k = k .before .before .before .before .before .before .before .before .b
 
 -- The turn, once `open` has answered.
 turn : (t : ℕ) (k : Opened t) → let a = start t k .args in
-    Turn (product (a .m) (a .source .now)) (a .m) (product (a .n) (a .target .now)) (a .n) (a .scratch .now) (a .after .now) (a .tight) (a .t8) (k .before .before .before .before .before .if3 .low) (k .before .before .before .before .loop .x) (k .«open» .result)
+    Turn (product (a .m) (a .source .now)) (a .m) (product (a .n) (a .target .now)) (a .n) (a .scratch .now) (a .after .now) (a .tight) (a .counting) (a .limit) (a .t10) (k .before .before .before .before .before .if3 .low) (k .before .before .before .before .loop .left) (k .before .before .before .before .loop .x) (k .«open» .result)
 turn t k =
     let z = start t k in
     let source = z .pre .1 .0 .0 in
     let test = k .before .before .before .loop-test .taken in
+    let l = k .before .before .before .before .loop in
     record {
       ready = z .pre .1 .1;
       closed = product-element (z .args .m) (z .args .source .now) (source .size) (source .in-range);
       orders = (source .order .1, z .pre .1 .0 .1 .order .1);
       room = k .before .before .before .before .before .before .if1 .left;
-      bound = k .before .before .before .before .loop .inv .2;
-      element = (k .before .before .before .before .loop .inv .0, omega arith);
+      bound = l .inv .2;
+      element = (l .inv .0, omega arith);
+      so-far = l .inv .3;
       opened = k .«open» .ensures;
     }
+
+-- Whether the trial is paid for, from what `pay` answered.
+unpaid : (enough : Bool) (left : ℕ) (r : Remainder) → cond enough (remaining left none) exhausted ≡ r → not enough ≡ true → exhausted ≡ r
+unpaid enough left r e h = ap {B = Remainder} (λ (b : Bool). cond b (remaining left none) exhausted) (sym (not-true enough h)) ∙ e
+
+paid : (enough : Bool) (left : ℕ) (r : Remainder) → cond enough (remaining left none) exhausted ≡ r → not enough ≡ false → remaining left none ≡ r
+paid enough left r e h = ap {B = Remainder} (λ (b : Bool). cond b (remaining left none) exhausted) (sym (not-false enough h)) ∙ e
 
 abbrev Tested : ℕ → Type 0
 Tested t = extend-lts.After-test (calls t) (extend-at t) extend.Post extend-Inv-loop extend-μ-loop
 
 -- What the test says, once it has answered.
-tested : (t : ℕ) (k : Tested t) → let a = start t (k .before .before .before .before .before .before .before .before .before .before) .args in
-    Verdict (product (a .m) (a .source .now)) (product (a .n) (a .target .now)) (a .t8) (k .before .before .before .before .before .before .before .before .before .before .before .before .before .before .loop .x) (k .before .place .result) (k .test .result .map) (k .test .result .ok)
+tested : (t : ℕ) (k : Tested t) → let o = k .before .before .before .before .before .before .before .before .before .before .before .before .before in
+    Verdict (product (start t o .args .m) (start t o .args .source .now)) (product (start t o .args .n) (start t o .args .target .now)) (start t o .args .t10) (o .before .before .before .before .loop .x) (k .before .place .result) (k .test .result .map) (k .test .result .ok)
 tested t k =
     let more = k .before .place .ensures .1 .0 in
     let test = k .test .ensures in
@@ -91,8 +105,8 @@ tested t k =
       same-length = test .1 .1 .1;
     }
 
-extend-nothing-requires : (t : ℕ) → extend-lts.Need-nothing-requires (calls t) (extend-at t) extend.Post extend-Inv-loop extend-μ-loop
-extend-nothing-requires t c κs = search needs
+extend-no-map-requires : (t : ℕ) → extend-lts.Need-no-map-requires (calls t) (extend-at t) extend.Post extend-Inv-loop extend-μ-loop
+extend-no-map-requires t c κs = search needs
 
 extend-returns : (t : ℕ) → extend-lts.Need-returns (calls t) (extend-at t) extend.Post extend-Inv-loop extend-μ-loop
 extend-returns t c =
@@ -100,7 +114,7 @@ extend-returns t c =
     let a = z .args in
     let s = product (a .m) (a .source .now) in
     let r = product (a .n) (a .target .now) in
-    c .nothing .ensures ∙ ap foundIn (done-bound s (a .m) r (a .n) (a .scratch .now) (a .after .now) (a .tight) (a .t8) (z .pre .1 .1) (c .before .before .if1 .taken) (c .before .if2 .taken))
+    c .no-map .ensures ∙ done-bound s (a .m) r (a .n) (a .scratch .now) (a .after .now) (a .tight) (a .t10) (z .pre .1 .1) (a .counting) (a .limit) (c .before .before .if1 .taken) (c .before .if2 .taken)
 
 extend-returns-2 : (t : ℕ) → extend-lts.Need-returns-2 (calls t) (extend-at t) extend.Post extend-Inv-loop extend-μ-loop
 extend-returns-2 t c =
@@ -108,13 +122,13 @@ extend-returns-2 t c =
     let a = z .args in
     let s = product (a .m) (a .source .now) in
     let r = product (a .n) (a .target .now) in
-    done-found s (a .m) r (a .n) (a .scratch .now) (a .after .now) (a .tight) (a .t8) (z .pre .1 .1) (c .before .before .if1 .taken) (c .before .if2 .left)
+    done-found s (a .m) r (a .n) (a .scratch .now) (a .after .now) (a .tight) (a .t10) (z .pre .1 .1) (a .counting) (a .limit) (c .before .before .if1 .taken) (c .before .if2 .left)
 
 extend-shared-slice-read-low : (t : ℕ) → extend-lts.Need-shared-slice-read-low (calls t) (extend-at t) extend.Post extend-Inv-loop extend-μ-loop
 extend-shared-slice-read-low t c = let b = c .before .before .before .before .before .before .before .pre .1 .1 .bound in let e = c .before .before .if1 .left in omega arith
 
 extend-cast-low : (t : ℕ) → extend-lts.Need-cast-low (calls t) (extend-at t) extend.Post extend-Inv-loop extend-μ-loop
-extend-cast-low t c = omega (arith, c .shared-slice-known5 .given (c .before .before .before .before .before .before .before .args .t8 .len))
+extend-cast-low t c = omega (arith, c .shared-slice-known5 .given (c .before .before .before .before .before .before .before .args .t10 .len))
 
 extend-loop-holds : (t : ℕ) → extend-lts.Need-loop-holds (calls t) (extend-at t) extend.Post extend-Inv-loop extend-μ-loop
 extend-loop-holds t c =
@@ -122,7 +136,7 @@ extend-loop-holds t c =
     let a = z .args in
     let s = product (a .m) (a .source .now) in
     let r = product (a .n) (a .target .now) in
-    (omega arith, omega arith, ⊎-elim (λ w. w .2 ∙ rw (w .0 .taken)) (λ w. w .1 ∙ rw (w .0 .left)) (c .if3 .came), begins s (a .m) r (a .n) (a .scratch .now) (a .after .now) (a .tight) (a .t8) (z .pre .1 .1) (c .before .if1 .left))
+    (omega arith, omega arith, ⊎-elim (λ w. w .2 ∙ rw (w .0 .taken)) (λ w. w .1 ∙ rw (w .0 .left)) (c .if3 .came), ap (within (a .counting) (a .limit)) (begins s (a .m) r (a .n) (a .scratch .now) (a .after .now) (a .tight) (a .t10) (z .pre .1 .1) (c .before .if1 .left)))
 
 extend-add-open : (t : ℕ) → extend-lts.Need-add-open (calls t) (extend-at t) extend.Post extend-Inv-loop extend-μ-loop
 extend-add-open t c = let m = c .before .before .before .before .before .before .before .before .before .before .pre .1 .0 .0 .order in let e = c .before .before .before .before .before .if1 .left in omega arith
@@ -137,27 +151,38 @@ extend-open-requires t c κs =
     let n = z .pre .1 .0 .1 .order in
     let e = c .before .before .before .before .before .if1 .left in
     let test = c .before .before .loop-test .taken in
-    ((omega arith, (c .before .before .before .loop .inv .0, omega arith), n .1), row-marked s (a .m) r (a .n) (a .scratch .now) (a .after .now) (a .tight) (a .t8) (z .pre .1 .1) e)
+    ((omega arith, (c .before .before .before .loop .inv .0, omega arith), n .1), row-marked s (a .m) r (a .n) (a .scratch .now) (a .after .now) (a .tight) (a .t10) (z .pre .1 .1) e)
+
+extend-pay-requires : (t : ℕ) → extend-lts.Need-pay-requires (calls t) (extend-at t) extend.Post extend-Inv-loop extend-μ-loop
+extend-pay-requires t c κs = search needs
+
+extend-no-map-requires-2 : (t : ℕ) → extend-lts.Need-no-map-requires-2 (calls t) (extend-at t) extend.Post extend-Inv-loop extend-μ-loop
+extend-no-map-requires-2 t c κs = search needs
+
+extend-returns-3 : (t : ℕ) → extend-lts.Need-returns-3 (calls t) (extend-at t) extend.Post extend-Inv-loop extend-μ-loop
+extend-returns-3 t c =
+    let y = c .before .before .before .pay in
+    c .no-map2 .ensures ∙ stop (turn t (c .before .before .before .before .before)) (c .before .before .before .before .if4 .taken) (unpaid (y .result .enough) (y .result .left) _ (y .ensures) (c .before .if5 .taken))
 
 extend-passes-with-requires : (t : ℕ) → extend-lts.Need-passes-with-requires (calls t) (extend-at t) extend.Post extend-Inv-loop extend-μ-loop
 extend-passes-with-requires t c κs =
-    let k = c .before .before .before .before .before .before in
+    let k = c .before .before .before .before .before .before .before .before .before in
     let a = start t k .args in
-    let p = a .t8 in
+    let p = a .t10 in
     let T = turn t k in
     let holds = T .ready .holds in
-    (start t k .pre .1 .0, ((as-trial (a .n) (p .image) (p .used) (p .len) (holds .placing) (k .before .before .before .before .loop .x) (T .element) (omega arith), T .room, unused T (c .before .before .before .before .before .if4 .taken)), (holds .tracks, T .ready .passed)))
+    (start t k .pre .1 .0, ((as-trial (a .n) (p .image) (p .used) (p .len) (holds .placing) (k .before .before .before .before .loop .x) (T .element) (omega arith), T .room, unused T (c .before .before .before .before .before .before .before .before .if4 .taken)), (holds .tracks, T .ready .passed)))
 
 extend-place-requires : (t : ℕ) → extend-lts.Need-place-requires (calls t) (extend-at t) extend.Post extend-Inv-loop extend-μ-loop
 extend-place-requires t c κs =
-    let T = turn t (c .before .before .before .before .before .before .before .before) in
+    let T = turn t (c .before .before .before .before .before .before .before .before .before .before .before) in
     let room = T .room in
     let orders = T .orders in
-    (T .ready .holds .placing, (T .element, orders .1, omega arith, unused T (c .before .before .before .before .before .before .before .if4 .taken)))
+    (T .ready .holds .placing, (T .element, orders .1, omega arith, unused T (c .before .before .before .before .before .before .before .before .before .before .if4 .taken)))
 
 extend-test-requires : (t : ℕ) → extend-lts.Need-test-requires (calls t) (extend-at t) extend.Post extend-Inv-loop extend-μ-loop
 extend-test-requires t c κs =
-    let k = c .before .before .before .before .before .before .before .before .before in
+    let k = c .before .before .before .before .before .before .before .before .before .before .before .before in
     let z = start t k in
     let a = z .args in
     let s = product (a .m) (a .source .now) in
@@ -168,27 +193,46 @@ extend-test-requires t c κs =
     let more = place .ensures .1 .0 in
     let len = more .2 in
     let constraints = place .ensures .1 .1 in
-    (z .pre .1 .0, ((place .ensures .0, omega arith), (handed-on s r (a .t8) (place .result) (more .2) (more .1) (constraints .0) (constraints .1) (T .ready .holds .tracks), handed-passes s r (a .t8) (place .result) (more .2) (more .1) (T .ready .passed))))
+    (z .pre .1 .0, ((place .ensures .0, omega arith), (handed-on s r (a .t10) (place .result) (more .2) (more .1) (constraints .0) (constraints .1) (T .ready .holds .tracks), handed-passes s r (a .t10) (place .result) (more .2) (more .1) (T .ready .passed))))
 
 extend-extend-requires : (t : ℕ) → extend-lts.Need-extend-requires (calls t) (extend-at t) extend.Post extend-Inv-loop extend-μ-loop
 extend-extend-requires t c κs =
     let w = c .before in
-    let k = w .before .before .before .before .before .before .before .before .before .before in
+    let k = w .before .before .before .before .before .before .before .before .before .before .before .before .before in
     let z = start t k in
     let T = turn t k in
+    let y = w .before .before .before .before .before .before .before .before .before .before .before .pay in
+    let p = paid (y .result .enough) (y .result .left) _ (y .ensures) (w .before .before .before .before .before .before .before .before .before .if5 .left) in
+    let o = w .before .before .before .before .before .before .before .before .before .before .before .before .if4 .taken in
     let room = T .room in
     let v = tested t w in
     let one = v .one-more in
     let same = v .same-length in
-    (subst (λ (j : ℕ). z .args .m - w .test .result .map .len < j) (z .pre .0) (omega arith), (z .pre .1 .0, onward T (w .before .before .before .before .before .before .before .before .before .if4 .taken) (w .before .place .result) (w .test .result .map) (w .test .result .ok) v (c .if6 .taken) (w .test .ensures .1 .0)))
+    (subst (λ (j : ℕ). z .args .m - w .test .result .map .len < j) (z .pre .0) (omega arith), (z .pre .1 .0, onward T o (y .result .left) p (w .before .place .result) (w .test .result .map) (w .test .result .ok) v (c .if7 .taken) (w .test .ensures .1 .0)))
 
-extend-returns-3 : (t : ℕ) → extend-lts.Need-returns-3 (calls t) (extend-at t) extend.Post extend-Inv-loop extend-μ-loop
-extend-returns-3 t c =
+extend-returns-4 : (t : ℕ) → extend-lts.Need-returns-4 (calls t) (extend-at t) extend.Post extend-Inv-loop extend-μ-loop
+extend-returns-4 t c =
     let w = c .before .before .before in
-    let k = w .before .before .before .before .before .before .before .before .before .before in
+    let k = w .before .before .before .before .before .before .before .before .before .before .before .before .before in
+    let z = start t k in
     let T = turn t k in
+    let y = w .before .before .before .before .before .before .before .before .before .before .before .pay in
+    let p = paid (y .result .enough) (y .result .left) _ (y .ensures) (w .before .before .before .before .before .before .before .before .before .if5 .left) in
+    let o = w .before .before .before .before .before .before .before .before .before .before .before .before .if4 .taken in
     let i = c .before .extend in
-    i .ensures ∙ ap foundIn (found T (w .before .before .before .before .before .before .before .before .before .if4 .taken) (w .before .place .result) (w .test .result .map) (w .test .result .ok) (tested t w) (c .before .before .if6 .taken) (ap (λ (f : Found). f .ok) (sym (i .ensures)) ∙ c .if7 .taken) (k .before .before .before .before .loop .inv .3))
+    i .ensures ∙ halt T o (y .result .left) p (w .before .place .result) (w .test .result .map) (w .test .result .ok) (tested t w) (c .before .before .if7 .taken) (ap (λ (r : Outcome). r .stopped) (sym (i .ensures)) ∙ c .if8 .taken)
+
+extend-returns-5 : (t : ℕ) → extend-lts.Need-returns-5 (calls t) (extend-at t) extend.Post extend-Inv-loop extend-μ-loop
+extend-returns-5 t c =
+    let w = c .before .before .before .before in
+    let k = w .before .before .before .before .before .before .before .before .before .before .before .before .before in
+    let z = start t k in
+    let T = turn t k in
+    let y = w .before .before .before .before .before .before .before .before .before .before .before .pay in
+    let p = paid (y .result .enough) (y .result .left) _ (y .ensures) (w .before .before .before .before .before .before .before .before .before .if5 .left) in
+    let o = w .before .before .before .before .before .before .before .before .before .before .before .before .if4 .taken in
+    let i = c .before .before .extend in
+    i .ensures ∙ found T o (y .result .left) p (w .before .place .result) (w .test .result .map) (w .test .result .ok) (tested t w) (c .before .before .before .if7 .taken) (ap (λ (r : Outcome). r .ok) (sym (i .ensures)) ∙ c .if9 .taken)
 
 extend-add-x : (t : ℕ) → extend-lts.Need-add-x (calls t) (extend-at t) extend.Post extend-Inv-loop extend-μ-loop
 extend-add-x t c = let n = c .before .before .before .before .before .before .before .before .before .before .before .before .pre .1 .0 .1 .order in let t = c .before .before .before .before .loop-test .taken in omega arith
@@ -200,36 +244,38 @@ extend-loop-again : (t : ℕ) → extend-lts.Need-loop-again (calls t) (extend-a
 extend-loop-again t c =
     let k = c .before in
     let T = turn t k in
-    let i = k .before .before .before .before .loop .inv in
+    let l = k .before .before .before .before .loop in
     let x = T .element in (
       omega arith,
       omega arith,
-      i .2,
+      l .inv .2,
       ⊎-elim
           (λ w.
-          let more = w .8 .ensures .1 .0 in
-          let test = w .9 .ensures in
-          let v : Verdict _ _ _ _ (w .8 .result) (w .9 .result .map) (w .9 .result .ok) = record { longer = more .0; one-more = more .2; says = test .0; same-images = test .1 .1 .0; same-length = test .1 .1 .1 } in
-          fail T (w .0 .taken) (w .8 .result) (w .9 .result .map) (w .9 .result .ok) v (w .10 .taken) (ap (λ (f : Found). f .ok) (sym (w .11 .ensures)) ∙ w .12 .left) (i .3))
+          let more = w .11 .ensures .1 .0 in
+          let test = w .12 .ensures in
+          let v : Verdict _ _ _ _ (w .11 .result) (w .12 .result .map) (w .12 .result .ok) = record { longer = more .0; one-more = more .2; says = test .0; same-images = test .1 .1 .0; same-length = test .1 .1 .1 } in
+          let r = w .14 in
+          fail T (w .0 .taken) (w .1 .result .left) (paid (w .1 .result .enough) (w .1 .result .left) _ (w .1 .ensures) (w .3 .left)) (w .11 .result) (w .12 .result .map) (w .12 .result .ok) v (w .13 .taken) (ap (λ (q : Outcome). q .stopped) (sym (r .ensures)) ∙ w .15 .left) (ap (λ (q : Outcome). q .ok) (sym (r .ensures)) ∙ w .16 .left)
+          ∙ rw (w .17, ap (λ (q : Outcome). q .left) (r .ensures)))
           (⊎-elim
-          (λ w. refuse T (ap (passes _ _) (sym (w .8 .ensures .1 .0 .0)) ∙ sym (w .9 .ensures .0) ∙ w .10 .left) (i .3))
+          (λ w. refuse T (w .0 .taken) (w .1 .result .left) (paid (w .1 .result .enough) (w .1 .result .left) _ (w .1 .ensures) (w .3 .left)) (ap (passes _ _) (sym (w .11 .ensures .1 .0 .0)) ∙ sym (w .12 .ensures .0) ∙ w .13 .left) ∙ rw (w .14))
           (⊎-elim
-          (λ w. refuse T (sym (w .6 .ensures) ∙ w .7 .left) (i .3))
-          (λ w. skip T (w .left) (i .3))))
+          (λ w. refuse T (w .0 .taken) (w .1 .result .left) (paid (w .1 .result .enough) (w .1 .result .left) _ (w .1 .ensures) (w .3 .left)) (sym (w .9 .ensures) ∙ w .10 .left) ∙ rw (w .11))
+          (λ w. skip T (w .0 .left) ∙ rw (w .1))))
           (c .if4 .came),
     )
 
-extend-nothing-requires-2 : (t : ℕ) → extend-lts.Need-nothing-requires-2 (calls t) (extend-at t) extend.Post extend-Inv-loop extend-μ-loop
-extend-nothing-requires-2 t c κs = search needs
+extend-no-map-requires-3 : (t : ℕ) → extend-lts.Need-no-map-requires-3 (calls t) (extend-at t) extend.Post extend-Inv-loop extend-μ-loop
+extend-no-map-requires-3 t c κs = search needs
 
-extend-returns-4 : (t : ℕ) → extend-lts.Need-returns-4 (calls t) (extend-at t) extend.Post extend-Inv-loop extend-μ-loop
-extend-returns-4 t c =
+extend-returns-6 : (t : ℕ) → extend-lts.Need-returns-6 (calls t) (extend-at t) extend.Post extend-Inv-loop extend-μ-loop
+extend-returns-6 t c =
     let z = c .before .before .before .before .before .before .before .before .before in
     let a = z .args in
     let s = product (a .m) (a .source .now) in
     let r = product (a .n) (a .target .now) in
     let l = c .before .before .loop in
-    c .nothing2 .ensures ∙ ap foundIn (ends s (a .m) r (a .n) (a .scratch .now) (a .after .now) (a .tight) (a .t8) (z .pre .1 .1) (c .before .before .before .before .if1 .left) (l .x) (c .before .loop-test .left) (l .inv .3))
+    c .no-map3 .ensures ∙ ends s (a .m) r (a .n) (a .scratch .now) (a .after .now) (a .tight) (a .t10) (z .pre .1 .1) (c .before .before .before .before .if1 .left) (a .counting) (a .limit) (l .left) (l .x) (c .before .loop-test .left) (l .inv .3)
 
 pub +extend-spec : {M : Type 1} → statement M
 +extend-spec = close μ-extend λ t. extend-lts.spec (calls t)
@@ -237,7 +283,7 @@ pub +extend-spec : {M : Type 1} → statement M
     extend.Post
     extend-Inv-loop
     extend-μ-loop
-    (extend-nothing-requires t)
+    (extend-no-map-requires t)
     (extend-returns t)
     (extend-returns-2 t)
     (extend-shared-slice-read-low t)
@@ -245,13 +291,17 @@ pub +extend-spec : {M : Type 1} → statement M
     (extend-loop-holds t)
     (extend-add-open t)
     (extend-open-requires t)
+    (extend-pay-requires t)
+    (extend-no-map-requires-2 t)
+    (extend-returns-3 t)
     (extend-passes-with-requires t)
     (extend-place-requires t)
     (extend-test-requires t)
     (extend-extend-requires t)
-    (extend-returns-3 t)
+    (extend-returns-4 t)
+    (extend-returns-5 t)
     (extend-add-x t)
     (extend-loop-less t)
     (extend-loop-again t)
-    (extend-nothing-requires-2 t)
-    (extend-returns-4 t)
+    (extend-no-map-requires-3 t)
+    (extend-returns-6 t)

@@ -1,4 +1,4 @@
--- `find` meets its contract: it searches on from nothing placed. Assumes nothing.
+-- `find` meets its contract: it searches on from nothing placed, with no trial counted. Assumes nothing.
 use mathlib.Core.Path.{_≡_, ap, ap₂, _∙_}
 use Prim.Native.Nat.{ℕ, _-_}
 use native.Mathlib.Omega.{arith}
@@ -7,8 +7,10 @@ use lib.ListN.{take}
 use Rattle.semigroups.specs.Tables.{product}
 use Rattle.semigroups.specs.Scratch.{marked}
 use Rattle.semigroups.specs.Search.{search as searched}
-use Rattle.backtrack.specs.State.{foundIn, bounded}
-use Rattle.backtrack.proofs.Extending.{start}
+use Rattle.semigroups.proofs.Trials.{counted-finds}
+use Rattle.backtrack.specs.State.{prefix, foundIn, bounded}
+use Rattle.backtrack.proofs.Limits.{uncounted}
+use Rattle.backtrack.proofs.Extending.{Called, start}
 use Rattle.backtrack.proofs.find.Statement.{statement}
 use Rattle.backtrack.proofs.find.Tie as tie
 
@@ -25,13 +27,17 @@ extend-requires c κs =
 
 returns : tie.Need-returns
 returns c =
-    let z = c .before .before .before .before .before .before in
+    let z = c .before .before .before .before .before .before .before in
     let a = z .args in
     let s = product (a .m) (a .source .now) in
     let t = product (a .n) (a .target .now) in
-    let p = c .before .new .result in
-    let len = c .before .new .ensures .0 in
-    c .extend .ensures ∙ ap foundIn (ap₂ (searched s t (marked (a .n) (a .scratch .now)) (bounded (a .next) (a .after .now)) (a .n)) (let e : a .m - p .len ≡ a .m = omega arith in e) (ap (λ (k : ℕ). take k (p .image)) len))
+    let candidate = marked (a .n) (a .scratch .now) in
+    let ask = bounded (a .next) (a .after .now) in
+    let p = c .before .before .new .result in
+    let len = c .before .before .new .ensures .0 in
+    uncounted 0 (Called s (a .m) t (a .n) (a .scratch .now) (a .after .now) (a .next) p) (c .before .extend .result) (c .before .extend .ensures)
+    ∙ ap foundIn (counted-finds s t candidate ask (a .n) (a .m - p .len) (prefix p)
+    ∙ ap₂ (searched s t candidate ask (a .n)) (let e : a .m - p .len ≡ a .m = omega arith in e) (ap (λ (k : ℕ). take k (p .image)) len))
 
 pub find-spec : {M : Type 1} → statement M
 find-spec = tie.close (tie.spec new-requires extend-requires returns)

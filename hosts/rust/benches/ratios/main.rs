@@ -152,24 +152,55 @@ fn time_map_checks() {
 
 type ProvedSearch =
     fn(&[u8], usize, &[u8], usize, &mut [u8], &mut [u8]) -> Result<tickdrizzle::Search, tickdrizzle::Refusal>;
+type LimitedSearch = fn(
+    &[u8],
+    usize,
+    &[u8],
+    usize,
+    &mut [u8],
+    &mut [u8],
+    u32,
+) -> Result<tickdrizzle::LimitedSearch, tickdrizzle::Refusal>;
 type PlainSearch = fn(&plain::Lent, &mut [u8], &mut [u8]) -> Result<tickdrizzle::Search, tickdrizzle::Refusal>;
 
-/// A row for a search from one table to another.
-fn time_search(name: &str, proved: ProvedSearch, plain: PlainSearch, source: &Table, target: &Table) {
+/// The searches for the first map of a kind.
+struct Searches {
+    name: &'static str,
+    proved: ProvedSearch,
+    limited: LimitedSearch,
+    plain: PlainSearch,
+}
+
+/// A row for a search from one table to another, named with its trials, which the search with a limit counts, and that
+/// search's time beside it.
+fn time_search(searches: &Searches, name: &str, source: &Table, target: &Table) {
     let (m, n) = (source.order, target.order);
     let lent = plain::Lent { source: &source.cells, source_order: m, target: &target.cells, target_order: n };
     let (mut map, mut scratch) = (vec![0; m], vec![0; tickdrizzle::scratch_size(m, n)]);
     let (mut other_map, mut other_scratch) = (map.clone(), scratch.clone());
-    row(
-        name,
+    let mut within =
+        |limit| (searches.limited)(&source.cells, m, &target.cells, n, &mut other_map, &mut other_scratch, limit);
+    let trials = match within(u32::MAX).expect("the tables are accepted") {
+        tickdrizzle::LimitedSearch::Found { trials } | tickdrizzle::LimitedSearch::None { trials } => trials,
+        tickdrizzle::LimitedSearch::Stopped => panic!("{name} needs more trials than any limit"),
+    };
+    let calls = calls_of_a_sample(&mut || within(black_box(trials)));
+    let limited = (0..FEWEST_SAMPLES).map(|_| sample(calls, &mut || within(black_box(trials)))).min();
+    let limited = limited.map_or(0.0, |least| least.as_secs_f64() * 1e6 / f64::from(calls));
+    let proved = row(
+        &format!("{}, {name}: {trials} trials", searches.name),
         || {
-            let search = proved(black_box(&source.cells), m, &target.cells, n, &mut map, &mut scratch);
+            let search = (searches.proved)(black_box(&source.cells), m, &target.cells, n, &mut map, &mut scratch);
             (search, map.clone())
         },
         || {
-            let search = plain(black_box(&lent), &mut other_map, &mut other_scratch);
+            let search = (searches.plain)(black_box(&lent), &mut other_map, &mut other_scratch);
             (search, other_map.clone())
         },
+    );
+    println!(
+        "| {:<82} | {limited:>10.2} |           |       |",
+        format!("  within {trials} trials: {:.2} of it", limited / proved)
     );
 }
 
@@ -183,39 +214,45 @@ fn example(text: &[u8]) -> Table {
 
 /// A trial is an unused candidate that is tried as the image of an element.
 fn time_embeddings() {
-    let time = |name: &str, source: &Table, target: &Table| {
-        let name = format!("first_embedding, {name}");
-        time_search(&name, tickdrizzle::first_embedding, plain::first_embedding, source, target);
+    let searches = Searches {
+        name: "first_embedding",
+        proved: tickdrizzle::first_embedding,
+        limited: tickdrizzle::first_embedding_within,
+        plain: plain::first_embedding,
     };
+    let time = |name: &str, source: &Table, target: &Table| time_search(&searches, name, source, target);
     let part = example(include_bytes!("../../../../examples/touring/source.csv"));
     let whole = example(include_bytes!("../../../../examples/touring/target.csv"));
-    time("group of order 2 in degree 3: 19 trials", &cyclic_group(2), &transformations());
-    time("left zeros, 60 in 120: 60 trials", &left_zero(60), &left_zero(120));
-    time("chain of 120 onto itself: 120 trials", &chain(120), &chain(120));
-    time("null table of order 120 onto itself: 120 trials", &null(120), &null(120));
+    time("group of order 2 in degree 3", &cyclic_group(2), &transformations());
+    time("left zeros, 60 in 120", &left_zero(60), &left_zero(120));
+    time("chain of 120 onto itself", &chain(120), &chain(120));
+    time("null table of order 120 onto itself", &null(120), &null(120));
     let band = relabelled(&rectangular_band(4, 5));
-    time("rectangular band 4 by 5 in 8 by 15: 400 trials", &band, &rectangular_band(8, 15));
-    time("examples/touring, 31 in 59: 652 trials", &part, &whole);
-    time("chain of 7 in unions of 5 points, none: 61 thousand trials", &chain(7), &unions(5));
-    time("chain of 8 in unions of 6 points, none: 1.1 million trials", &chain(8), &unions(6));
+    time("rectangular band 4 by 5 in 8 by 15", &band, &rectangular_band(8, 15));
+    time("examples/touring, 31 in 59", &part, &whole);
+    time("chain of 7 in unions of 5 points, none", &chain(7), &unions(5));
+    time("chain of 8 in unions of 6 points, none", &chain(8), &unions(6));
     let (band, narrow) = (rectangular_band(3, 3), rectangular_band(2, 20));
-    time("rectangular band 3 by 3 in 2 by 20, none: 2.0 million trials", &band, &narrow);
+    time("rectangular band 3 by 3 in 2 by 20, none", &band, &narrow);
 }
 
 fn time_isomorphisms() {
-    let time = |name: &str, source: &Table, target: &Table| {
-        let name = format!("first_isomorphism, {name}");
-        time_search(&name, tickdrizzle::first_isomorphism, plain::first_isomorphism, source, target);
+    let searches = Searches {
+        name: "first_isomorphism",
+        proved: tickdrizzle::first_isomorphism,
+        limited: tickdrizzle::first_isomorphism_within,
+        plain: plain::first_isomorphism,
     };
+    let time = |name: &str, source: &Table, target: &Table| time_search(&searches, name, source, target);
     let copy = |name: &str, table: &Table| time(name, &relabelled(table), table);
-    copy("degree 3, relabelled: 64 trials", &transformations());
-    time("null table of order 120 onto itself: 120 trials", &null(120), &null(120));
-    copy("rectangular band 10 by 12, relabelled: 3.3 thousand trials", &rectangular_band(10, 12));
-    copy("cyclic group of order 120, relabelled: 4.6 thousand trials", &cyclic_group(120));
-    copy("unions of 6 points, relabelled: 80 thousand trials", &unions(6));
+    copy("degree 3, relabelled", &transformations());
+    time("null table of order 120 onto itself", &null(120), &null(120));
+    copy("rectangular band 10 by 12, relabelled", &rectangular_band(10, 12));
+    copy("cyclic group of order 120, relabelled", &cyclic_group(120));
+    copy("unions of 6 points, relabelled", &unions(6));
     let sums = nilpotent(8, 8, |i, j| (i + j) % 8);
     let exclusive_ors = nilpotent(8, 8, |i, j| i ^ j);
-    time("nilpotent of order 17, none: 110 thousand trials", &sums, &exclusive_ors);
+    time("nilpotent of order 17, none", &sums, &exclusive_ors);
 }
 
 fn time_transformations() {

@@ -5,7 +5,7 @@ use crate::reference::{self, Ask, Kind};
 use std::fmt;
 use std::ops::{Deref, DerefMut};
 use tickdrizzle::abi::{self, Answer};
-use tickdrizzle::{MapCheck, Question, Refusal, Search, Side};
+use tickdrizzle::{LimitedSearch, MapCheck, Question, Refusal, Search, Side};
 
 /// Random bytes in front of a lent buffer and behind it, which no call may touch.
 const GUARD: usize = 16;
@@ -55,6 +55,12 @@ pub struct LentTable {
     pub order: usize,
 }
 
+impl LentTable {
+    fn parts(&self) -> (&[u8], usize) {
+        (&self.cells, self.order)
+    }
+}
+
 #[derive(Clone, Debug, PartialEq)]
 pub enum Call {
     CheckTable { table: LentTable },
@@ -64,13 +70,14 @@ pub enum Call {
     CheckGenerated { table: LentTable, generators: Lent },
     Subsemigroup { table: LentTable, chosen: Lent, part: Lent, elements: Lent },
     Search { kind: Kind, ask: Ask, source: LentTable, target: LentTable, map: Lent, scratch: Lent },
+    LimitedSearch { kind: Kind, source: LentTable, target: LentTable, map: Lent, scratch: Lent, limit: u32 },
     Transformations { degree: usize, cells: Lent },
     Load { text: Lent, cells: Lent },
     Save { table: LentTable, text: Lent },
 }
 
 /// The functions' names, in the order of the header.
-pub const FUNCTIONS: [&str; 13] = [
+pub const FUNCTIONS: [&str; 15] = [
     "check_table",
     "index_period",
     "profile",
@@ -81,6 +88,8 @@ pub const FUNCTIONS: [&str; 13] = [
     "next_embedding",
     "first_isomorphism",
     "next_isomorphism",
+    "first_embedding_within",
+    "first_isomorphism_within",
     "transformations",
     "load",
     "save",
@@ -99,6 +108,8 @@ impl Call {
             Call::Search { kind: Kind::Embedding, ask: Ask::Next, .. } => "next_embedding",
             Call::Search { kind: Kind::Isomorphism, ask: Ask::First, .. } => "first_isomorphism",
             Call::Search { kind: Kind::Isomorphism, ask: Ask::Next, .. } => "next_isomorphism",
+            Call::LimitedSearch { kind: Kind::Embedding, .. } => "first_embedding_within",
+            Call::LimitedSearch { kind: Kind::Isomorphism, .. } => "first_isomorphism_within",
             Call::Transformations { .. } => "transformations",
             Call::Load { .. } => "load",
             Call::Save { .. } => "save",
@@ -131,6 +142,13 @@ impl Call {
                     (Kind::Isomorphism, Ask::Next) => abi::next_isomorphism,
                 };
                 search(&source.cells, source.order, &target.cells, target.order, map, scratch, &mut answer);
+            }
+            Call::LimitedSearch { kind, source, target, map, scratch, limit } => {
+                let search = match kind {
+                    Kind::Embedding => abi::first_embedding_within,
+                    Kind::Isomorphism => abi::first_isomorphism_within,
+                };
+                search(&source.cells, source.order, &target.cells, target.order, map, scratch, *limit, &mut answer);
             }
             Call::Transformations { degree, cells } => abi::transformations(*degree, cells, &mut answer),
             Call::Load { text, cells } => abi::load(text, cells, &mut answer),
@@ -174,6 +192,14 @@ impl Call {
                 let answer = search(&source.cells, source.order, &target.cells, target.order, map, scratch);
                 encoded(answer, |answer| vec![usize::from(answer == Search::Found)])
             }
+            Call::LimitedSearch { kind, source, target, map, scratch, limit } => {
+                let search = match kind {
+                    Kind::Embedding => tickdrizzle::first_embedding_within,
+                    Kind::Isomorphism => tickdrizzle::first_isomorphism_within,
+                };
+                let answer = search(&source.cells, source.order, &target.cells, target.order, map, scratch, *limit);
+                encoded(answer, limited_values)
+            }
             Call::Transformations { degree, cells } => {
                 encoded(tickdrizzle::transformations(*degree, cells), |order| vec![order])
             }
@@ -200,7 +226,10 @@ impl Call {
                 reference::subsemigroup(&table.cells, table.order, chosen, part, elements)
             }
             Call::Search { kind, ask, source, target, map, scratch } => {
-                reference::search(*kind, *ask, &source.cells, source.order, &target.cells, target.order, map, scratch)
+                reference::search(*kind, *ask, source.parts(), target.parts(), map, scratch)
+            }
+            Call::LimitedSearch { kind, source, target, map, scratch, limit } => {
+                reference::limited_search(*kind, source.parts(), target.parts(), map, scratch, *limit)
             }
             Call::Transformations { degree, cells } => reference::transformations(*degree, cells),
             Call::Load { text, cells } => reference::load(text, cells),
@@ -233,6 +262,14 @@ fn question_values(question: Question) -> Vec<usize> {
         Question::Associativity { i, j, k } => vec![i, j, k],
         Question::TextByte { place } => vec![place],
         _ => vec![],
+    }
+}
+
+fn limited_values(search: LimitedSearch) -> Vec<usize> {
+    match search {
+        LimitedSearch::None { trials } => vec![0, trials as usize],
+        LimitedSearch::Found { trials } => vec![1, trials as usize],
+        LimitedSearch::Stopped => vec![2],
     }
 }
 

@@ -25,6 +25,9 @@ const CALLS_BY_DEFAULT: u64 = 100_000;
 /// The family of all tables of order 1 to 3.
 const SMALL: &str = "order 1 to 3";
 
+/// The trials up to which the reference counts.
+const MOST_TRIALS: u32 = 20_000;
+
 const MAT5: [u8; 25] = [1, 1, 1, 1, 1, 1, 2, 3, 2, 3, 1, 1, 1, 2, 3, 1, 4, 5, 4, 5, 1, 1, 1, 4, 5];
 
 fn main() -> ExitCode {
@@ -92,10 +95,12 @@ impl Comparison {
             self.short_parts(source, SMALL);
             for target in &accepted {
                 self.first_maps(source, target);
+                self.around_trials(source, target, SMALL);
             }
         }
         let mat5 = LentTable { cells: Lent::new(&mut self.random, &MAT5), order: 5 };
         self.short_parts(&mat5, "mat5");
+        self.around_trials(&mat5, &mat5, "mat5");
     }
 
     /// The check by generators, with every short list.
@@ -150,9 +155,44 @@ impl Comparison {
         }
     }
 
+    /// Both searches with a limit: one below the exact number of trials, at it, one above it, and the least and the greatest.
+    /// Where more are needed than the reference counts, a limit below that.
+    fn around_trials(&mut self, source: &LentTable, target: &LentTable, family: &'static str) {
+        let Some(pair) = accepted(source, target) else { return };
+        for kind in [Kind::Embedding, Kind::Isomorphism] {
+            let limits = match pair.counted(kind, MOST_TRIALS) {
+                Some((_, trials)) => vec![trials.saturating_sub(1), trials, trials + 1, 0, u32::MAX],
+                None => vec![self.random.below(MOST_TRIALS as usize) as u32],
+            };
+            for limit in limits {
+                let map = Lent::random(&mut self.random, source.order);
+                let scratch = Lent::random(&mut self.random, source.order * target.order);
+                let (source, target) = (source.clone(), target.clone());
+                self.compare(&mut Call::LimitedSearch { kind, source, target, map, scratch, limit }, family);
+            }
+        }
+    }
+
+    /// A search with a limit that is refused at times, on any pair of tables.
+    fn limited_search(&mut self) {
+        let (source, target) = match self.random.below(20) {
+            0 => self.small_in_large(),
+            1 => self.easy_pair(),
+            _ => self.pair(8),
+        };
+        self.around_trials(&source.table, &target.table, source.family);
+        let kind = self.random.pick(&[Kind::Embedding, Kind::Isomorphism]);
+        let map = inputs::map(&mut self.random, source.table.order, target.table.order);
+        let scratch = self.scratch(source.table.order, target.table.order);
+        let limit = self.random.below(200) as u32;
+        let (family, source, target) = (source.family, source.table, target.table);
+        self.compare(&mut Call::LimitedSearch { kind, source, target, map, scratch, limit }, family);
+    }
+
     /// Calls of one kind.
     fn some_calls(&mut self) {
-        match self.random.below(40) {
+        match self.random.below(43) {
+            40..=42 => self.limited_search(),
             0..=10 => self.one_table(),
             11..=13 => self.lists(),
             14..=15 => self.map_check(),
@@ -390,6 +430,13 @@ fn map_of(call: Call) -> Lent {
         Call::Search { map, .. } => map,
         _ => unreachable!("only searches are asked for their map"),
     }
+}
+
+/// Two tables that are accepted.
+fn accepted<'a>(source: &'a LentTable, target: &'a LentTable) -> Option<Pair<'a>> {
+    let source = Table::new(&source.cells, source.order)?;
+    let target = Table::new(&target.cells, target.order)?;
+    Some(Pair { source, target })
 }
 
 /// The full list of maps between two semigroups.

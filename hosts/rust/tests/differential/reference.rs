@@ -246,6 +246,16 @@ pub enum Kind {
     Isomorphism,
 }
 
+impl Kind {
+    /// What an element and its candidates have in common.
+    fn invariants(self, table: &Table, element: usize) -> Vec<usize> {
+        match self {
+            Kind::Embedding => table.index_period(element).to_vec(),
+            Kind::Isomorphism => table.profile(element).to_vec(),
+        }
+    }
+}
+
 /// The first map, or the next one after the list in the map buffer.
 #[derive(Clone, Copy, Debug, PartialEq, Eq)]
 pub enum Ask {
@@ -355,16 +365,57 @@ impl<'a> Pair<'a> {
         })
     }
 
+    /// The first map of a kind and the trials up to it, or all trials where there is none; nothing where more than `most`
+    /// are needed. The list of images counts up like a number, its last entry first; an entry above the greatest image
+    /// goes, and the one before it counts on.
+    pub fn counted(&self, kind: Kind, most: u32) -> Option<(Option<Vec<u8>>, u32)> {
+        let (m, n) = (self.source.order, self.target.order);
+        if m > n || (kind == Kind::Isomorphism && m != n) {
+            return Some((None, 0));
+        }
+        let of_source: Vec<_> = self.source.elements().map(|i| kind.invariants(&self.source, i)).collect();
+        let of_target: Vec<_> = self.target.elements().map(|j| kind.invariants(&self.target, j)).collect();
+        let (mut images, mut trials) = (vec![0], 0);
+        while let Some(last) = images.pop() {
+            let candidates =
+                (usize::from(last) + 1..=n).filter(|image| of_source[images.len()] == of_target[image - 1]);
+            let unused = candidates.map(|image| image as u8).find(|image| !images.contains(image));
+            let Some(image) = unused else { continue };
+            if trials == most {
+                return None;
+            }
+            trials += 1;
+            images.push(image);
+            if self.passes(&images) {
+                if images.len() == m {
+                    return Some((Some(images), trials));
+                }
+                images.push(0);
+            }
+        }
+        Some((None, trials))
+    }
+
+    /// Whether each product inside a list of images agrees, and each product outside it has its target product unused.
+    fn passes(&self, images: &[u8]) -> bool {
+        let placed = 1..=images.len();
+        placed.clone().all(|i| {
+            placed.clone().all(|j| {
+                let image = self.target.product(usize::from(images[i - 1]), usize::from(images[j - 1])) as u8;
+                match images.get(self.source.product(i, j) - 1) {
+                    Some(inside) => *inside == image,
+                    None => !images.contains(&image),
+                }
+            })
+        })
+    }
+
     /// The scratch bytes: a 1 for each candidate, pair after pair, the first in the lowest bit of the first byte.
     fn candidates(&self, kind: Kind) -> Vec<u8> {
-        let invariants = |table: &Table, element: usize| match kind {
-            Kind::Embedding => table.index_period(element).to_vec(),
-            Kind::Isomorphism => table.profile(element).to_vec(),
-        };
-        let of_target: Vec<_> = self.target.elements().map(|j| invariants(&self.target, j)).collect();
+        let of_target: Vec<_> = self.target.elements().map(|j| kind.invariants(&self.target, j)).collect();
         let mut marks = Vec::new();
         for i in self.source.elements() {
-            let of_source = invariants(&self.source, i);
+            let of_source = kind.invariants(&self.source, i);
             marks.extend(of_target.iter().map(|of_target| of_source == *of_target));
         }
         let byte = |eight: &[bool]| eight.iter().rev().fold(0, |byte, &mark| byte << 1 | u8::from(mark));
@@ -392,28 +443,56 @@ pub fn check_map(source: &[u8], source_order: usize, target: &[u8], target_order
     }))
 }
 
+/// What every search asks, and the candidates that it writes.
+fn marked<'a>(
+    kind: Kind,
+    source: (&'a [u8], usize),
+    target: (&'a [u8], usize),
+    map: &[u8],
+    scratch: &mut [u8],
+) -> Result<Pair<'a>, No> {
+    let pair = Pair::accepted(source.0, source.1, target.0, target.1)?;
+    ask(map.len() == source.1, 5)?;
+    ask(8 * scratch.len() >= source.1 * target.1, 6)?;
+    write_front(scratch, &pair.candidates(kind));
+    Ok(pair)
+}
+
 /// A search of either kind, for the first or the next map.
-#[allow(clippy::too_many_arguments)]
 pub fn search(
     kind: Kind,
     asked: Ask,
-    source: &[u8],
-    source_order: usize,
-    target: &[u8],
-    target_order: usize,
+    source: (&[u8], usize),
+    target: (&[u8], usize),
     map: &mut [u8],
     scratch: &mut [u8],
 ) -> Answer {
-    answer(Pair::accepted(source, source_order, target, target_order).and_then(|pair| {
-        ask(map.len() == source_order, 5)?;
-        ask(8 * scratch.len() >= source_order * target_order, 6)?;
-        write_front(scratch, &pair.candidates(kind));
+    answer(marked(kind, source, target, map, scratch).map(|pair| {
         let after = (asked == Ask::Next).then_some(&*map);
         let found = pair.earliest(kind, after);
         if let Some(found) = &found {
             write_front(map, found);
         }
-        Ok(vec![u64::from(found.is_some())])
+        vec![u64::from(found.is_some())]
+    }))
+}
+
+/// A search of either kind for the first map, with a limit.
+pub fn limited_search(
+    kind: Kind,
+    source: (&[u8], usize),
+    target: (&[u8], usize),
+    map: &mut [u8],
+    scratch: &mut [u8],
+    limit: u32,
+) -> Answer {
+    answer(marked(kind, source, target, map, scratch).map(|pair| match pair.counted(kind, limit) {
+        None => vec![2],
+        Some((None, trials)) => vec![0, trials.into()],
+        Some((Some(found), trials)) => {
+            write_front(map, &found);
+            vec![1, trials.into()]
+        }
     }))
 }
 

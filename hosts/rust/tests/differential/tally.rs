@@ -11,6 +11,7 @@ const QUESTIONS: [u64; 22] = [1, 2, 3, 4, 5, 6, 7, 8, 9, 20, 21, 23, 24, 25, 26,
 enum Outcome {
     Answered,
     Nothing,
+    Stopped,
     Refused(u64),
 }
 
@@ -25,7 +26,8 @@ pub struct Tally {
 impl Tally {
     pub fn count(&mut self, call: &Call, family: &'static str, answer: &Answer) {
         let outcome = match (answer[0], call) {
-            (0, Call::Search { .. }) if answer[2] == 0 => Outcome::Nothing,
+            (0, Call::Search { .. } | Call::LimitedSearch { .. }) if answer[2] == 0 => Outcome::Nothing,
+            (0, Call::LimitedSearch { .. }) if answer[2] == 2 => Outcome::Stopped,
             (0, _) => Outcome::Answered,
             (number, _) => Outcome::Refused(number),
         };
@@ -45,15 +47,16 @@ impl Tally {
         println!("\n{} calls, {} walks, {} differences", self.calls, self.walks, self.differences);
     }
 
-    /// A row for each function: calls, answered or found, none, refused by each question.
+    /// A row for each function: calls, answered or found, none, stopped, refused by each question.
     fn print_outcomes(&self) {
-        print!("{:<18}{:>8} {:>8} {:>7}", "function", "calls", "answered", "none");
+        print!("{:<26}{:>8} {:>8} {:>7} {:>7}", "function", "calls", "answered", "none", "stopped");
         QUESTIONS.iter().for_each(|question| print!("{question:>7}"));
         println!();
         for name in FUNCTIONS {
             let calls = self.sum(|function, _, _| function == name);
             let count = |wanted| self.sum(|function, _, outcome| function == name && outcome == wanted);
-            print!("{name:<18}{calls:>8} {:>8} {:>7}", count(Outcome::Answered), count(Outcome::Nothing));
+            print!("{name:<26}{calls:>8} {:>8}", count(Outcome::Answered));
+            print!(" {:>7} {:>7}", count(Outcome::Nothing), count(Outcome::Stopped));
             QUESTIONS.iter().for_each(|&question| print!("{:>7}", count(Outcome::Refused(question))));
             println!();
         }

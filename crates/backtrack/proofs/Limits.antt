@@ -1,0 +1,124 @@
+-- What is left of a limit after works in turn: each goes on from what the one before leaves. Assumes nothing.
+use mathlib.Core.Path.{_≡_, refl, sym, ap, ap₂, _∙_}
+use mathlib.Core.Bool.{Bool, true, false, cond, false≢true}
+use mathlib.Core.Option.{Option, none, some}
+use mathlib.Core.List.{List}
+use Prim.Native.Nat.{ℕ, suc, _+_, _-_, _≤_, _<_}
+use native.Mathlib.Omega.{arith}
+use borrow.Author.Tests.{leb-true, leb-false, le-leb, lt-leb}
+use lib.Dec.{leb}
+use Rattle.semigroups.specs.Trials.{Work, work, followed, andThen}
+use Rattle.semigroups.proofs.Booleans.{same-truth}
+use Rattle.backtrack.specs.declared.Found.{Found}
+use Rattle.backtrack.specs.declared.Outcome.{Outcome}
+use Rattle.backtrack.specs.State.{foundIn, Remainder, exhausted, remaining, within, outcomeOf}
+
+-- ---- one work after another
+
+-- On from what is left, where no map is found.
+abbrev pub resumed : Remainder → (ℕ → Remainder) → Remainder
+resumed exhausted go = exhausted
+resumed (remaining left none) go = go left
+resumed (remaining left (some f)) go = remaining left (some f)
+
+module _ (counting : Bool) (limit : ℕ) where
+  pub within-nothing : (o : Option (List ℕ)) → within counting limit (work o 0) ≡ remaining limit o
+  unfolding within
+  within-nothing o =
+      elim counting as (λ b. cond b (cond (leb 0 limit) (remaining (limit - 0) o) exhausted) (remaining limit o) ≡ remaining limit o) [
+        | true ↦ rw (le-leb 0 limit (omega arith)) (ap (λ (i : ℕ). remaining i o) (let z : limit - 0 ≡ limit = omega arith in z))
+        | false ↦ refl
+      ]
+
+within-followed : (counting : Bool) (limit : ℕ) (o : Option (List ℕ)) (k : ℕ) (w : Work) → within counting limit (followed o k w) ≡ resumed (within counting limit (work o k)) (λ left. within counting left w)
+unfolding within
+within-followed false limit none k w = refl
+within-followed false limit (some f) k w = refl
+within-followed true limit (some f) k w = elim (leb k limit) as (λ b. cond b (remaining (limit - k) (some f)) exhausted ≡ resumed (cond b (remaining (limit - k) (some f)) exhausted) (λ left. within true left w)) [ true ↦ refl | false ↦ refl ]
+within-followed true limit none k w = go (leb k limit) refl
+  where
+    same : k ≤ limit → leb (k + w .trials) limit ≡ leb (w .trials) (limit - k)
+    same h =
+        same-truth (leb (k + w .trials) limit) (leb (w .trials) (limit - k))
+        (λ e. let u = leb-true (k + w .trials) limit e in le-leb (w .trials) (limit - k) (omega arith))
+        (λ e. let u = leb-true (w .trials) (limit - k) e in le-leb (k + w .trials) limit (omega arith))
+
+    go : (b : Bool) → leb k limit ≡ b → cond (leb (k + w .trials) limit) (remaining (limit - (k + w .trials)) (w .found)) exhausted ≡ resumed (cond b (remaining (limit - k) none) exhausted) (λ left. cond (leb (w .trials) left) (remaining (left - w .trials) (w .found)) exhausted)
+    go true e =
+        let h = leb-true k limit e in
+        ap₂ (λ (b : Bool) (i : ℕ). cond b (remaining i (w .found)) exhausted) (same h) (let z : limit - (k + w .trials) ≡ limit - k - w .trials = omega arith in z)
+    go false e = let h = leb-false k limit e in rw (lt-leb (k + w .trials) limit (omega arith))
+
+-- Without a trial nothing is taken.
+pub within-skip : (counting : Bool) (limit : ℕ) (w : Work) → within counting limit (andThen (work none 0) w) ≡ within counting limit w
+within-skip counting limit w = within-followed counting limit none 0 w ∙ ap (λ (r : Remainder). resumed r (λ left. within counting left w)) (within-nothing counting limit none)
+
+module _ (counting : Bool) (limit : ℕ) (v w : Work) where
+  -- A trial is paid for first.
+  within-trial : within counting limit (andThen (andThen (work none 1) v) w) ≡ resumed (resumed (within counting limit (work none 1)) (λ left. within counting left v)) (λ left. within counting left w)
+  within-trial = within-followed counting limit (v .found) (1 + v .trials) w ∙ ap (λ (r : Remainder). resumed r (λ left. within counting left w)) (within-followed counting limit none 1 v)
+
+  pub within-unpaid : exhausted ≡ within counting limit (work none 1) → within counting limit (andThen (andThen (work none 1) v) w) ≡ exhausted
+  within-unpaid e = within-trial ∙ ap (λ (r : Remainder). resumed (resumed r (λ left. within counting left v)) (λ left. within counting left w)) (sym e)
+
+  pub within-paid : (left : ℕ) → remaining left none ≡ within counting limit (work none 1) → within counting limit (andThen (andThen (work none 1) v) w) ≡ resumed (within counting left v) (λ i. within counting i w)
+  within-paid left e = within-trial ∙ ap (λ (r : Remainder). resumed (resumed r (λ i. within counting i v)) (λ i. within counting i w)) (sym e)
+
+-- ---- paying
+
+pub pay-free : (left : ℕ) → remaining left none ≡ within false left (work none 1)
+unfolding within
+pay-free left = refl
+
+pub pay-none : (left : ℕ) → left ≡ 0 → exhausted ≡ within true left (work none 1)
+unfolding within
+pay-none left e = rw (lt-leb 1 left (omega arith))
+
+pub pay-one : (left : ℕ) → (left ≡ 0 → ⊥) → remaining (left - 1) none ≡ within true left (work none 1)
+unfolding within
+pay-one left e = rw (le-leb 1 left (omega arith))
+
+-- ---- what an outcome says
+
+module _ (go : ℕ → Remainder) where
+  -- A search that is stopped, or finds a map, is over.
+  pub over-stopped : (r : Remainder) → outcomeOf r .stopped ≡ true → resumed r go ≡ r
+  unfolding outcomeOf
+  over-stopped exhausted e = refl
+  over-stopped (remaining left o) e = absurd (false≢true e)
+
+  pub over-found : (r : Remainder) → outcomeOf r .ok ≡ true → resumed r go ≡ r
+  unfolding outcomeOf foundIn
+  over-found exhausted e = refl
+  over-found (remaining left none) e = absurd (false≢true e)
+  over-found (remaining left (some f)) e = refl
+
+  -- Else it goes on with what is left.
+  pub not-over : (r : Remainder) → outcomeOf r .stopped ≡ false → outcomeOf r .ok ≡ false → resumed r go ≡ go (outcomeOf r .left)
+  unfolding outcomeOf foundIn
+  not-over exhausted e f = absurd (false≢true (sym e))
+  not-over (remaining left none) e f = refl
+  not-over (remaining left (some l)) e f = absurd (false≢true (sym f))
+
+-- Where trials are not counted, it answers what is found.
+pub uncounted : (limit : ℕ) (w : Work) (r : Outcome) → r ≡ outcomeOf (within false limit w) → record { ok = r .ok; image = r .image } ≡ foundIn (w .found)
+unfolding outcomeOf within
+uncounted limit w r e = ap {B = Found} (λ (q : Outcome). record { ok = q .ok; image = q .image }) e
+
+-- Where they are counted, it is stopped exactly if more are needed, and else says what is found and what is left.
+module _ (limit : ℕ) (w : Work) where
+  pub within-stopped : outcomeOf (within true limit w) .stopped ≡ true → limit < w .trials
+  unfolding within outcomeOf
+  within-stopped = go (leb (w .trials) limit) refl
+    where
+      go : (b : Bool) → leb (w .trials) limit ≡ b → outcomeOf (cond b (remaining (limit - w .trials) (w .found)) exhausted) .stopped ≡ true → limit < w .trials
+      go true e h = absurd (false≢true h)
+      go false e h = leb-false (w .trials) limit e
+
+  pub within-ended : outcomeOf (within true limit w) .stopped ≡ false → (w .trials ≤ limit) × (within true limit w ≡ remaining (limit - w .trials) (w .found))
+  unfolding within outcomeOf
+  within-ended = go (leb (w .trials) limit) refl
+    where
+      go : (b : Bool) → leb (w .trials) limit ≡ b → outcomeOf (cond b (remaining (limit - w .trials) (w .found)) exhausted) .stopped ≡ false → (w .trials ≤ limit) × (cond b (remaining (limit - w .trials) (w .found)) exhausted ≡ remaining (limit - w .trials) (w .found))
+      go true e h = (leb-true (w .trials) limit e, refl)
+      go false e h = absurd (false≢true (sym h))

@@ -1,0 +1,4 @@
+pub mod Calls
+pub mod Works
+pub mod Answering
+pub mod Limits
