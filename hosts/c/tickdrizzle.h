@@ -1,6 +1,6 @@
 /*
  * Multiplication tables of finite semigroups, from C: checks, invariants, generators, embeddings, isomorphisms,
- * CSV text.
+ * CSV text, least degrees.
  * The functions are proved, for every input, in crates/exports; docs/HOSTS.md tells how to link them.
  *
  * A table of order n is n * n bytes, row after row, each 1 to n: the cell in row i, column j is the product i.j.
@@ -65,6 +65,7 @@ extern "C" {
 #define TICKDRIZZLE_NO_CHOSEN 60        /* is the list not empty and every entry 1 to n? */
 #define TICKDRIZZLE_NO_PART_ROOM 61     /* has the buffer room for the cells of the part? */
 #define TICKDRIZZLE_NO_ELEMENTS_ROOM 62 /* has the buffer room for the elements of the part? */
+#define TICKDRIZZLE_NO_POSITION_ROOM 80 /* has the buffer room for three positions of each element? */
 
 /* The table that a refusal by questions 1 to 4 names, in a call with two tables. */
 #define TICKDRIZZLE_SOURCE 1
@@ -192,6 +193,14 @@ void tickdrizzle_first_isomorphism_within(const uint8_t *source, size_t source_l
                                           uint8_t *TICKDRIZZLE_RESTRICT map, size_t map_length,
                                           uint8_t *TICKDRIZZLE_RESTRICT scratch, size_t scratch_length, uint32_t limit,
                                           uint64_t *TICKDRIZZLE_RESTRICT answer);
+
+/* The fewest rest positions: the least degree d from 1 to 3 whose table of transformations holds an embedding of the table, and for each
+   element in turn the d positions, each 1 to d, where its image under the first embedding takes the points 1 to d. As transformations
+   they compose as the table says (questions 1 to 4, 80).
+   Says d, or 0 for none of these; writes the first order * d bytes of positions, or nothing. */
+void tickdrizzle_least_degree(const uint8_t *cells, size_t cells_length, size_t order,
+                              uint8_t *TICKDRIZZLE_RESTRICT positions, size_t positions_length,
+                              uint64_t *TICKDRIZZLE_RESTRICT answer);
 
 #ifdef __cplusplus
 }

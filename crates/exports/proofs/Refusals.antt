@@ -30,7 +30,9 @@ use Rattle.csv.specs.Calls.{loadAnswer, saveAnswer}
 use Rattle.csv.proofs.Loading.{load-listed}
 use Rattle.search.specs.Calls.{Lent, Request, theFirst, refusalOf, answerOf, call}
 use Rattle.limited.specs.Calls.{firstWork, limitedCall}
-use Rattle.exports.specs.Answers.{refusalWords, questionWords, answerWords, checkedValues, soughtValues, limitedValues, numberValues}
+use Rattle.exports.specs.Answers.{refusalWords, questionWords, answerWords, checkedValues, soughtValues, limitedValues, numberValues, degreeValues}
+use Rattle.planning.specs.Degrees.{leastDegree, degreeQuestions, degreeRefusal}
+use Rattle.planning.specs.Answers.{degreeSays}
 
 -- No question fails, or one with a number from 1 on.
 data Numbered : Option Refusal → Type 0 where
@@ -119,3 +121,7 @@ load-told t cells = answer-told numberValues (orderOf t) (load-numbered t (lengt
 pub save-told : (n : ℕ) (cells text : List ℕ) → Tells (answerWords numberValues (saveAnswer n cells text)) (saveRefusal n cells (length text))
 unfolding saveAnswer saveRefusal member
 save-told n cells text = answer-told numberValues (length (tableText n cells)) (numbered (saveQuestions n cells (length text)) refl)
+
+pub degree-told : (m : ℕ) (cells : List ℕ) (size : ℕ) → Tells (answerWords degreeValues (degreeSays m cells size)) (degreeRefusal m cells size)
+unfolding degreeSays degreeRefusal member
+degree-told m cells size = answer-told degreeValues (leastDegree m (product m cells)) (numbered (degreeQuestions m cells size) refl)

@@ -74,3 +74,8 @@ limitedValues stopped = 2 ∷ []
 -- An order or a length.
 abbrev pub numberValues : ℕ → List ℕ
 numberValues x = x ∷ []
+
+-- A degree, or 0 for none of 1 to 3.
+abbrev pub degreeValues : Option ℕ → List ℕ
+degreeValues (some d) = d ∷ []
+degreeValues none = 0 ∷ []

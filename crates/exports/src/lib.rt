@@ -20,13 +20,15 @@ ghost use Rattle.limited.specs.Answers.{limitedAnswerSays};
 ghost use Rattle.transformations.specs.Answers.{transformationSays, transformationCellsAfter, transformationAnswerSays};
 ghost use Rattle.csv.specs.Calls.{loadAnswer, cellsAfter, saveAnswer, textAfter};
 ghost use Rattle.text.specs.Answers.{loadedAnswer, savedAnswer};
-ghost use Rattle.exports.specs.Answers.{words, numbersWords, questionWords, answerWords, indexPeriodValues, profileValues, checkedValues, soughtValues, limitedValues, numberValues};
+ghost use Rattle.exports.specs.Answers.{words, numbersWords, questionWords, answerWords, indexPeriodValues, profileValues, checkedValues, soughtValues, limitedValues, numberValues, degreeValues};
+ghost use Rattle.planning.specs.Answers.{degreeSays, positionsAfter, degreeAnswerSays};
 use generated::GeneratorsVerdict;
 use generated::SubsemigroupAnswer;
 use invariants::IndexPeriodAnswer;
 use invariants::ProfileAnswer;
 use limited::LimitedAnswer;
 use maps::MapAnswer;
+use planning::DegreeAnswer;
 use search::SearchAnswer;
 use tables::Refusal;
 use tables::Verdict;
@@ -185,6 +187,16 @@ fn saved_words(said: Saved) -> [u64; 16]
         Saved::Length(size) => words(0, 0, &[size]),
         Saved::Refused(fault) => refusal_words(fault.refusal()),
         Saved::Room => refusal_words(Refusal::by(28, 0)),
+    }
+}
+
+fn degree_words(said: DegreeAnswer) -> [u64; 16]
+    ensures answer { λ r. ⌜ r ≡ answerWords degreeValues (degreeAnswerSays said) ⌝ }
+{
+    match said {
+        DegreeAnswer::Degree(degree) => words(0, 0, &[degree]),
+        DegreeAnswer::Nothing => words(0, 0, &[0]),
+        DegreeAnswer::Refused(fault) => refusal_words(fault.refusal()),
     }
 }
 
@@ -426,4 +438,21 @@ pub extern "C" fn tickdrizzle_first_isomorphism_within(
     *answer = limited_words(limited::first_isomorphism_within(
         source, m, target, n, map, scratch, limit,
     ));
+}
+
+// ---- the fewest rest positions
+
+// Writes for each element in turn its landing positions under the first embedding in the table of the least degree that holds one, to the start of
+// `positions`. Value: that degree, or 0 for none of 1 to 3.
+#[no_mangle]
+pub extern "C" fn tickdrizzle_least_degree(
+    cells: &[u8],
+    order: usize,
+    positions: &mut [u8],
+    answer: &mut [u64; 16],
+)
+    ensures answer { λ _. ⌜ now (answer .exit) ≡ answerWords degreeValues (degreeSays order (now (cells .entry)) (length (now (positions .entry)))) ⌝ }
+    ensures positions { λ _. ⌜ now (positions .exit) ≡ positionsAfter order (now (cells .entry)) (now (positions .entry)) ⌝ }
+{
+    *answer = degree_words(planning::least_degree(cells, order, positions));
 }

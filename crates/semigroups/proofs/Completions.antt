@@ -2,13 +2,14 @@
 -- and the search itself go by these laws. Assumes nothing.
 use mathlib.Core.Path.{_≡_, refl, sym, ap, ap₂, _∙_}
 use mathlib.Core.Bool.{Bool, true, false, _&&_, cond}
-use mathlib.Core.Option.{Option, none, some, orElse, Option·some-ne-none}
-use mathlib.Core.List.{List, [], _∷_, _++_, map, flatMap, append-assoc, append-nil, List·Memᴰ, List·Memᴰ·head, List·Memᴰ·tail}
+use mathlib.Core.Logic.{⊎-elim}
+use mathlib.Core.Option.{Option, none, some, orElse, Option·none-ne-some, Option·some-ne-none}
+use mathlib.Core.List.{List, [], _∷_, _++_, map, flatMap, append-assoc, append-nil, List·Memᴰ, List·Memᴰ·head, List·Memᴰ·tail, List·Memᴰ·not-nil, List·Memᴰ·cases-cons}
 use Prim.Native.Nat.{ℕ, suc, _+_, _-_, _≤_, _<_}
 use native.Mathlib.Nat.{add-sub-cancel}
 use native.Mathlib.Numerals.{add-one}
 use native.Mathlib.Omega.{arith}
-use Rattle.semigroups.specs.Lists.{range, elements, all, find, firstOf, lists}
+use Rattle.semigroups.specs.Lists.{range, elements, all, find, firstOf, lists, Sorted}
 use Rattle.semigroups.proofs.FlatMap.{find-flatMap}
 
 -- Every list of the given ones behind p.
@@ -140,3 +141,44 @@ module _ (p : ℕ → Bool) (n : ℕ) where
   pub all-end : (x : ℕ) → n < x → allFrom p n x ≡ true
   unfolding allFrom all range
   all-end x h = ap (λ (k : ℕ). all p (range x k)) (let e : n + 1 - x ≡ 0 = omega arith in e)
+
+-- ---- the first answer among rising numbers
+
+module _ {B : Type 0} (g : ℕ → Option B) where
+  -- The number x gives the first answer: no number of the list before it gives any.
+  pub record FirstAnswer (l : List ℕ) (b : B) : Type 0 where
+    pub number : ℕ
+    pub listed : List·Memᴰ number l
+    pub answers : g number ≡ some b
+    pub least : (y : ℕ) → List·Memᴰ y l → (g y ≡ none → ⊥) → number ≤ y
+
+  pub first-answer : (l : List ℕ) → Sorted _<_ l → (b : B) → firstOf g l ≡ some b → FirstAnswer l b
+  unfolding firstOf orElse
+  first-answer [] s b e = absurd (Option·none-ne-some b e)
+  first-answer (x ∷ l) s b e = go (g x) refl e (λ r. first-answer l (s .1) b r)
+    where
+      go : (o : Option B) → g x ≡ o → orElse o (firstOf g l) ≡ some b → (firstOf g l ≡ some b → FirstAnswer l b) → FirstAnswer (x ∷ l) b
+      go none q r below =
+          let w = below r in
+          record {
+            number = w .number;
+            listed = List·Memᴰ·tail (w .listed);
+            answers = w .answers;
+            least = λ y m h. ⊎-elim (λ (u : y ≡ x). absurd (h (ap g u ∙ q))) (λ k. w .least y k h) (List·Memᴰ·cases-cons m);
+          }
+      go (some c) q r below =
+          record {
+            number = x;
+            listed = List·Memᴰ·head refl;
+            answers = q ∙ r;
+            least = λ y m h. ⊎-elim (λ (u : y ≡ x). omega arith) (λ k. let v = s .0 y k in omega arith) (List·Memᴰ·cases-cons m);
+          }
+
+  pub no-answer : (l : List ℕ) → firstOf g l ≡ none → (x : ℕ) → List·Memᴰ x l → g x ≡ none
+  unfolding firstOf orElse
+  no-answer [] e x m = absurd (List·Memᴰ·not-nil m)
+  no-answer (y ∷ l) e x m = go (g y) refl e (λ r k. no-answer l r x k)
+    where
+      go : (o : Option B) → g y ≡ o → orElse o (firstOf g l) ≡ none → (firstOf g l ≡ none → List·Memᴰ x l → g x ≡ none) → g x ≡ none
+      go none q r below = ⊎-elim (λ (u : x ≡ y). ap g u ∙ q) (λ k. below r k) (List·Memᴰ·cases-cons m)
+      go (some c) q r below = absurd (Option·some-ne-none c r)

@@ -1,6 +1,6 @@
 -- Maps: the tests and the plain statements agree, both ways; the full lists are increasing and hold exactly the maps of their kind; what first and next
 -- find is the earliest, and none means that there is none; more elements do not fit into fewer. Assumes nothing.
-use mathlib.Core.Path.{_≡_, refl, ap, _∙_}
+use mathlib.Core.Path.{_≡_, refl, sym, ap, _∙_}
 use mathlib.Core.Bool.{Bool, true, _&&_}
 use mathlib.Core.Logic.{_↔_}
 use mathlib.Core.Option.{Option, none, some}
@@ -11,9 +11,9 @@ use borrow.Author.Tests.{eqb-true, eq-eqb}
 use lib.Dec.{eqb}
 use lib.ListN.{length}
 use Rattle.semigroups.specs.Lists.{elements, at, all, distinct, earlier, lists, Increasing, Earliest}
-use Rattle.semigroups.specs.Tables.{Product, IsList, isElement}
+use Rattle.semigroups.specs.Tables.{Product, Element, IsList, isElement}
 use Rattle.semigroups.specs.Maps.{Homomorphism, Embedding, Isomorphism, isHomomorphism, isEmbedding, isIsomorphism, Kind, embeddings, isomorphisms, IsMap, isMap, maps, Ask, first, next, beyond, earliest}
-use Rattle.semigroups.proofs.Booleans.{clash, both, and-left, and-right}
+use Rattle.semigroups.proofs.Booleans.{clash, same-truth, both, and-left, and-right}
 use Rattle.semigroups.proofs.Lists.{all-at, all-of, pairs-at, pairs-of, is-element, element-is, find-some, find-none, find-first, keep-same, mem-keep, keep-mem, sorted-keep}
 use Rattle.semigroups.proofs.NoRepeats.{distinct-places, distinct-of, one-to-one, one-to-one-no-repeats, within-mem, no-more, place-mem}
 use Rattle.semigroups.proofs.ListOrder.{lists-increasing, lists-mem, earliest-unique}
@@ -169,3 +169,31 @@ no-isomorphism m s n t h = no-entry (maps isomorphisms m s n t) (λ f k. h (mem-
 pub one-order : (n : ℕ) (s t : Product) → maps isomorphisms n s n t ≡ maps embeddings n s n t
 unfolding maps isIsomorphism
 one-order n s t = keep-same (isIsomorphism n s n t) (isEmbedding n s n t) (lists n n) (λ f. ap (λ (b : Bool). b && isEmbedding n s n t f) (eq-eqb n n refl))
+
+-- ---- products that agree
+
+-- Two products that agree on the elements of a table of order n.
+abbrev pub Agree : ℕ → Product → Product → Type 0
+Agree n s t = (i j : ℕ) → Element n i → Element n j → s i j ≡ t i j
+
+-- Embeddings depend on the products of elements alone.
+pub embedding-agrees : (m : ℕ) (s s′ : Product) (n : ℕ) (t t′ : Product) → Agree m s s′ → Agree n t t′ → (f : List ℕ) → Embedding m s n t f → Embedding m s′ n t′ f
+embedding-agrees m s s′ n t t′ source target f F =
+    let H = F .homomorphism in
+    record {
+      homomorphism = record {
+        size = H .size;
+        within = H .within;
+        keeps-product = λ i j hi hj. sym (ap (at f) (source i j hi hj)) ∙ H .keeps-product i j hi hj ∙ target (at f i) (at f j) (H .within i hi) (H .within j hj);
+      };
+      one-to-one = F .one-to-one;
+    }
+
+-- The full list is the same into two products that agree.
+pub embeddings-agree : (m : ℕ) (s : Product) (n : ℕ) (t u : Product) → Agree n t u → Agree n u t → maps embeddings m s n t ≡ maps embeddings m s n u
+unfolding maps
+embeddings-agree m s n t u there back =
+    keep-same (isEmbedding m s n t) (isEmbedding m s n u) (lists m n) (λ f.
+    same-truth (isEmbedding m s n t f) (isEmbedding m s n u f)
+    (λ e. embedding-is m s n u f (embedding-agrees m s s n t u (λ i j hi hj. refl) there f (is-embedding m s n t f e)))
+    (λ e. embedding-is m s n t f (embedding-agrees m s s n u t (λ i j hi hj. refl) back f (is-embedding m s n u f e))))

@@ -60,6 +60,14 @@ extern "C" {
         text_length: usize,
         answer: &mut Answer,
     );
+    fn tickdrizzle_least_degree(
+        cells: *const u8,
+        cells_length: usize,
+        order: usize,
+        positions: *mut u8,
+        positions_length: usize,
+        answer: &mut Answer,
+    );
 }
 
 pub fn check_table(cells: &[u8], order: usize, answer: &mut Answer) {
@@ -245,4 +253,10 @@ pub fn load(text: &[u8], cells: &mut [u8], answer: &mut Answer) {
 
 pub fn save(cells: &[u8], order: usize, text: &mut [u8], answer: &mut Answer) {
     unsafe { tickdrizzle_save(cells.as_ptr(), cells.len(), order, text.as_mut_ptr(), text.len(), answer) }
+}
+
+pub fn least_degree(cells: &[u8], order: usize, positions: &mut [u8], answer: &mut Answer) {
+    unsafe {
+        tickdrizzle_least_degree(cells.as_ptr(), cells.len(), order, positions.as_mut_ptr(), positions.len(), answer)
+    }
 }

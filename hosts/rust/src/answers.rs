@@ -75,6 +75,8 @@ pub enum Question {
     PartRoom,
     /// 62: has the buffer room for the elements of the part?
     ElementsRoom,
+    /// 80: has the buffer room for three positions of each element?
+    PositionRoom,
 }
 
 impl Question {
@@ -103,6 +105,7 @@ impl Question {
             Question::Chosen => 60,
             Question::PartRoom => 61,
             Question::ElementsRoom => 62,
+            Question::PositionRoom => 80,
         }
     }
 
@@ -130,6 +133,7 @@ impl Question {
             60 => Question::Chosen,
             61 => Question::PartRoom,
             62 => Question::ElementsRoom,
+            80 => Question::PositionRoom,
             other => panic!("no question has the number {other}"),
         }
     }
@@ -314,6 +318,11 @@ impl LimitedSearch {
 /// The size that a call gives: an order or a length.
 pub(crate) fn size(answer: &Answer) -> usize {
     number(answer, 2)
+}
+
+/// The degree that a call gives; 0 stands for none.
+pub(crate) fn degree(answer: &Answer) -> Option<usize> {
+    Some(number(answer, 2)).filter(|&degree| degree > 0)
 }
 
 fn number(answer: &Answer, place: usize) -> usize {

@@ -1,5 +1,5 @@
-//! Multiplication tables of finite semigroups: checks, invariants, generators, embeddings, isomorphisms and CSV text,
-//! over a library that is proved for every input.
+//! Multiplication tables of finite semigroups: checks, invariants, generators, embeddings, isomorphisms, CSV text and
+//! least degrees, over a library that is proved for every input.
 //!
 //! A table of order n is n × n bytes, row after row, each 1 to n: the cell in row i, column j is the product i·j. A map
 //! is one byte for each source element, its image. Elements count from 1, and byte 0 stands for no element.
@@ -186,4 +186,18 @@ pub fn load(text: &[u8], cells: &mut [u8]) -> Result<usize, Refusal> {
 /// Writes the CSV text of the cells to the front of `text`; its length.
 pub fn save(cells: &[u8], order: usize, text: &mut [u8]) -> Result<usize, Refusal> {
     answered(|answer| abi::save(cells, order, text, answer), answers::size)
+}
+
+/// The fewest rest positions of a table: the least degree d from 1 to 3 whose table of transformations holds an embedding of
+/// it, or `None`. Writes for each element in turn the d positions, each 1 to d, where its image under the first embedding
+/// takes the points 1 to d, to the front of `positions`, which has at least three bytes for each element.
+///
+/// ```
+/// // Two elements that exchange two positions.
+/// let mut positions = [0; 6];
+/// assert_eq!(tickdrizzle::least_degree(&[1, 2, 2, 1], 2, &mut positions), Ok(Some(2)));
+/// assert_eq!(positions, [1, 2, 2, 1, 0, 0]);
+/// ```
+pub fn least_degree(cells: &[u8], order: usize, positions: &mut [u8]) -> Result<Option<usize>, Refusal> {
+    answered(|answer| abi::least_degree(cells, order, positions, answer), answers::degree)
 }

@@ -74,10 +74,11 @@ pub enum Call {
     Transformations { degree: usize, cells: Lent },
     Load { text: Lent, cells: Lent },
     Save { table: LentTable, text: Lent },
+    LeastDegree { table: LentTable, positions: Lent },
 }
 
 /// The functions' names, in the order of the header.
-pub const FUNCTIONS: [&str; 15] = [
+pub const FUNCTIONS: [&str; 16] = [
     "check_table",
     "index_period",
     "profile",
@@ -93,6 +94,7 @@ pub const FUNCTIONS: [&str; 15] = [
     "transformations",
     "load",
     "save",
+    "least_degree",
 ];
 
 impl Call {
@@ -113,6 +115,7 @@ impl Call {
             Call::Transformations { .. } => "transformations",
             Call::Load { .. } => "load",
             Call::Save { .. } => "save",
+            Call::LeastDegree { .. } => "least_degree",
         }
     }
 
@@ -153,6 +156,9 @@ impl Call {
             Call::Transformations { degree, cells } => abi::transformations(*degree, cells, &mut answer),
             Call::Load { text, cells } => abi::load(text, cells, &mut answer),
             Call::Save { table, text } => abi::save(&table.cells, table.order, text, &mut answer),
+            Call::LeastDegree { table, positions } => {
+                abi::least_degree(&table.cells, table.order, positions, &mut answer);
+            }
         }
         answer
     }
@@ -207,6 +213,10 @@ impl Call {
             Call::Save { table, text } => {
                 encoded(tickdrizzle::save(&table.cells, table.order, text), |length| vec![length])
             }
+            Call::LeastDegree { table, positions } => {
+                let answer = tickdrizzle::least_degree(&table.cells, table.order, positions);
+                encoded(answer, |degree| vec![degree.unwrap_or(0)])
+            }
         }
     }
 
@@ -234,6 +244,7 @@ impl Call {
             Call::Transformations { degree, cells } => reference::transformations(*degree, cells),
             Call::Load { text, cells } => reference::load(text, cells),
             Call::Save { table, text } => reference::save(&table.cells, table.order, text),
+            Call::LeastDegree { table, positions } => reference::least_degree(&table.cells, table.order, positions),
         }
     }
 }

@@ -146,7 +146,7 @@ fn unions_of_sets(random: &mut Random, greatest: usize) -> Semigroup {
 }
 
 /// A part of the table of all transformations of three points.
-fn part_of_transformations(random: &mut Random, greatest: usize) -> Semigroup {
+pub fn part_of_transformations(random: &mut Random, greatest: usize) -> Semigroup {
     let mut cells = [0; 729];
     reference::transformations(3, &mut cells);
     let generators: Vec<usize> = (0..random.within(1, 3)).map(|_| random.below(27)).collect();

@@ -73,8 +73,8 @@ impl Comparison {
     }
 
     /// Every table of order 1 to 3, with every short list as its generators. Of the accepted ones every element, what every
-    /// short list generates, and the first embedding and isomorphism between every two of them, with the candidates. What
-    /// every short list generates in mat5.
+    /// short list generates, the first embedding and isomorphism between every two of them, with the candidates, and the least
+    /// degree. What every short list generates in mat5, and its least degree.
     fn small_tables(&mut self) {
         let all = (1..=3)
             .flat_map(|order| reference::lists(order * order, order).into_iter().map(move |cells| (cells, order)));
@@ -93,6 +93,7 @@ impl Comparison {
                 self.compare(&mut Call::Profile { table: source.clone(), element }, SMALL);
             }
             self.short_parts(source, SMALL);
+            self.least_degrees(source, SMALL);
             for target in &accepted {
                 self.first_maps(source, target);
                 self.around_trials(source, target, SMALL);
@@ -101,6 +102,7 @@ impl Comparison {
         let mat5 = LentTable { cells: Lent::new(&mut self.random, &MAT5), order: 5 };
         self.short_parts(&mat5, "mat5");
         self.around_trials(&mat5, &mat5, "mat5");
+        self.least_degrees(&mat5, "mat5");
     }
 
     /// The check by generators, with every short list.
@@ -123,6 +125,14 @@ impl Comparison {
                     self.compare(&mut Call::Subsemigroup { table: table.clone(), chosen, part, elements }, family);
                 }
             }
+        }
+    }
+
+    /// The least degree, with a position buffer a byte too short, exactly long enough, and longer.
+    fn least_degrees(&mut self, table: &LentTable, family: &'static str) {
+        for length in lengths(3 * table.order) {
+            let positions = Lent::random(&mut self.random, length);
+            self.compare(&mut Call::LeastDegree { table: table.clone(), positions }, family);
         }
     }
 
@@ -191,8 +201,7 @@ impl Comparison {
 
     /// Calls of one kind.
     fn some_calls(&mut self) {
-        match self.random.below(43) {
-            40..=42 => self.limited_search(),
+        match self.random.below(45) {
             0..=10 => self.one_table(),
             11..=13 => self.lists(),
             14..=15 => self.map_check(),
@@ -200,7 +209,9 @@ impl Comparison {
             22..=23 => self.walk(),
             24..=26 => self.transformations(),
             27..=33 => self.load(),
-            _ => self.save(),
+            34..=39 => self.save(),
+            40..=42 => self.limited_search(),
+            _ => self.least_degree(),
         }
     }
 
@@ -410,6 +421,29 @@ impl Comparison {
         let length = inputs::length(&mut self.random, limit);
         let text = Lent::random(&mut self.random, length);
         self.compare(&mut Call::Save { table, text }, family);
+    }
+
+    /// Small tables, parts of the transformations of three points among them, and larger ones that are soon settled.
+    fn least_degree(&mut self) {
+        let Input { table, family } = match self.random.below(8) {
+            0..=3 => self.part_of_degree_three(),
+            4 => {
+                let easy = families::easy(&mut self.random);
+                inputs::lend(&mut self.random, &easy)
+            }
+            _ => inputs::table(&mut self.random, 5),
+        };
+        let length = inputs::length(&mut self.random, 3 * table.order.min(120));
+        let positions = Lent::random(&mut self.random, length);
+        self.compare(&mut Call::LeastDegree { table, positions }, family);
+    }
+
+    fn part_of_degree_three(&mut self) -> Input {
+        let mut part = families::part_of_transformations(&mut self.random, 8);
+        if self.random.one_in(2) {
+            part = families::relabelled(&mut self.random, &part);
+        }
+        inputs::lend(&mut self.random, &part)
     }
 }
 

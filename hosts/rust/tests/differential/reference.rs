@@ -571,3 +571,37 @@ pub fn save(cells: &[u8], order: usize, text: &mut [u8]) -> Answer {
         Ok(numbers(&[saved.len()]))
     }))
 }
+
+/// All transformations of some points in list order, and the cells of their table, by composing each with each.
+fn transformation_table(degree: usize) -> (Vec<Vec<u8>>, Vec<u8>) {
+    let all = lists(degree, degree);
+    let mut cells = vec![0; all.len() * all.len()];
+    transformations(degree, &mut cells);
+    (all, cells)
+}
+
+/// Whether these landing positions, `degree` for each element, compose as the table says.
+fn compose(table: &Table, degree: usize, positions: &[u8]) -> bool {
+    let landing = |element: usize, point: u8| positions[(element - 1) * degree + usize::from(point) - 1];
+    let mut triples =
+        table.elements().flat_map(|i| table.elements().flat_map(move |j| (1..=degree as u8).map(move |x| (i, j, x))));
+    triples.all(|(i, j, x)| landing(table.product(i, j), x) == landing(j, landing(i, x)))
+}
+
+/// Tries the degrees from below, each with the search that tries lists; the images of each element as the lists they are.
+pub fn least_degree(cells: &[u8], order: usize, positions: &mut [u8]) -> Answer {
+    answer(Table::accepted(cells, order).and_then(|source| {
+        ask(positions.len() >= 3 * order, 80)?;
+        for degree in 1..=3 {
+            let (all, products) = transformation_table(degree);
+            let target = Table { cells: &products, order: all.len() };
+            if let Some(map) = (Pair { source, target }).earliest(Kind::Embedding, None) {
+                let landed: Vec<u8> = map.iter().flat_map(|&image| all[usize::from(image) - 1].clone()).collect();
+                assert!(compose(&source, degree, &landed), "the positions compose as the table says");
+                write_front(positions, &landed);
+                return Ok(numbers(&[degree]));
+            }
+        }
+        Ok(numbers(&[0]))
+    }))
+}

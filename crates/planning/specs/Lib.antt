@@ -1,0 +1,3 @@
+pub mod Degrees
+pub mod Examples
+pub mod Answers
