@@ -120,10 +120,11 @@ void tickdrizzle_subsemigroup(const uint8_t *cells, size_t cells_length, size_t 
                               uint64_t *TICKDRIZZLE_RESTRICT answer);
 
 /*
- * The four searches ask 1 to 4 of the source, of the target, 5 and 6, and say TICKDRIZZLE_FOUND or TICKDRIZZLE_NONE. Found:
+ * The searches ask 1 to 4 of the source, of the target, 5 and 6, and say TICKDRIZZLE_FOUND or TICKDRIZZLE_NONE. Found:
  * map holds the map. None: there is no such map, and map is as it was. After both, scratch begins with a bit for each pair,
  * TICKDRIZZLE_SCRATCH_SIZE bytes of them: with k = (i - 1) * target order + (j - 1), scratch[k / 8] >> k % 8 & 1 is 1 where target
- * element j has the index and period (for isomorphisms: the profile) of source element i, else 0. Unused bits of the last byte
+ * element j has the index and period (for isomorphisms: the profile; for reversed ones: the profile with
+ * row and column counts exchanged) of source element i, else 0. Unused bits of the last byte
  * are 0. Lists are compared byte by byte from the front.
  */
 
@@ -155,6 +156,19 @@ void tickdrizzle_next_isomorphism(const uint8_t *source, size_t source_length, s
                                   size_t map_length, uint8_t *TICKDRIZZLE_RESTRICT scratch, size_t scratch_length,
                                   uint64_t *TICKDRIZZLE_RESTRICT answer);
 
+/* The earliest reversed isomorphism of the source onto the target: one to one, onto, and the image of i.j is the image of j
+   times the image of i. Writes map (only where found) and scratch. */
+void tickdrizzle_first_reversed_isomorphism(const uint8_t *source, size_t source_length, size_t source_order, const uint8_t *target,
+                                            size_t target_length, size_t target_order, uint8_t *TICKDRIZZLE_RESTRICT map,
+                                            size_t map_length, uint8_t *TICKDRIZZLE_RESTRICT scratch, size_t scratch_length,
+                                            uint64_t *TICKDRIZZLE_RESTRICT answer);
+
+/* The earliest reversed isomorphism that is later than the bytes in map. Writes map (only where found) and scratch. */
+void tickdrizzle_next_reversed_isomorphism(const uint8_t *source, size_t source_length, size_t source_order, const uint8_t *target,
+                                           size_t target_length, size_t target_order, uint8_t *TICKDRIZZLE_RESTRICT map,
+                                           size_t map_length, uint8_t *TICKDRIZZLE_RESTRICT scratch, size_t scratch_length,
+                                           uint64_t *TICKDRIZZLE_RESTRICT answer);
+
 /* The table of all transformations of degree points, numbered in list order, composed from left to right (questions 8, 9).
    Says the order: 1, 4 or 27; writes the first order * order bytes of cells. */
 void tickdrizzle_transformations(size_t degree, uint8_t *TICKDRIZZLE_RESTRICT cells, size_t cells_length,
@@ -172,7 +186,7 @@ void tickdrizzle_save(const uint8_t *cells, size_t cells_length, size_t order, u
                       size_t text_length, uint64_t *TICKDRIZZLE_RESTRICT answer);
 
 /*
- * The two searches with a limit say TICKDRIZZLE_FOUND or TICKDRIZZLE_NONE and the exact number of trials, or TICKDRIZZLE_STOPPED
+ * The searches with a limit say TICKDRIZZLE_FOUND or TICKDRIZZLE_NONE and the exact number of trials, or TICKDRIZZLE_STOPPED
  * where more are needed than the limit. A trial is one candidate, unused so far, tested as the image of the next element;
  * images are tried in rising order, elements from 1 upward. A larger limit never changes a map or a none. Stopped, map is as
  * it was, and scratch as after none.
@@ -193,6 +207,14 @@ void tickdrizzle_first_isomorphism_within(const uint8_t *source, size_t source_l
                                           uint8_t *TICKDRIZZLE_RESTRICT map, size_t map_length,
                                           uint8_t *TICKDRIZZLE_RESTRICT scratch, size_t scratch_length, uint32_t limit,
                                           uint64_t *TICKDRIZZLE_RESTRICT answer);
+
+/* The earliest reversed isomorphism within a limit of trials (questions 1 to 4 of the source, of the target, 5, 6).
+   Writes map (only where found) and scratch. */
+void tickdrizzle_first_reversed_isomorphism_within(const uint8_t *source, size_t source_length, size_t source_order,
+                                                   const uint8_t *target, size_t target_length, size_t target_order,
+                                                   uint8_t *TICKDRIZZLE_RESTRICT map, size_t map_length,
+                                                   uint8_t *TICKDRIZZLE_RESTRICT scratch, size_t scratch_length, uint32_t limit,
+                                                   uint64_t *TICKDRIZZLE_RESTRICT answer);
 
 /* The fewest rest positions: the least degree d from 1 to 3 whose table of transformations holds an embedding of the table, and for each
    element in turn the d positions, each 1 to d, where its image under the first embedding takes the points 1 to d. As transformations

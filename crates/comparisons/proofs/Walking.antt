@@ -19,7 +19,7 @@ use Rattle.semigroups.specs.Maps.{Kind, maps, first, next, beyond, earliest, So
 use Rattle.semigroups.proofs.Lists.{find-same, find-some, find-none}
 use Rattle.semigroups.proofs.Sums.{count-same}
 use Rattle.semigroups.proofs.ListOrder.{earlier-head, earlier-irreflexive, earlier-transitive, earlier-asymmetric}
-use Rattle.semigroups.proofs.Maps.{mem-maps, map-embeds, embedding-list, maps-increasing}
+use Rattle.semigroups.proofs.Maps.{mem-maps, map-list, maps-increasing}
 use Rattle.semigroups.proofs.Tables.{no-refusal}
 use Rattle.tables.proofs.Questions.{both-pass}
 use Rattle.search.specs.Calls.{Called, Lent, Request, lend, askOf, answerOf, marksOf, call}
@@ -48,7 +48,7 @@ first-after-zeros kind zero s n t h = absurd (let z : ⊥ = omega arith in z)
 first-after-zeros kind (suc m) s n t h = unfold earliest in find-same (beyond (next (take (suc m) (replicate 5 0)))) (beyond first) (maps kind (suc m) s n t) (λ f k. later f k)
   where
     later : (f : List ℕ) → List·Memᴰ f (maps kind (suc m) s n t) → earlier (take (suc m) (replicate 5 0)) f ≡ true
-    later f k = after-zero m n (take m (replicate 4 0)) f (embedding-list (suc m) s n t f (map-embeds (suc m) s n t f kind (mem-maps kind (suc m) s n t f k)))
+    later f k = after-zero m n (take m (replicate 4 0)) f (map-list (suc m) s n t f kind (mem-maps kind (suc m) s n t f k))
 
 -- What the second search looks behind: the bytes of the map buffer, or zeros.
 abbrev pub behind : Bool → List ℕ → List ℕ
@@ -190,7 +190,7 @@ module _ (isomorphisms : Bool) (source : List ℕ) (m : ℕ) (target : List ℕ)
           let t = product n target in
           let kind = kindOf isomorphisms in
           let inside = find-some (earlier (take m map)) (maps kind m s n t) f e .0 in
-          let whole = embedding-list m s n t f (map-embeds m s n t f kind (mem-maps kind m s n t f inside)) .size in
+          let whole = map-list m s n t f kind (mem-maps kind m s n t f inside) .size in
           let left : next-call .map ≡ f = called-map isomorphisms true source m target n map a b hm hn size ∙ ap (λ (x : Option (List ℕ)). Option·getD x (take m map)) e in
           let front : take m (next-call .map ++ drop m map) ≡ f = ap (λ (x : List ℕ). take m (x ++ drop m map)) left ∙ take-at f (drop m map) m whole in
           one-less (take m map) f (maps kind m s n t) (maps-increasing kind m s n t) e ∙ ap (λ (x : List ℕ). suc (count (earlier x) (maps kind m s n t))) (sym front)

@@ -5,7 +5,7 @@ ghost use Prim.Native.Nat.{_≤_};
 ghost use lib.ListN.{length};
 ghost use Rattle.semigroups.specs.Tables.{product};
 ghost use Rattle.semigroups.specs.Invariants.{indexPeriod, profile};
-ghost use Rattle.semigroups.specs.Maps.{embeddings, isomorphisms};
+ghost use Rattle.semigroups.specs.Maps.{embeddings, isomorphisms, reversed};
 ghost use Rattle.semigroups.specs.Questions.{tableRefusal, elementRefusal};
 ghost use Rattle.semigroups.specs.Light.{generatorsRefusal};
 ghost use Rattle.semigroups.specs.Calls.{givenUnless};
@@ -327,6 +327,42 @@ pub extern "C" fn tickdrizzle_next_isomorphism(
     *answer = search_words(search::next_isomorphism(source, m, target, n, map, scratch));
 }
 
+// Writes the earliest reversed isomorphism of the source onto the target to `map`. Value: 1 for found, 0 for none.
+#[no_mangle]
+pub extern "C" fn tickdrizzle_first_reversed_isomorphism(
+    source: &[u8],
+    m: usize,
+    target: &[u8],
+    n: usize,
+    map: &mut [u8],
+    scratch: &mut [u8],
+    answer: &mut [u64; 16],
+)
+    ensures answer { λ _. ⌜ now (answer .exit) ≡ answerWords soughtValues (call reversed theFirst (lend (now (source .entry)) m (now (target .entry)) n (now (map .entry)) (now (scratch .entry))) .says) ⌝ }
+    ensures map { λ _. ⌜ now (map .exit) ≡ call reversed theFirst (lend (now (source .entry)) m (now (target .entry)) n (now (map .entry)) (now (scratch .entry))) .map ⌝ }
+    ensures scratch { λ _. ⌜ now (scratch .exit) ≡ call reversed theFirst (lend (now (source .entry)) m (now (target .entry)) n (now (map .entry)) (now (scratch .entry))) .scratch ⌝ }
+{
+    *answer = search_words(search::first_reversed_isomorphism(source, m, target, n, map, scratch));
+}
+
+// Writes the earliest reversed isomorphism that is later than the bytes of `map` over them. Value: 1 for found, 0 for none.
+#[no_mangle]
+pub extern "C" fn tickdrizzle_next_reversed_isomorphism(
+    source: &[u8],
+    m: usize,
+    target: &[u8],
+    n: usize,
+    map: &mut [u8],
+    scratch: &mut [u8],
+    answer: &mut [u64; 16],
+)
+    ensures answer { λ _. ⌜ now (answer .exit) ≡ answerWords soughtValues (call reversed theNext (lend (now (source .entry)) m (now (target .entry)) n (now (map .entry)) (now (scratch .entry))) .says) ⌝ }
+    ensures map { λ _. ⌜ now (map .exit) ≡ call reversed theNext (lend (now (source .entry)) m (now (target .entry)) n (now (map .entry)) (now (scratch .entry))) .map ⌝ }
+    ensures scratch { λ _. ⌜ now (scratch .exit) ≡ call reversed theNext (lend (now (source .entry)) m (now (target .entry)) n (now (map .entry)) (now (scratch .entry))) .scratch ⌝ }
+{
+    *answer = search_words(search::next_reversed_isomorphism(source, m, target, n, map, scratch));
+}
+
 // ---- what a list of elements generates
 
 // Asks the questions about a table and a list of its generators; of triples, those with their middle on the list. No values.
@@ -455,4 +491,25 @@ pub extern "C" fn tickdrizzle_least_degree(
     ensures positions { λ _. ⌜ now (positions .exit) ≡ positionsAfter order (now (cells .entry)) (now (positions .entry)) ⌝ }
 {
     *answer = degree_words(planning::least_degree(cells, order, positions));
+}
+
+// Writes the earliest reversed isomorphism to `map`, where `limit` trials suffice. Values: 1 for found or 0 for none, and the trials; or 2 for stopped.
+#[no_mangle]
+pub extern "C" fn tickdrizzle_first_reversed_isomorphism_within(
+    source: &[u8],
+    m: usize,
+    target: &[u8],
+    n: usize,
+    map: &mut [u8],
+    scratch: &mut [u8],
+    limit: u32,
+    answer: &mut [u64; 16],
+)
+    ensures answer { λ _. ⌜ now (answer .exit) ≡ answerWords limitedValues (limitedCall reversed limit (lend (now (source .entry)) m (now (target .entry)) n (now (map .entry)) (now (scratch .entry))) .says) ⌝ }
+    ensures map { λ _. ⌜ now (map .exit) ≡ limitedCall reversed limit (lend (now (source .entry)) m (now (target .entry)) n (now (map .entry)) (now (scratch .entry))) .map ⌝ }
+    ensures scratch { λ _. ⌜ now (scratch .exit) ≡ limitedCall reversed limit (lend (now (source .entry)) m (now (target .entry)) n (now (map .entry)) (now (scratch .entry))) .scratch ⌝ }
+{
+    *answer = limited_words(limited::first_reversed_isomorphism_within(
+        source, m, target, n, map, scratch, limit,
+    ));
 }

@@ -7,7 +7,7 @@ use Prim.Native.Nat.{ℕ, _-_, _≤_, _<_}
 use native.Mathlib.Nat.{min-le-left}
 use native.Mathlib.Omega.{arith}
 use lib.ListN.{length, take, replicate, length-append, length-take, length-replicate}
-use Rattle.semigroups.specs.Tables.{Product, product, Closed}
+use Rattle.semigroups.specs.Tables.{Product, product, Closed, Accepted}
 use Rattle.semigroups.specs.Scratch.{marked}
 use Rattle.semigroups.specs.Calls.{gives, scratchAfter, overwritten, mapUnless}
 use Rattle.semigroups.specs.Maps.{Kind, first, found, nothing, sought}
@@ -22,7 +22,7 @@ use Rattle.backtrack.specs.State.{foundIn, remaining, within, outcomeOf}
 use Rattle.backtrack.proofs.Limits.{within-stopped, within-ended}
 use Rattle.search.specs.Calls.{Lent, theFirst, answerOf, marksOf}
 use Rattle.search.specs.Wanted.{Passes}
-use Rattle.search.specs.Answers.{orderFits}
+use Rattle.search.specs.Answers.{orderFits, facing}
 use Rattle.search.proofs.Calls.{passed}
 use Rattle.search.proofs.Answering.{answer-none, answer-some}
 use Rattle.limited.specs.Calls.{Called, firstWork, limitedCall}
@@ -67,14 +67,17 @@ module _ (kind : Kind) (limit : ℕ) (l : Lent) (p : Passes l) where
   abbrev t : Product
   t = product (l .n) (l .target)
 
+  abbrev u : Product
+  u = facing kind (l .n) (l .target)
+
   -- Else what the marked search answers says it.
   module _ (fits : orderFits kind (l .m) (l .n) ≡ true) (scratch : List ℕ) (filled : scratch ≡ scratchAfter (l .m) (l .n) (candidate kind (l .m) s (l .n) t) (l .scratch)) (r : Outcome)
-      (finding : r ≡ outcomeOf (within true limit (counted s t (marked (l .n) scratch) first (l .n) (l .m) []))) where
+      (finding : r ≡ outcomeOf (within true limit (counted s u (marked (l .n) scratch) first (l .n) (l .m) []))) where
     abbrev w : Work
-    w = counted s t (marked (l .n) scratch) first (l .n) (l .m) []
+    w = counted s u (marked (l .n) scratch) first (l .n) (l .m) []
 
     same : w ≡ firstWork kind l
-    same = ap (λ (b : List ℕ). counted s t (marked (l .n) b) first (l .n) (l .m) []) filled ∙ work-fit kind l fits
+    same = ap (λ (b : List ℕ). counted s u (marked (l .n) b) first (l .n) (l .m) []) filled ∙ work-fit kind l fits
 
     same-trials : w .trials ≡ firstWork kind l .trials
     same-trials = ap (λ (v : Work). v .trials) same
@@ -114,14 +117,14 @@ module _ (kind : Kind) (limit : ℕ) (l : Lent) (p : Passes l) where
       found-here o q = left-ended (limit - r .left) o spent (work-finds kind l p ∙ q) (omega arith)
 
       -- What the search without a limit answers.
-      abbrev asked : f ≡ foundIn (searched s t (marked (l .n) scratch) first (l .n) (l .m) [])
-      asked = searched-here ∙ ap foundIn (counted-finds s t (marked (l .n) scratch) first (l .n) (l .m) [])
+      abbrev asked : f ≡ foundIn (searched s u (marked (l .n) scratch) first (l .n) (l .m) [])
+      asked = searched-here ∙ ap foundIn (counted-finds s u (marked (l .n) scratch) first (l .n) (l .m) [])
 
       abbrev source : Closed (l .m) s
       source = accepted-closed (l .m) (l .source) (p .check .source-table)
 
-      abbrev target : Closed (l .n) t
-      target = accepted-closed (l .n) (l .target) (p .check .target-table)
+      abbrev target : Accepted (l .n) (l .target)
+      target = p .check .target-table
 
       pub answer-nothing : r .ok ≡ false → Left kind limit l (ended nothing (limit - r .left)) none
       answer-nothing o = found-here none (answer-none kind false l source target fits scratch filled f asked o)

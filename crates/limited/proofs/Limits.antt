@@ -8,9 +8,9 @@ use native.Mathlib.Omega.{arith}
 use lib.ListN.{length-replicate}
 use Rattle.semigroups.specs.Lists.{range, elements, at, all, find, sum, count, least, member, earlier, lists}
 use Rattle.semigroups.specs.Tables.{product, grid, Accepted}
-use Rattle.semigroups.specs.Invariants.{power, periodFrom, index, period, idempotentPower, indexPeriod, sameIndexPeriod}
+use Rattle.semigroups.specs.Invariants.{power, periodFrom, index, period, idempotentPower, indexPeriod, sameIndexPeriod, frequency, diagonalFrequency, rowFrequency, columnFrequency, commuting, profile, sameProfile}
 use Rattle.semigroups.specs.Calls.{gives, overwritten, mapUnless}
-use Rattle.semigroups.specs.Maps.{Kind, embeddings, isomorphisms, Sought, nothing, sought, after}
+use Rattle.semigroups.specs.Maps.{Kind, embeddings, isomorphisms, reversed, Sought, nothing, sought, after}
 use Rattle.semigroups.specs.Candidates.{candidate}
 use Rattle.semigroups.specs.Search.{fits, passes}
 use Rattle.semigroups.specs.Trials.{Work, work, inTurn, tried, workAt, counted, stopped, ended}
@@ -24,7 +24,7 @@ use Rattle.search.specs.Calls.{Lent, theFirst, marksOf, call}
 use Rattle.search.specs.Wanted.{Passes}
 use Rattle.search.proofs.Calls as search-laws
 use Rattle.limited.specs.Calls.{Called, firstWork, limitedCall}
-use Rattle.limited.specs.Limits.{afterTrials, Limits, LimitsTheorem, swapInTwo, twoInSwap, LimitsExamples}
+use Rattle.limited.specs.Limits.{afterTrials, Limits, LimitsTheorem, swapInTwo, twoInSwap, LimitsExamples, ReversedTrialsExamples}
 use Rattle.limited.proofs.Calls.{refused-unchanged, stops, ends}
 use Rattle.limited.proofs.Works.{work-unfit, work-finds}
 
@@ -120,3 +120,7 @@ limits-examples =
       limits embeddings twoInSwap two-passes .unfit refl .1 0,
       limits isomorphisms swapInTwo swap-passes .unfit refl .1 0,
     )
+
+reversed-trials-examples : ReversedTrialsExamples
+unfolding firstWork counted workAt inTurn tried candidate passes fits product range elements at all find sum count least member power periodFrom index period idempotentPower indexPeriod sameIndexPeriod frequency diagonalFrequency rowFrequency columnFrequency commuting profile sameProfile
+reversed-trials-examples = (refl, refl, limits reversed swapInTwo swap-passes .unfit refl .1 0)

@@ -4,9 +4,9 @@ use mathlib.Core.Bool.{cond}
 use mathlib.Core.List.{List, []}
 use mathlib.Core.Option.{none}
 use Prim.Native.Nat.{ℕ}
-use Rattle.semigroups.specs.Tables.{product}
+use Rattle.semigroups.specs.Tables.{Product, product, turned}
 use Rattle.semigroups.specs.Calls.{Answer, givenUnless, writtenUnless, mapUnless}
-use Rattle.semigroups.specs.Maps.{Kind, first}
+use Rattle.semigroups.specs.Maps.{Kind, embeddings, isomorphisms, reversed, first}
 use Rattle.semigroups.specs.Candidates.{candidate}
 use Rattle.semigroups.specs.Trials.{Work, work, counted, Limited, limited, foundWithin}
 use Rattle.search.specs.Calls.{Lent, theFirst, refusalOf, marksOf}
@@ -18,12 +18,18 @@ pub record Called : Type 0 where
   pub map : List ℕ
   pub scratch : List ℕ
 
+-- The target's product as a search of the kind tests it: for reversed maps each product's image in the reversed order (02, (ix)).
+abbrev pub readBy : Kind → Product → Product
+readBy embeddings t = t
+readBy isomorphisms t = t
+readBy reversed t = turned t
+
 -- The work of the search for the first map of the kind. Where the orders rule a map out (m > n, and for isomorphisms m and n that differ) it is none.
 unfoldable pub firstWork : Kind → Lent → Work
 firstWork kind l =
     let s = product (l .m) (l .source) in
     let t = product (l .n) (l .target) in
-    let searched = counted s t (candidate kind (l .m) s (l .n) t) first (l .n) (l .m) [] in
+    let searched = counted s (readBy kind t) (candidate kind (l .m) s (l .n) t) first (l .n) (l .m) [] in
     cond (orderFits kind (l .m) (l .n)) searched (work none 0)
 
 -- A call of a search with a limit. The questions and the marks in scratch are those of a search for the first map.

@@ -4,14 +4,14 @@ use mathlib.Core.Path.{_≡_}
 use mathlib.Core.Logic.{_↔_}
 use mathlib.Core.Bool.{false}
 use mathlib.Core.List.{[], _∷_}
-use mathlib.Core.Option.{some}
+use mathlib.Core.Option.{none, some}
 use Prim.Native.Nat.{ℕ, _≤_, _<_}
 use lib.ListN.{replicate}
 use Rattle.semigroups.specs.Questions.{Refusal}
 use Rattle.semigroups.specs.Calls.{Answer, refused, gives}
-use Rattle.semigroups.specs.Maps.{Kind, embeddings, isomorphisms, Sought, found, nothing}
-use Rattle.semigroups.specs.Trials.{Limited, stopped, ended}
-use Rattle.semigroups.specs.Cases.{swap, two}
+use Rattle.semigroups.specs.Maps.{Kind, embeddings, isomorphisms, reversed, Sought, found, nothing}
+use Rattle.semigroups.specs.Trials.{work, Limited, stopped, ended}
+use Rattle.semigroups.specs.Cases.{swap, left, right, two}
 use Rattle.search.specs.Calls.{Lent, lend, theFirst, refusalOf, call}
 use Rattle.search.specs.Wanted.{Passes}
 use Rattle.search.specs.Answers.{orderFits}
@@ -56,3 +56,12 @@ LimitsExamples =
     (limitedCall embeddings 3 swapInTwo .says ≡ gives stopped)
     × (limitedCall embeddings 4 swapInTwo .says ≡ gives (ended found 4)) × (limitedCall embeddings 4 swapInTwo .map ≡ 2 ∷ 3 ∷ [])
     × (limitedCall embeddings 0 twoInSwap .says ≡ gives (ended nothing 0)) × (limitedCall isomorphisms 0 swapInTwo .says ≡ gives (ended nothing 0))
+
+-- Left onto right has a reversed map after two trials, and no candidate for a plain one; between two orders no reversed map is tried.
+abbrev pub leftOntoRight : Lent
+leftOntoRight = lend (left .cells) 2 (right .cells) 2 (0 ∷ 0 ∷ []) (replicate 4 0)
+
+abbrev pub ReversedTrialsExamples : Type 0
+ReversedTrialsExamples =
+    (firstWork reversed leftOntoRight ≡ work (some (1 ∷ 2 ∷ [])) 2) × (firstWork isomorphisms leftOntoRight ≡ work none 0)
+    × (limitedCall reversed 0 swapInTwo .says ≡ gives (ended nothing 0))

@@ -9,15 +9,18 @@ use lib.Dec.{eqb, leb}
 use lib.ListN.{length, take, replicate}
 use lib.Seq.{take-at}
 use Rattle.semigroups.specs.Lists.{at, find, firstOf}
-use Rattle.semigroups.specs.Tables.{Product, product, Element, Closed}
+use Rattle.semigroups.specs.Tables.{Product, product, turnedCells, Element, Closed, Accepted}
 use Rattle.semigroups.specs.Scratch.{scratchSize, marked}
 use Rattle.semigroups.specs.Questions.{Question, ask, Refusal, no, firstNo, tablesQuestions, tablesRefusal, searchRefusal}
 use Rattle.semigroups.specs.Calls.{gives, scratchAfter, mapUnless}
-use Rattle.semigroups.specs.Maps.{Embedding, Kind, embeddings, isomorphisms, maps, Ask, earliest, sought}
+use Rattle.semigroups.specs.Maps.{Embedding, Kind, embeddings, isomorphisms, reversed, maps, Ask, earliest, sought}
 use Rattle.semigroups.specs.Candidates.{candidate}
 use Rattle.semigroups.specs.Search.{search as searched}
+use Rattle.semigroups.proofs.Tables.{accepted-closed}
+use Rattle.semigroups.proofs.Turned.{turned-closed, cells-turn}
+use Rattle.semigroups.proofs.Reversed.{reversed-maps, reversed-candidate, no-reversed}
 use Rattle.semigroups.proofs.Questions.{failed-before, passed-before}
-use Rattle.semigroups.proofs.Maps.{map-embeds, earliest-found, no-embedding, no-isomorphism, one-order}
+use Rattle.semigroups.proofs.Maps.{map-list, earliest-found, no-embedding, no-isomorphism, one-order}
 use Rattle.semigroups.proofs.Candidates.{index-period-sound, profile-sound, marked-candidate}
 use Rattle.semigroups.proofs.Search.{search-earliest}
 use Rattle.backtrack.specs.declared.Found.{Found}
@@ -25,7 +28,7 @@ use Rattle.backtrack.specs.State.{foundIn, bounded}
 use Rattle.backtrack.proofs.Extending.{none-found}
 use Rattle.search.specs.Calls.{Lent, Called, Request, askOf, answerOf, call}
 use Rattle.search.specs.Wanted.{Passes}
-use Rattle.search.specs.Answers.{requestOf, orderFits}
+use Rattle.search.specs.Answers.{requestOf, orderFits, facing}
 use Rattle.search.proofs.Calls.{not-refused, passed}
 
 -- ---- the questions
@@ -66,6 +69,7 @@ earliest-empty ask = refl
 pub unfit : (kind : Kind) (m : ℕ) (s : Product) (n : ℕ) (t : Product) → orderFits kind m n ≡ false → (ask : Ask) → earliest ask (maps kind m s n t) ≡ none
 unfit embeddings m s n t e ask = ap (earliest ask) (no-embedding m s n t (leb-false m n e)) ∙ earliest-empty ask
 unfit isomorphisms m s n t e ask = ap (earliest ask) (no-isomorphism m s n t (eqb-false m n e)) ∙ earliest-empty ask
+unfit reversed m s n t e ask = ap (earliest ask) (no-reversed m s n t (eqb-false m n e)) ∙ earliest-empty ask
 
 module _ (m : ℕ) (s : Product) (n : ℕ) (t : Product) (source : Closed m s) (target : Closed n t) (scratch : List ℕ) where
   -- Marks lose no map that the candidates keep.
@@ -78,21 +82,38 @@ module _ (m : ℕ) (s : Product) (n : ℕ) (t : Product) (source : Closed m s) (
       search-earliest m s n t source (marked n (scratchAfter m n (candidate embeddings m s n t) scratch))
       (marked-sound (candidate embeddings m s n t) (index-period-sound m s n t source target)) ask
 
-found-isomorphism : (n : ℕ) (s t : Product) → Closed n s → Closed n t → (scratch : List ℕ) (ask : Ask)
-    → searched s t (marked n (scratchAfter n n (candidate isomorphisms n s n t) scratch)) ask n n [] ≡ earliest ask (maps isomorphisms n s n t)
-found-isomorphism n s t source target scratch ask =
-    search-earliest n s n t source (marked n (scratchAfter n n (candidate isomorphisms n s n t) scratch))
-    (marked-sound n s n t source target scratch (candidate isomorphisms n s n t) (profile-sound n s t source target)) ask
+-- Between tables of one order, candidates that lose no embedding find the isomorphisms.
+found-isomorphism : (n : ℕ) (s t : Product) → Closed n s → Closed n t → (scratch : List ℕ) (p : ℕ → ℕ → Bool) → ((f : List ℕ) → Embedding n s n t f → (i : ℕ) → Element n i → p i (at f i) ≡ true) → (ask : Ask)
+    → searched s t (marked n (scratchAfter n n p scratch)) ask n n [] ≡ earliest ask (maps isomorphisms n s n t)
+found-isomorphism n s t source target scratch p sound ask =
+    search-earliest n s n t source (marked n (scratchAfter n n p scratch)) (marked-sound n s n t source target scratch p sound) ask
     ∙ ap (earliest ask) (sym (one-order n s t))
 
+found-reversed : (n : ℕ) (s : Product) (target : List ℕ) → Closed n s → Accepted n target → (scratch : List ℕ) (ask : Ask)
+    → searched s (facing reversed n target) (marked n (scratchAfter n n (candidate reversed n s n (product n target)) scratch)) ask n n [] ≡ earliest ask (maps reversed n s n (product n target))
+found-reversed n s target source b scratch ask =
+    let t = product n target in
+    let u = product n (turnedCells n target) in
+    let turns = cells-turn n target in
+    let closed = accepted-closed n target b in
+    let around = turned-closed n t u turns closed in
+    found-isomorphism n s u source around scratch (candidate reversed n s n t)
+    (λ f F i h. sym (reversed-candidate n s n t u turns closed (b .associative) i (at f i) (F .homomorphism .within i h)) ∙ profile-sound n s u source around f F i h) ask
+    ∙ ap (earliest ask) (sym (reversed-maps n s n t u turns))
+
 -- The search over the marks of a kind finds what is asked for, where the orders fit.
-pub finds : (kind : Kind) (m : ℕ) (s : Product) (n : ℕ) (t : Product) → Closed m s → Closed n t → (scratch : List ℕ) → orderFits kind m n ≡ true → (ask : Ask)
-    → searched s t (marked n (scratchAfter m n (candidate kind m s n t) scratch)) ask n m [] ≡ earliest ask (maps kind m s n t)
-finds embeddings m s n t source target scratch e ask = found-embedding m s n t source target scratch ask
-finds isomorphisms m s n t source target scratch e ask =
-    let q = eqb-true m n e in
-    subst (λ (k : ℕ). Closed k t → searched s t (marked k (scratchAfter m k (candidate isomorphisms m s k t) scratch)) ask k m [] ≡ earliest ask (maps isomorphisms m s k t)) q
-    (λ target. found-isomorphism m s t source target scratch ask) target
+pub finds : (kind : Kind) (m : ℕ) (s : Product) (n : ℕ) (target : List ℕ) → Closed m s → Accepted n target → (scratch : List ℕ) → orderFits kind m n ≡ true → (ask : Ask)
+    → searched s (facing kind n target) (marked n (scratchAfter m n (candidate kind m s n (product n target)) scratch)) ask n m [] ≡ earliest ask (maps kind m s n (product n target))
+finds embeddings m s n target source b scratch e ask = found-embedding m s n (product n target) source (accepted-closed n target b) scratch ask
+finds isomorphisms m s n target source b scratch e ask =
+    subst (λ (k : ℕ). Accepted k target → searched s (product k target) (marked k (scratchAfter m k (candidate isomorphisms m s k (product k target)) scratch)) ask k m [] ≡ earliest ask (maps isomorphisms m s k (product k target))) (eqb-true m n e)
+    (λ b.
+    let t = product m target in
+    let closed = accepted-closed m target b in
+    found-isomorphism m s t source closed scratch (candidate isomorphisms m s m t) (profile-sound m s t source closed) ask) b
+finds reversed m s n target source b scratch e ask =
+    subst (λ (k : ℕ). Accepted k target → searched s (facing reversed k target) (marked k (scratchAfter m k (candidate reversed m s k (product k target)) scratch)) ask k m [] ≡ earliest ask (maps reversed m s k (product k target))) (eqb-true m n e)
+    (λ b. found-reversed m s target source b scratch ask) b
 
 -- ---- a call behind its questions
 
@@ -101,7 +122,7 @@ bounded-request : (later : Bool) (bytes : List ℕ) → bounded later bytes ≡ 
 bounded-request true bytes = refl
 bounded-request false bytes = refl
 
-module _ (kind : Kind) (later : Bool) (l : Lent) (source : Closed (l .m) (product (l .m) (l .source))) (target : Closed (l .n) (product (l .n) (l .target))) where
+module _ (kind : Kind) (later : Bool) (l : Lent) (source : Closed (l .m) (product (l .m) (l .source))) (target : Accepted (l .n) (l .target)) where
   abbrev request : Request
   request = requestOf later
 
@@ -111,12 +132,12 @@ module _ (kind : Kind) (later : Bool) (l : Lent) (source : Closed (l .m) (produc
 
   -- Else the map that the marked search finds is the map asked for.
   module _ (fits : orderFits kind (l .m) (l .n) ≡ true) (scratch : List ℕ) (filled : scratch ≡ scratchAfter (l .m) (l .n) (candidate kind (l .m) (product (l .m) (l .source)) (l .n) (product (l .n) (l .target))) (l .scratch)) (r : Found)
-      (finding : r ≡ foundIn (searched (product (l .m) (l .source)) (product (l .n) (l .target)) (marked (l .n) scratch) (bounded later (l .map)) (l .n) (l .m) [])) where
+      (finding : r ≡ foundIn (searched (product (l .m) (l .source)) (facing kind (l .n) (l .target)) (marked (l .n) scratch) (bounded later (l .map)) (l .n) (l .m) [])) where
     answer-found : r ≡ foundIn (answerOf kind request l)
     answer-found =
         finding
-        ∙ ap foundIn (ap₂ (λ (b : List ℕ) (q : Ask). searched (product (l .m) (l .source)) (product (l .n) (l .target)) (marked (l .n) b) q (l .n) (l .m) []) filled (bounded-request later (l .map))
-        ∙ finds kind (l .m) (product (l .m) (l .source)) (l .n) (product (l .n) (l .target)) source target (l .scratch) fits (askOf request (l .map)))
+        ∙ ap foundIn (ap₂ (λ (b : List ℕ) (q : Ask). searched (product (l .m) (l .source)) (facing kind (l .n) (l .target)) (marked (l .n) b) q (l .n) (l .m) []) filled (bounded-request later (l .map))
+        ∙ finds kind (l .m) (product (l .m) (l .source)) (l .n) (l .target) source target (l .scratch) fits (askOf request (l .map)))
 
     pub answer-none : r .ok ≡ false → answerOf kind request l ≡ none
     answer-none e = none-found (answerOf kind request l) (ap (λ (f : Found). f .ok) (sym answer-found) ∙ e)
@@ -130,7 +151,7 @@ module _ (kind : Kind) (later : Bool) (l : Lent) (source : Closed (l .m) (produc
         go (some f) q =
             let s = product (l .m) (l .source) in
             let t = product (l .n) (l .target) in
-            let long = map-embeds (l .m) s (l .n) t f kind (earliest-found kind (l .m) s (l .n) t (askOf request (l .map)) f q .has .0) .homomorphism .size in
+            let long = map-list (l .m) s (l .n) t f kind (earliest-found kind (l .m) s (l .n) t (askOf request (l .map)) f q .has .0) .size in
             ap some (sym (ap (λ (h : Found). take (l .m) (h .image)) (answer-found ∙ ap foundIn q) ∙ take-at f (replicate (120 - length f) 0) (l .m) long))
 
 -- ---- what is said and left

@@ -1,16 +1,17 @@
 -- What a search's answer means (01, "The questions"): what is said, and for each refusal the number, the side and the values.
 -- Assumes nothing.
 use mathlib.Core.Bool.{Bool, true, false}
-use mathlib.Core.List.{[]}
+use mathlib.Core.List.{List, []}
 use Prim.Native.Nat.{ℕ}
 use lib.Dec.{eqb, leb}
+use Rattle.semigroups.specs.Tables.{Product, product, turnedCells}
 use Rattle.semigroups.specs.Questions.{no, naming}
 use Rattle.semigroups.specs.Calls.{Answer, refused, gives}
 use Rattle.semigroups.specs.Maps as maps
 use Rattle.tables.specs.Answers.{faultRefusal, sideNumber}
 use Rattle.search.specs.Calls.{Request, theFirst, theNext}
 use Rattle.search.specs.declared.Kind.{Kind}
-use Rattle.search.specs.declared.Kind.the-variants.{Embeddings, Isomorphisms}
+use Rattle.search.specs.declared.Kind.the-variants.{Embeddings, Isomorphisms, Reversed}
 use Rattle.search.specs.declared.SearchAnswer.{SearchAnswer}
 use Rattle.search.specs.declared.SearchAnswer.the-variants.{Found, Nothing, Refused, MapLength, ScratchLength}
 
@@ -25,12 +26,20 @@ searchAnswerSays ScratchLength = refused (no 6 [])
 abbrev pub kindOf : Kind → maps.Kind
 kindOf Embeddings = maps.embeddings
 kindOf Isomorphisms = maps.isomorphisms
+kindOf Reversed = maps.reversed
 
 abbrev pub requestOf : Bool → Request
 requestOf true = theNext
 requestOf false = theFirst
 
--- Whether tables of orders m and n can have a map of the kind: m is at most n for embeddings, and equal for isomorphisms (01, "Maps").
+-- Whether tables of orders m and n can have a map of the kind: m is at most n for embeddings, and equal for isomorphisms and reversed ones (01, "Maps").
 abbrev pub orderFits : maps.Kind → ℕ → ℕ → Bool
 orderFits maps.embeddings m n = leb m n
 orderFits maps.isomorphisms m n = eqb m n
+orderFits maps.reversed m n = eqb m n
+
+-- The product that a search of the kind meets in the target: for reversed maps that of the table with rows and columns exchanged.
+abbrev pub facing : maps.Kind → ℕ → List ℕ → Product
+facing maps.embeddings n cells = product n cells
+facing maps.isomorphisms n cells = product n cells
+facing maps.reversed n cells = product n (turnedCells n cells)

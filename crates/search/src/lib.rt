@@ -1,15 +1,20 @@
-// The first embedding or isomorphism of a source table in a target table, and the next one after the bytes of the map buffer. The caller lends the
-// cells, the orders and both buffers; anything may be handed over. A refusal changes no lent byte, and "nothing" changes no byte of the map.
+// The first embedding, isomorphism or reversed isomorphism of a source table in a target table, and the next one after the bytes of the map buffer. The
+// caller lends the cells, the orders and both buffers; anything may be handed over. A refusal changes no lent byte, and "nothing" changes no byte of the
+// map. A reversed isomorphism is searched as an isomorphism onto the target with rows and columns exchanged.
 ghost use mathlib.Core.Path.{_≡_};
+ghost use mathlib.Core.List.{[]};
 ghost use Prim.Native.Nat.{_≤_};
 ghost use lib.ListN.{length, take};
 ghost use Rattle.semigroups.specs.Tables.{product, Accepted};
-ghost use Rattle.semigroups.specs.Scratch.{scratchSize};
+ghost use Rattle.semigroups.specs.Scratch.{scratchSize, marked};
 ghost use Rattle.semigroups.specs.Calls.{scratchAfter};
-ghost use Rattle.semigroups.specs.Maps.{embeddings, isomorphisms};
+ghost use Rattle.semigroups.specs.Maps.{embeddings, isomorphisms, reversed};
 ghost use Rattle.semigroups.specs.Candidates.{candidate};
+ghost use Rattle.semigroups.specs.Search.{search as searched};
+ghost use Rattle.backtrack.specs.State.{foundIn, bounded};
 ghost use Rattle.search.specs.Calls.{theFirst, theNext, lend, call};
-ghost use Rattle.search.specs.Answers.{searchAnswerSays, kindOf, requestOf, orderFits};
+ghost use Rattle.search.specs.Answers.{searchAnswerSays, kindOf, requestOf, orderFits, facing};
+use backtrack::Found;
 use tables::Fault;
 use tables::PairVerdict;
 use tables::Side;
@@ -18,6 +23,7 @@ use tables::Side;
 pub enum Kind {
     Embeddings,
     Isomorphisms,
+    Reversed,
 }
 
 // The map is found; there is none; or the earliest failed question: one of a table's four with the table's side, 5, or 6.
@@ -36,7 +42,20 @@ pub fn order_fits(kind: Kind, m: usize, n: usize) -> bool
     match kind {
         Kind::Embeddings => m <= n,
         Kind::Isomorphisms => m == n,
+        Kind::Reversed => m == n,
     }
+}
+
+// Marks the candidates of reversed isomorphisms in scratch: those of isomorphisms onto the turned target.
+fn fill_reversed(source: &[u8], m: usize, target: &[u8], n: usize, scratch: &mut [u8])
+    requires { ⌜ Accepted m (now source) × Accepted n (now target) ⌝ }
+    requires { ⌜ scratchSize m n ≤ length (now scratch) ⌝ }
+    ensures scratch { λ _. ⌜ now (scratch .exit) ≡ scratchAfter m n (candidate reversed m (product m (now (source .entry))) n (product n (now (target .entry)))) (now (scratch .entry)) ⌝ }
+{
+    let mut turned = [0u8; 14400];
+    let size = n * n;
+    tables::turn(target, n, &mut turned);
+    candidates::fill_isomorphisms(source, m, &turned[..size], n, scratch);
 }
 
 // Marks the candidates of the kind in scratch.
@@ -48,6 +67,49 @@ pub fn fill(kind: Kind, source: &[u8], m: usize, target: &[u8], n: usize, scratc
     match kind {
         Kind::Embeddings => candidates::fill_embeddings(source, m, target, n, scratch),
         Kind::Isomorphisms => candidates::fill_isomorphisms(source, m, target, n, scratch),
+        Kind::Reversed => fill_reversed(source, m, target, n, scratch),
+    }
+}
+
+// The marked search on the turned target.
+fn find_turned(
+    source: &[u8],
+    m: usize,
+    target: &[u8],
+    n: usize,
+    scratch: &[u8],
+    after: &[u8],
+    next: bool,
+) -> Found
+    requires { ⌜ Accepted m (now source) × Accepted n (now target) ⌝ }
+    requires { ⌜ (scratchSize m n ≤ length (now scratch)) × (length (now after) ≡ m) ⌝ }
+    ensures answer { λ r. ⌜ r ≡ foundIn (searched (product m (now (source .entry))) (facing reversed n (now (target .entry))) (marked n (now (scratch .entry))) (bounded next (now (after .entry))) n m []) ⌝ }
+{
+    let mut turned = [0u8; 14400];
+    let size = n * n;
+    tables::turn(target, n, &mut turned);
+    backtrack::find(source, m, &turned[..size], n, scratch, after, next)
+}
+
+// The marked search: on the target as it came, or turned.
+fn find(
+    kind: Kind,
+    source: &[u8],
+    m: usize,
+    target: &[u8],
+    n: usize,
+    scratch: &[u8],
+    after: &[u8],
+    next: bool,
+) -> Found
+    requires { ⌜ Accepted m (now source) × Accepted n (now target) ⌝ }
+    requires { ⌜ (scratchSize m n ≤ length (now scratch)) × (length (now after) ≡ m) ⌝ }
+    ensures answer { λ r. ⌜ r ≡ foundIn (searched (product m (now (source .entry))) (facing (kindOf kind) n (now (target .entry))) (marked n (now (scratch .entry))) (bounded next (now (after .entry))) n m []) ⌝ }
+{
+    match kind {
+        Kind::Embeddings => backtrack::find(source, m, target, n, scratch, after, next),
+        Kind::Isomorphisms => backtrack::find(source, m, target, n, scratch, after, next),
+        Kind::Reversed => find_turned(source, m, target, n, scratch, after, next),
     }
 }
 
@@ -84,7 +146,7 @@ fn answer(
     if !order_fits(kind, m, n) {
         return SearchAnswer::Nothing;
     }
-    let result = backtrack::find(source, m, target, n, &*scratch, &*map, next);
+    let result = find(kind, source, m, target, n, &*scratch, &*map, next);
     if !result.ok {
         return SearchAnswer::Nothing;
     }
@@ -192,4 +254,36 @@ pub fn next_isomorphism(
     ensures scratch { λ _. ⌜ now (scratch .exit) ≡ call isomorphisms theNext (lend (now (source .entry)) m (now (target .entry)) n (now (map .entry)) (now (scratch .entry))) .scratch ⌝ }
 {
     search(Kind::Isomorphisms, true, source, m, target, n, map, scratch)
+}
+
+// The earliest reversed isomorphism of the source onto the target, written to `map`; or nothing; or the earliest question that fails.
+pub fn first_reversed_isomorphism(
+    source: &[u8],
+    m: usize,
+    target: &[u8],
+    n: usize,
+    map: &mut [u8],
+    scratch: &mut [u8],
+) -> SearchAnswer
+    ensures answer { λ r. ⌜ searchAnswerSays r ≡ call reversed theFirst (lend (now (source .entry)) m (now (target .entry)) n (now (map .entry)) (now (scratch .entry))) .says ⌝ }
+    ensures map { λ _. ⌜ now (map .exit) ≡ call reversed theFirst (lend (now (source .entry)) m (now (target .entry)) n (now (map .entry)) (now (scratch .entry))) .map ⌝ }
+    ensures scratch { λ _. ⌜ now (scratch .exit) ≡ call reversed theFirst (lend (now (source .entry)) m (now (target .entry)) n (now (map .entry)) (now (scratch .entry))) .scratch ⌝ }
+{
+    search(Kind::Reversed, false, source, m, target, n, map, scratch)
+}
+
+// The earliest reversed isomorphism of the source onto the target that is later than the bytes of `map`, written to `map`; or nothing; or the earliest question that fails.
+pub fn next_reversed_isomorphism(
+    source: &[u8],
+    m: usize,
+    target: &[u8],
+    n: usize,
+    map: &mut [u8],
+    scratch: &mut [u8],
+) -> SearchAnswer
+    ensures answer { λ r. ⌜ searchAnswerSays r ≡ call reversed theNext (lend (now (source .entry)) m (now (target .entry)) n (now (map .entry)) (now (scratch .entry))) .says ⌝ }
+    ensures map { λ _. ⌜ now (map .exit) ≡ call reversed theNext (lend (now (source .entry)) m (now (target .entry)) n (now (map .entry)) (now (scratch .entry))) .map ⌝ }
+    ensures scratch { λ _. ⌜ now (scratch .exit) ≡ call reversed theNext (lend (now (source .entry)) m (now (target .entry)) n (now (map .entry)) (now (scratch .entry))) .scratch ⌝ }
+{
+    search(Kind::Reversed, true, source, m, target, n, map, scratch)
 }

@@ -6,16 +6,17 @@ use mathlib.Core.Logic.{_↔_}
 use mathlib.Core.Option.{Option, none, some}
 use mathlib.Core.List.{List, [], _∷_, List·Memᴰ, List·Memᴰ·head}
 use Prim.Native.Nat.{ℕ, _-_, _≤_, _<_}
+use native.Mathlib.Nat.{le-antisymm}
 use native.Mathlib.Omega.{arith}
 use borrow.Author.Tests.{eqb-true, eq-eqb}
 use lib.Dec.{eqb}
 use lib.ListN.{length}
 use Rattle.semigroups.specs.Lists.{elements, at, all, distinct, earlier, lists, Increasing, Earliest}
-use Rattle.semigroups.specs.Tables.{Product, Element, IsList, isElement}
-use Rattle.semigroups.specs.Maps.{Homomorphism, Embedding, Isomorphism, isHomomorphism, isEmbedding, isIsomorphism, Kind, embeddings, isomorphisms, IsMap, isMap, maps, Ask, first, next, beyond, earliest}
+use Rattle.semigroups.specs.Tables.{Product, Element, IsList, isElement, turned}
+use Rattle.semigroups.specs.Maps.{Homomorphism, Embedding, Isomorphism, isHomomorphism, isEmbedding, isIsomorphism, Kind, embeddings, isomorphisms, IsMap, isMap, maps, Ask, first, next, beyond, earliest, ReversedIsomorphism, reversed}
 use Rattle.semigroups.proofs.Booleans.{clash, same-truth, both, and-left, and-right}
 use Rattle.semigroups.proofs.Lists.{all-at, all-of, pairs-at, pairs-of, is-element, element-is, find-some, find-none, find-first, keep-same, mem-keep, keep-mem, sorted-keep}
-use Rattle.semigroups.proofs.NoRepeats.{distinct-places, distinct-of, one-to-one, one-to-one-no-repeats, within-mem, no-more, place-mem}
+use Rattle.semigroups.proofs.NoRepeats.{distinct-places, distinct-of, one-to-one, one-to-one-no-repeats, within-mem, no-more, no-fewer, onto, place-mem}
 use Rattle.semigroups.proofs.ListOrder.{lists-increasing, lists-mem, earliest-unique}
 
 -- ---- tests and plain statements
@@ -65,21 +66,56 @@ module _ (m : ℕ) (s : Product) (n : ℕ) (t : Product) (f : List ℕ) where
   unfolding isIsomorphism
   isomorphism-is h = both (eqb m n) (isEmbedding m s n t f) (eq-eqb m n (h .same-order)) (embedding-is (h .embedding))
 
+module _ (m : ℕ) (s : Product) (n : ℕ) (t : Product) (f : List ℕ) where
+  -- One to one and onto: the orders are equal.
+  pub reversed-order : ReversedIsomorphism m s n t f → m ≡ n
+  reversed-order h = le-antisymm (no-more m n f (h .size) (h .within) (h .one-to-one)) (no-fewer m n f (h .size) (h .onto))
+
+  -- A reversed isomorphism is an isomorphism onto the turned product, and the other way round.
+  pub reversed-isomorphism : ReversedIsomorphism m s n t f → Isomorphism m s n (turned t) f
+  reversed-isomorphism h =
+      record {
+        same-order = reversed-order h;
+        embedding = record {
+          homomorphism = record { size = h .size; within = h .within; keeps-product = h .reverses-product };
+          one-to-one = h .one-to-one;
+        };
+      }
+
+  pub isomorphism-reversed : Isomorphism m s n (turned t) f → ReversedIsomorphism m s n t f
+  isomorphism-reversed h =
+      let e = h .same-order in
+      let w = h .embedding .homomorphism in
+      let o = h .embedding .one-to-one in
+      record {
+        size = w .size;
+        within = w .within;
+        one-to-one = o;
+        onto = λ v hv.
+            let p = onto n f (w .size ∙ e) (λ i k. w .within i (omega arith)) (λ i j hi hj q. o i j (omega arith) (omega arith) q) v hv in
+            let p1 = p .1 in
+            (p .0, omega arith, p .2);
+        reverses-product = w .keeps-product;
+      }
+
   pub is-map : (kind : Kind) → isMap kind m s n t f ≡ true → IsMap kind m s n t f
-  is-map embeddings e = is-embedding e
-  is-map isomorphisms e = is-isomorphism e
+  is-map embeddings e = is-embedding m s n t f e
+  is-map isomorphisms e = is-isomorphism m s n t f e
+  is-map reversed e = isomorphism-reversed (is-isomorphism m s n (turned t) f e)
 
   pub map-is : (kind : Kind) → IsMap kind m s n t f → isMap kind m s n t f ≡ true
-  map-is embeddings h = embedding-is h
-  map-is isomorphisms h = isomorphism-is h
+  map-is embeddings h = embedding-is m s n t f h
+  map-is isomorphisms h = isomorphism-is m s n t f h
+  map-is reversed h = isomorphism-is m s n (turned t) f (reversed-isomorphism h)
 
-  -- A map of either kind is an embedding, and a list of m elements.
-  pub map-embeds : (kind : Kind) → IsMap kind m s n t f → Embedding m s n t f
-  map-embeds embeddings h = h
-  map-embeds isomorphisms h = h .embedding
-
+  -- A map of any kind is a list of m elements.
   pub embedding-list : Embedding m s n t f → IsList m n f
   embedding-list h = let w = h .homomorphism in record { size = w .size; entries = within-mem m n f (w .size) (w .within) }
+
+  pub map-list : (kind : Kind) → IsMap kind m s n t f → IsList m n f
+  map-list embeddings h = embedding-list h
+  map-list isomorphisms h = embedding-list (h .embedding)
+  map-list reversed h = record { size = h .size; entries = within-mem m n f (h .size) (h .within) }
 
 -- ---- the full lists
 
@@ -94,7 +130,7 @@ module _ (kind : Kind) (m : ℕ) (s : Product) (n : ℕ) (t : Product) where
 
   pub maps-mem : (f : List ℕ) → IsMap kind m s n t f → List·Memᴰ f (maps kind m s n t)
   unfolding maps
-  maps-mem f h = keep-mem (isMap kind m s n t) (lists m n) f (lists-mem m n f (embedding-list m s n t f (map-embeds m s n t f kind h))) (map-is m s n t f kind h)
+  maps-mem f h = keep-mem (isMap kind m s n t) (lists m n) f (lists-mem m n f (map-list m s n t f kind h)) (map-is m s n t f kind h)
 
   -- The full list holds exactly the maps of its kind.
   pub maps-exactly : (f : List ℕ) → List·Memᴰ f (maps kind m s n t) ↔ IsMap kind m s n t f

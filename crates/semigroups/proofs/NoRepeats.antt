@@ -10,7 +10,7 @@ use lib.ListN.{length, getD, length-map}
 use Rattle.semigroups.specs.Lists.{range, elements, at, sum, member, distinct, Sorted, NoRepeats}
 use Rattle.semigroups.specs.Tables.{Element}
 use Rattle.semigroups.proofs.Booleans.{both, and-left, and-right, not-of-false, trichotomy}
-use Rattle.semigroups.proofs.Lists.{length-range, getD-range, length-elements, elements-mem, at-suc, getD-map, sorted-range, sorted-weaken, not-member, unmember, mem-or-not}
+use Rattle.semigroups.proofs.Lists.{length-range, getD-range, length-elements, mem-elements, elements-mem, at-suc, getD-map, sorted-range, sorted-weaken, not-member, unmember, mem-or-not}
 
 module _ {A : Type 0} where
   -- The list without the one entry that a membership points at.
@@ -142,6 +142,17 @@ within-mem m n f e w x k =
 pub no-more : (m n : ℕ) (f : List ℕ) → length f ≡ m → Within m n f → OneToOne m f → m ≤ n
 no-more m n f e w o =
     let l = length-inside f (elements n) (one-to-one-no-repeats m f e o) (λ x k. elements-mem n x (within-mem m n f e w x k)) in
+    omega (arith, length-elements n)
+
+-- m entries that hold all of 1 to n: n is at most m.
+pub no-fewer : (m n : ℕ) (f : List ℕ) → length f ≡ m → ((v : ℕ) → Element n v → (i : ℕ) × Element m i × (at f i ≡ v)) → n ≤ m
+unfolding at
+no-fewer m n f e o =
+    let l = length-inside (elements n) f (elements-no-repeats n)
+    (λ v k.
+    let p = o v (mem-elements n v k) in
+    let p1 = p .1 in
+    Memᴰ·cast (sym (p .2)) (place-mem 0 f (p .0 - 1) (omega arith))) in
     omega (arith, length-elements n)
 
 -- n different entries from 1 to n are all of them.

@@ -1,14 +1,14 @@
 -- The part of a table that a list generates: its table is accepted where the whole is, and its elements embed it. Assumes nothing.
-use mathlib.Core.Path.{_≡_, refl, sym, ap, _∙_, subst}
+use mathlib.Core.Path.{_≡_, refl, sym, ap, _∙_}
 use mathlib.Core.Bool.{Bool, true, false, _&&_}
 use mathlib.Core.Logic.{_↔_}
 use mathlib.Core.Option.{none, some, orElse}
-use mathlib.Core.List.{List, [], _∷_, map, flatMap, List·Memᴰ, List·Memᴰ·head, List·Memᴰ·not-nil, Memᴰ·of-map}
+use mathlib.Core.List.{List, [], _∷_, flatMap, List·Memᴰ, List·Memᴰ·head, List·Memᴰ·not-nil}
 use Prim.Native.Nat.{ℕ, suc, _-_, _*_, _≤_, _<_}
 use native.Mathlib.Omega.{arith}
 use borrow.Author.Tests.{eqb-true, eq-eqb, leb-true, le-leb, lt-leb}
 use lib.Dec.{eqb, leb}
-use lib.ListN.{length, getD}
+use lib.ListN.{length}
 use Rattle.semigroups.specs.Lists.{range, elements, at, all, find, firstOf, keep, least, member, lists, NoRepeats}
 use Rattle.semigroups.specs.Tables.{Product, product, grid, Element, Closed, Associative, Accepted, isElement, associates, badCell, badTriple}
 use Rattle.semigroups.specs.Questions.{Question, ask, Refusal, no, firstNo, tableQuestions, tableRefusal}
@@ -16,34 +16,12 @@ use Rattle.semigroups.specs.Maps.{Embedding}
 use Rattle.semigroups.specs.Generated.{Inside, setOf, products, grown, generated}
 use Rattle.semigroups.specs.Subsemigroups.{numberIn, renumbered, partCells, subsemigroupRefusal, SubsemigroupPasses, SubsemigroupTheorem, SubsemigroupExamples}
 use Rattle.semigroups.proofs.Booleans.{untrue, both, and-left, and-right}
-use Rattle.semigroups.proofs.Lists.{length-elements, mem-elements, elements-mem, at-suc, least-first, all-at, all-of, is-element, element-is}
-use Rattle.semigroups.proofs.FlatMap.{mem-flatMap}
+use Rattle.semigroups.proofs.Lists.{length-elements, elements-mem, at-suc, least-first, all-at, all-of, is-element, element-is}
 use Rattle.semigroups.proofs.NoRepeats.{length-inside, one-to-one, mem-place, place-mem}
-use Rattle.semigroups.proofs.Tables.{length-grid, product-grid, accepted-closed}
+use Rattle.semigroups.proofs.Tables.{product-grid, grid-accepted, accepted-closed}
 use Rattle.semigroups.proofs.Questions.{failed-before, passed-before}
 use Rattle.semigroups.proofs.Passing.{asked, room-asked, joined, table-passes}
 use Rattle.semigroups.proofs.Generated.{ClosedList, generated-inside, generated-rising, generated-no-repeats, generated-closed, generated-holds, generated-smallest}
-
--- ---- the table of a product
-
-grid-element : (n : ℕ) (s : Product) → Closed n s → (x : ℕ) → List·Memᴰ x (grid n n s) → Element n x
-unfolding grid
-grid-element n s c x m =
-    let w = mem-flatMap (λ i. map (s i) (elements n)) (elements n) x m in
-    let v = Memᴰ·of-map (s (w .0)) (elements n) (w .2) in
-    subst (Element n) (v .2) (c (w .0) (v .0) (mem-elements n (w .0) (w .1)) (mem-elements n (v .0) (v .1)))
-
--- The table with the cells of a product that stays within the order and associates is accepted.
-grid-accepted : (n : ℕ) (s : Product) → Element 120 n → Closed n s → Associative n s → Accepted n (grid n n s)
-grid-accepted n s h c a =
-    let table : (i j : ℕ) → Element n i → Element n j → product n (grid n n s) i j ≡ s i j = product-grid n s in
-    let q = product n (grid n n s) in
-    record {
-      filled = record { order = h; size = length-grid n n s; in-range = λ k u. grid-element n s c (getD (grid n n s) k 0) (place-mem 0 (grid n n s) k u) };
-      associative = λ i j k hi hj hk.
-          ap (λ (x : ℕ). q x k) (table i j hi hj) ∙ table (s i j) k (c i j hi hj) hk ∙ a i j k hi hj hk
-          ∙ sym (table i (s j k) hi (c j k hj hk)) ∙ ap (q i) (sym (table j k hj hk));
-    }
 
 -- ---- the entries of a list by their numbers
 

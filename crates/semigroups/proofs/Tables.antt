@@ -4,7 +4,7 @@ use mathlib.Core.Path.{_≡_, refl, sym, ap, ap₂, _∙_, subst}
 use mathlib.Core.Bool.{Bool, true, false, not}
 use mathlib.Core.Logic.{_⊎_, inl, inr, ⊎-elim, _↔_}
 use mathlib.Core.Option.{Option, none, some, orElse, map-eq-none-iff, Option·none-ne-some}
-use mathlib.Core.List.{List, [], _∷_, map, List·Memᴰ·not-nil, List·Memᴰ·cases-cons}
+use mathlib.Core.List.{List, [], _∷_, map, List·Memᴰ·not-nil, List·Memᴰ·cases-cons, List·Memᴰ, Memᴰ·of-map}
 use Prim.Native.Nat.{ℕ, suc, _+_, _-_, _*_, _/_, _%_, _≤_, _<_}
 use native.Mathlib.Nat.{mul-le-mul-right, suc-mul, div-add-mod', mod-lt, div-lt-iff-lt-mul}
 use native.Mathlib.Omega.{arith}
@@ -15,8 +15,8 @@ use Rattle.semigroups.specs.Lists.{range, elements, at, firstOf, lists, 
 use Rattle.semigroups.specs.Tables.{Product, product, grid, Element, IsList, Closed, Associative, FailingTriple, Filled, Accepted, isElement, associates, badCell, badTriple, cellPlace}
 use Rattle.semigroups.specs.Questions.{Refusal, no, cellsQuestions, tripleQuestion, cellsRefusal, tableRefusal, Refused, wrong-order, wrong-size, wrong-cell, wrong-triple}
 use Rattle.semigroups.proofs.Booleans.{either, clash, untrue, not-of-true, not-of-false, equal-or-not, trichotomy}
-use Rattle.semigroups.proofs.Lists.{length-elements, getD-map, mem-range, range-mem, sorted-range, at-suc, at-elements, is-element, element-is, find-some, find-none, none-find, find-first}
-use Rattle.semigroups.proofs.FlatMap.{length-flatMap, getD-flatMap}
+use Rattle.semigroups.proofs.Lists.{length-elements, mem-elements, getD-map, mem-range, range-mem, sorted-range, at-suc, at-elements, is-element, element-is, find-some, find-none, none-find, find-first}
+use Rattle.semigroups.proofs.FlatMap.{mem-flatMap, length-flatMap, getD-flatMap}
 use Rattle.semigroups.proofs.NoRepeats.{place-mem}
 use Rattle.semigroups.proofs.ListOrder.{mem-lists, find-earliest, find-nowhere, earliest-unique}
 use Rattle.semigroups.proofs.Questions.{ask-passed, all-passed, both-passed}
@@ -68,6 +68,25 @@ product-element n cells e h i j hi hj = h (cellPlace n i j) (let b = place-below
 
 pub accepted-closed : (n : ℕ) (cells : List ℕ) → Accepted n cells → Closed n (product n cells)
 accepted-closed n cells a = product-element n cells (a .filled .size) (a .filled .in-range)
+
+grid-element : (n : ℕ) (s : Product) → Closed n s → (x : ℕ) → List·Memᴰ x (grid n n s) → Element n x
+unfolding grid
+grid-element n s c x m =
+    let w = mem-flatMap (λ i. map (s i) (elements n)) (elements n) x m in
+    let v = Memᴰ·of-map (s (w .0)) (elements n) (w .2) in
+    subst (Element n) (v .2) (c (w .0) (v .0) (mem-elements n (w .0) (w .1)) (mem-elements n (v .0) (v .1)))
+
+-- The table with the cells of a product that stays within the order and associates is accepted.
+pub grid-accepted : (n : ℕ) (s : Product) → Element 120 n → Closed n s → Associative n s → Accepted n (grid n n s)
+grid-accepted n s h c a =
+    let table : (i j : ℕ) → Element n i → Element n j → product n (grid n n s) i j ≡ s i j = product-grid n s in
+    let q = product n (grid n n s) in
+    record {
+      filled = record { order = h; size = length-grid n n s; in-range = λ k u. grid-element n s c (getD (grid n n s) k 0) (place-mem 0 (grid n n s) k u) };
+      associative = λ i j k hi hj hk.
+          ap (λ (x : ℕ). q x k) (table i j hi hj) ∙ table (s i j) k (c i j hi hj) hk ∙ a i j k hi hj hk
+          ∙ sym (table i (s j k) hi (c j k hj hk)) ∙ ap (q i) (sym (table j k hj hk));
+    }
 
 -- ---- question 3
 

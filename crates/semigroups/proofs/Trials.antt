@@ -1,15 +1,16 @@
--- The counted search finds what the search finds, and depends on the candidates within the two tables only; a limit stops it exactly if it needs more
+-- The counted search finds what the search finds, and depends on the candidates and products within the two tables only; a limit stops it exactly if it needs more
 -- trials. Assumes nothing.
-use mathlib.Core.Path.{_≡_, refl, sym, ap, ap₂, _∙_}
+use mathlib.Core.Path.{_≡_, refl, sym, ap, ap₂, _∙_, subst}
 use mathlib.Core.Bool.{Bool, true, false, _&&_, not, cond}
-use mathlib.Core.List.{List, [], _∷_, _++_, flatMap, List·Memᴰ, List·Memᴰ·head, List·Memᴰ·tail}
+use mathlib.Core.Logic.{⊎-elim}
+use mathlib.Core.List.{List, [], _∷_, _++_, flatMap, List·Memᴰ, List·Memᴰ·head, List·Memᴰ·tail, List·Memᴰ·eq-of-singleton, List·Memᴰ·append-cases}
 use mathlib.Core.Option.{Option, none, some, orElse}
 use Prim.Native.Nat.{ℕ, zero, suc, _+_, _-_, _≤_, _<_}
 use native.Mathlib.Nat.{add-sub-cancel}
 use native.Mathlib.Numerals.{add-one}
 use native.Mathlib.Omega.{arith}
 use borrow.Author.Tests.{leb-true, le-leb, lt-leb}
-use lib.Dec.{leb}
+use lib.Dec.{eqb, leb}
 use lib.ListN.{length}
 use Rattle.semigroups.specs.Lists.{range, elements, at, all, find, firstOf, sum, count, least, member, earlier, lists}
 use Rattle.semigroups.specs.Tables.{Product, Element, product, grid}
@@ -20,7 +21,9 @@ use Rattle.semigroups.specs.Search.{notBefore, fits, passes, admits, sea
 use Rattle.semigroups.specs.Transformations.{transformations, transformationOrder, transformation, numberOf, transformationProduct, transformationCells}
 use Rattle.semigroups.specs.Cases.{two}
 use Rattle.semigroups.specs.Trials.{Work, work, followed, andThen, inTurn, tried, workAt, counted, stopped, ended, limited, foundWithin, TrialsExamples}
-use Rattle.semigroups.proofs.Lists.{mem-elements, length-snoc}
+use Rattle.semigroups.proofs.Booleans.{same-truth}
+use Rattle.semigroups.proofs.Lists.{mem-elements, length-snoc, pairs-at, pairs-of}
+use Rattle.semigroups.proofs.NoRepeats.{place-mem}
 
 -- ---- works in turn
 
@@ -97,6 +100,37 @@ counted-same s t m n c k same ask (suc d) p e =
     at-entry x behind q =
         unfold workAt tried in
         ap {B = Work} (λ (b : Bool). cond (b && (not (member x p) && notBefore ask (p ++ x ∷ []))) (andThen (work none 1) (cond (passes s t (p ++ x ∷ [])) behind (work none 0))) (work none 0)) q
+
+-- Products that agree on the elements of the target make one search.
+module _ (s t t′ : Product) (n : ℕ) (agree : (i j : ℕ) → Element n i → Element n j → t i j ≡ t′ i j) where
+  abbrev Inside : List ℕ → Type 0
+  Inside p = (x : ℕ) → List·Memᴰ x p → Element n x
+
+  passes-agrees : (p : List ℕ) → Inside p → passes s t p ≡ passes s t′ p
+  unfolding passes fits at
+  passes-agrees p h =
+      same-truth (passes s t p) (passes s t′ p)
+      (λ e. pairs-of (length p) (fits s t′ p) (λ i j hi hj. sym (pair i j hi hj) ∙ pairs-at (length p) (fits s t p) e i j hi hj))
+      (λ e. pairs-of (length p) (fits s t p) (λ i j hi hj. pair i j hi hj ∙ pairs-at (length p) (fits s t′ p) e i j hi hj))
+    where
+      image : (i : ℕ) → Element (length p) i → Element n (at p i)
+      image i hi = h (at p i) (place-mem 0 p (i - 1) (omega arith))
+
+      pair : (i j : ℕ) → Element (length p) i → Element (length p) j → fits s t p i j ≡ fits s t′ p i j
+      pair i j hi hj = ap (λ (x : ℕ). cond (leb (s i j) (length p)) (eqb (at p (s i j)) x) (not (member x p))) (agree (at p i) (at p j) (image i hi) (image j hj))
+
+  pub counted-agrees : (c : ℕ → ℕ → Bool) (ask : Ask) (d : ℕ) (p : List ℕ) → Inside p → counted s t c ask n d p ≡ counted s t′ c ask n d p
+  unfolding counted
+  counted-agrees c ask zero p h = refl
+  counted-agrees c ask (suc d) p h =
+      turns-same (λ x. workAt s t c ask p x (counted s t c ask n d (p ++ x ∷ []))) (λ x. workAt s t′ c ask p x (counted s t′ c ask n d (p ++ x ∷ []))) (elements n) (λ x k.
+      let longer : Inside (p ++ x ∷ []) = (λ y m. ⊎-elim (h y) (λ z. subst (Element n) (sym (List·Memᴰ·eq-of-singleton z)) (mem-elements n x k)) (List·Memᴰ·append-cases p m)) in
+      at-entry x (counted s t c ask n d (p ++ x ∷ [])) (passes-agrees (p ++ x ∷ []) longer) ∙ ap (workAt s t′ c ask p x) (counted-agrees c ask d (p ++ x ∷ []) longer))
+    where
+      at-entry : (x : ℕ) (behind : Work) → passes s t (p ++ x ∷ []) ≡ passes s t′ (p ++ x ∷ []) → workAt s t c ask p x behind ≡ workAt s t′ c ask p x behind
+      at-entry x behind q =
+          unfold workAt tried in
+          ap {B = Work} (λ (b : Bool). cond (c (suc (length p)) x && (not (member x p) && notBefore ask (p ++ x ∷ []))) (andThen (work none 1) (cond b behind (work none 0))) (work none 0)) q
 
 -- ---- a limit
 

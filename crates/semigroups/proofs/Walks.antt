@@ -11,16 +11,16 @@ use borrow.Author.Tests.{leb-true, leb-false}
 use lib.Dec.{leb}
 use lib.ListN.{length, getD, replicate, length-replicate}
 use Rattle.semigroups.specs.Lists.{find, earlier, Increasing}
-use Rattle.semigroups.specs.Tables.{Product, Element}
-use Rattle.semigroups.specs.Maps.{Embedding, Kind, maps, next, earliest, found, nothing, sought}
+use Rattle.semigroups.specs.Tables.{Product, Element, IsList}
+use Rattle.semigroups.specs.Maps.{Kind, maps, next, earliest, found, nothing, sought}
 use Rattle.semigroups.specs.Questions.{Refusal}
 use Rattle.semigroups.specs.Calls.{gives, mapUnless}
 use Rattle.semigroups.specs.Walks.{Outcome, held, nextOutcome, counted, claimed, walk, claim, answered, finally}
 use Rattle.semigroups.proofs.Booleans.{trichotomy}
-use Rattle.semigroups.proofs.Lists.{at-suc, none-find}
+use Rattle.semigroups.proofs.Lists.{none-find}
 use Rattle.semigroups.proofs.NoRepeats.{mem-place, place-mem, sorted-places}
 use Rattle.semigroups.proofs.ListOrder.{earlier-head, earlier-irreflexive, earlier-asymmetric}
-use Rattle.semigroups.proofs.Maps.{maps-increasing, mem-maps, map-embeds}
+use Rattle.semigroups.proofs.Maps.{maps-increasing, mem-maps, map-list}
 
 -- ---- what the buffer holds
 
@@ -127,15 +127,15 @@ claim-finally refusal z l (c ∷ cs) k = claim-finally refusal z l cs (counted k
 
 -- ---- the full lists
 
--- Zeros are earlier than every embedding of a table of order 1 or more.
-pub zeros-earlier : (m : ℕ) (s : Product) (n : ℕ) (t : Product) (f : List ℕ) → 1 ≤ m → Embedding m s n t f → earlier (replicate m 0) f ≡ true
-zeros-earlier zero s n t f h e = absurd (let y : ⊥ = omega arith in y)
-zeros-earlier (suc m) s n t [] h e = absurd (let w = e .homomorphism .size in let y : ⊥ = omega arith in y)
-zeros-earlier (suc m) s n t (x ∷ f) h e = earlier-head 0 (replicate m 0) x f (let w = e .homomorphism .within 1 (omega arith) in let q = at-suc (x ∷ f) 0 in omega arith)
+-- Zeros are earlier than every list of one or more elements.
+pub zeros-earlier : (m n : ℕ) (f : List ℕ) → 1 ≤ m → IsList m n f → earlier (replicate m 0) f ≡ true
+zeros-earlier zero n f h e = absurd (let y : ⊥ = omega arith in y)
+zeros-earlier (suc m) n [] h e = absurd (let w = e .size in let y : ⊥ = omega arith in y)
+zeros-earlier (suc m) n (x ∷ f) h e = earlier-head 0 (replicate m 0) x f (let w = e .entries x (List·Memᴰ·head refl) in omega arith)
 
 module _ (kind : Kind) (m : ℕ) (s : Product) (n : ℕ) (t : Product) (h : 1 ≤ m) where
-  embeds : (f : List ℕ) → List·Memᴰ f (maps kind m s n t) → Embedding m s n t f
-  embeds f k = map-embeds m s n t f kind (mem-maps kind m s n t f k)
+  listed : (f : List ℕ) → List·Memᴰ f (maps kind m s n t) → IsList m n f
+  listed f k = map-list m s n t f kind (mem-maps kind m s n t f k)
 
   -- One claim about a whole walk on a buffer of zeros, for calls that answer as "next" is defined or are refused.
   pub walks : {C : Type 0} (call : C → List ℕ → Outcome) (refusal : C → Option Refusal) (cs : List C)
@@ -144,9 +144,9 @@ module _ (kind : Kind) (m : ℕ) (s : Product) (n : ℕ) (t : Product) (h : 1 �
   walks call refusal cs g =
       let l = maps kind m s n t in
       let long = length-replicate {A = ℕ} m 0 in
-      let sorted : Increasing (replicate m 0 ∷ l) = ((λ f k. zeros-earlier m s n t f h (embeds f k)), maps-increasing kind m s n t) in
+      let sorted : Increasing (replicate m 0 ∷ l) = ((λ f k. zeros-earlier m n f h (listed f k)), maps-increasing kind m s n t) in
       ap (walk call cs) (sym (held-start (replicate m 0) l))
-      ∙ walk-from (replicate m 0) l sorted call refusal (λ f k. embeds f k .homomorphism .size ∙ sym long) cs (λ c k b e. g c k b (e ∙ long)) 0
+      ∙ walk-from (replicate m 0) l sorted call refusal (λ f k. listed f k .size ∙ sym long) cs (λ c k b e. g c k b (e ∙ long)) 0
 
   -- What the buffer holds at the end.
   pub walk-ends : {C : Type 0} (call : C → List ℕ → Outcome) (refusal : C → Option Refusal) (cs : List C)

@@ -110,6 +110,10 @@ profile n s a =
       commuting = commuting n s a;
     }
 
+-- The profile with row and column counts exchanged (02, ix).
+abbrev pub exchanged : Profile → Profile
+exchanged v = record { powers = v .powers; frequency = v .frequency; diagonal = v .diagonal; row = v .column; column = v .row; commuting = v .commuting }
+
 -- Definition 4.1, with the count of commuting elements: two elements have the same element profile.
 unfoldable pub sameProfile : Profile → Profile → Bool
 sameProfile a b =

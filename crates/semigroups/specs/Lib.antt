@@ -13,6 +13,7 @@ pub mod Walks
 pub mod Transformations
 pub mod Passing
 pub mod Cases
+pub mod Reversed
 pub mod Generated
 pub mod Light
 pub mod Subsemigroups

@@ -9,7 +9,7 @@ use Prim.Native.Nat.{ℕ}
 use lib.Dec.{eqb}
 use lib.ListN.{length}
 use Rattle.semigroups.specs.Lists.{elements, at, all, find, keep, least, distinct, earlier, lists}
-use Rattle.semigroups.specs.Tables.{Product, Element, isElement}
+use Rattle.semigroups.specs.Tables.{Product, turned, Element, isElement}
 
 -- ---- plain statements
 
@@ -30,6 +30,14 @@ module _ (m : ℕ) (s : Product) (n : ℕ) (t : Product) where
     pub same-order : m ≡ n
     pub embedding : Embedding f
 
+  -- A reversed isomorphism: one to one, onto, and the image of i·j is the image of j times the image of i (02, ix).
+  pub record ReversedIsomorphism (f : List ℕ) : Type 0 where
+    pub size : length f ≡ m
+    pub within : (i : ℕ) → Element m i → Element n (at f i)
+    pub one-to-one : (i j : ℕ) → Element m i → Element m j → at f i ≡ at f j → i ≡ j
+    pub onto : (v : ℕ) → Element n v → (i : ℕ) × Element m i × (at f i ≡ v)
+    pub reverses-product : (i j : ℕ) → Element m i → Element m j → at f (s i j) ≡ t (at f j) (at f i)
+
   -- ---- tests that compute
 
   unfoldable pub isHomomorphism : List ℕ → Bool
@@ -49,14 +57,18 @@ module _ (m : ℕ) (s : Product) (n : ℕ) (t : Product) where
 pub data Kind : Type 0 where
   embeddings : Kind
   isomorphisms : Kind
+  reversed : Kind
 
 abbrev pub IsMap : Kind → ℕ → Product → ℕ → Product → List ℕ → Type 0
 IsMap embeddings = Embedding
 IsMap isomorphisms = Isomorphism
+IsMap reversed = ReversedIsomorphism
 
+-- A reversed isomorphism is an isomorphism onto the turned product.
 abbrev pub isMap : Kind → ℕ → Product → ℕ → Product → List ℕ → Bool
 isMap embeddings = isEmbedding
 isMap isomorphisms = isIsomorphism
+isMap reversed = λ m s n t. isIsomorphism m s n (turned t)
 
 -- The full list of a kind: every map of that kind once, each earlier than the one behind it.
 unfoldable pub maps : Kind → ℕ → Product → ℕ → Product → List (List ℕ)

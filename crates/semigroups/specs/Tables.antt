@@ -26,6 +26,13 @@ product n cells i j = getD cells (cellPlace n i j) 0
 unfoldable pub grid : ℕ → ℕ → (ℕ → ℕ → ℕ) → List ℕ
 grid m n f = flatMap (λ i. map (f i) (elements n)) (elements m)
 
+-- The product with its factors exchanged, and the table of it: rows stand as columns (02, ix: a table that gives the column's element first).
+abbrev pub turned : Product → Product
+turned s = λ i j. s j i
+
+unfoldable pub turnedCells : ℕ → List ℕ → List ℕ
+turnedCells n cells = grid n n (turned (product n cells))
+
 -- ---- plain statements
 
 -- i is an element of a table of order n: elements count from 1.
@@ -44,6 +51,10 @@ Closed n s = (i j : ℕ) → Element n i → Element n j → Element n (s i j)
 -- (i·j)·k = i·(j·k) for every i, j, k.
 abbrev pub Associative : ℕ → Product → Type 0
 Associative n s = (i j k : ℕ) → Element n i → Element n j → Element n k → s (s i j) k ≡ s i (s j k)
+
+-- i·j = j·i for every i, j.
+abbrev pub Commutative : ℕ → Product → Type 0
+Commutative n s = (i j : ℕ) → Element n i → Element n j → s i j ≡ s j i
 
 -- The triple l of elements does not associate.
 pub record FailingTriple (n : ℕ) (s : Product) (l : List ℕ) : Type 0 where

@@ -2,8 +2,11 @@
 ghost use mathlib.Core.Path.{_≡_};
 ghost use mathlib.Core.List.{[], _∷_};
 ghost use mathlib.Core.Option.{Option·map};
-ghost use Rattle.semigroups.specs.Tables.{Element, Filled, product, badCell, badTriple};
+ghost use Prim.Native.Nat.{_*_, _≤_};
+ghost use lib.ListN.{length};
+ghost use Rattle.semigroups.specs.Tables.{Element, Filled, product, turnedCells, badCell, badTriple};
 ghost use Rattle.semigroups.specs.Questions.{no, cellsRefusal, tableRefusal, tablesRefusal};
+ghost use Rattle.semigroups.specs.Calls.{overwritten};
 ghost use Rattle.tables.specs.Answers.{faultRefusal, verdictRefusal, sideNumber, placeOption, pairRefusal, refusalNumbers, numbersNaming};
 
 // Why a table is refused: questions 1 to 4, with the first cell, counted from 1, or the first triple.
@@ -203,4 +206,24 @@ pub fn check_pair(source: &[u8], m: usize, target: &[u8], n: usize) -> PairVerdi
         return PairVerdict::Refused(Side::Target, fault);
     }
     PairVerdict::Accepted
+}
+
+// ---- rows and columns exchanged
+
+// Writes the table with rows and columns exchanged.
+pub fn turn(cells: &[u8], n: usize, turned: &mut [u8])
+    requires { ⌜ Filled n (now cells) ⌝ ∗ ⌜ n * n ≤ length (now turned) ⌝ }
+    ensures turned { λ _. ⌜ now (turned .exit) ≡ overwritten (turnedCells n (now (cells .entry))) (now (turned .entry)) ⌝ }
+{
+    let mut place: usize = 0;
+    let mut i: usize = 1;
+    while i <= n {
+        let mut j: usize = 1;
+        while j <= n {
+            turned[place] = times(cells, n, j, i) as u8;
+            place += 1;
+            j += 1;
+        }
+        i += 1;
+    }
 }

@@ -135,7 +135,7 @@ pub fn subsemigroup(
     }
 }
 
-/// The four searches, which have one signature.
+/// The searches, which have one signature.
 macro_rules! searches {
     ($($name:ident is $symbol:ident;)*) => {$(
         pub fn $name(
@@ -186,6 +186,8 @@ searches! {
     next_embedding is tickdrizzle_next_embedding;
     first_isomorphism is tickdrizzle_first_isomorphism;
     next_isomorphism is tickdrizzle_next_isomorphism;
+    first_reversed_isomorphism is tickdrizzle_first_reversed_isomorphism;
+    next_reversed_isomorphism is tickdrizzle_next_reversed_isomorphism;
 }
 
 /// The searches with a limit, which have one signature.
@@ -241,6 +243,7 @@ macro_rules! limited_searches {
 limited_searches! {
     first_embedding_within is tickdrizzle_first_embedding_within;
     first_isomorphism_within is tickdrizzle_first_isomorphism_within;
+    first_reversed_isomorphism_within is tickdrizzle_first_reversed_isomorphism_within;
 }
 
 pub fn transformations(degree: usize, cells: &mut [u8], answer: &mut Answer) {

@@ -102,15 +102,16 @@ pub fn subsemigroup(
     answered(|answer| abi::subsemigroup(cells, order, chosen, part, elements, answer), answers::size)
 }
 
-/// The four searches, which differ in the map they are after.
+/// The searches, which differ in the map they are after.
 macro_rules! searches {
     ($($(#[$says:meta])* $name:ident;)*) => {$(
         $(#[$says])*
         ///
         /// Found: `map` holds it. None: there is no such map, and `map` is as it was. After both, `scratch` begins with a bit
         /// for each pair, [`scratch_size`] bytes of them: with k = (i − 1) × target order + (j − 1), the bit worth 2 to the
-        /// power k modulo 8 of byte k / 8 is 1 where target element j has the index and period (for isomorphisms: the profile)
-        /// of source element i, else 0. Unused bits of the last byte are 0.
+        /// power k modulo 8 of byte k / 8 is 1 where target element j has the index and period (for isomorphisms: the profile;
+        /// for reversed ones: the profile with row and column counts exchanged) of source element i, else 0. Unused bits of the
+        /// last byte are 0.
         pub fn $name(
             source: &[u8],
             source_order: usize,
@@ -137,6 +138,11 @@ searches! {
     /// The earliest isomorphism that is later than the bytes in `map`: called again and again from zeros, it finds each
     /// isomorphism once.
     next_isomorphism;
+    /// The earliest reversed isomorphism of the source onto the target: one to one, onto, and the image of i·j is the image
+    /// of j times the image of i.
+    first_reversed_isomorphism;
+    /// The earliest reversed isomorphism that is later than the bytes in `map`.
+    next_reversed_isomorphism;
 }
 
 /// The searches with a limit, which differ in the map they are after.
@@ -169,6 +175,8 @@ limited_searches! {
     first_embedding_within;
     /// The earliest isomorphism of the source onto the target, within so many trials.
     first_isomorphism_within;
+    /// The earliest reversed isomorphism of the source onto the target, within so many trials.
+    first_reversed_isomorphism_within;
 }
 
 /// Writes the table of all transformations of `degree` points, numbered in list order and composed from left to right,

@@ -33,8 +33,8 @@ returns c =
     let w = answer-unfit (kindOf (z .args .kind)) (z .args .limit) (lent z) (passes z) (sym (o .ensures) ∙ not-true (o .result) (c .if1 .taken)) in
     (w .says, (w .map, c .before .before .before .before .fill .ensures ∙ w .scratch))
 
-find-within-requires : tie.Need-find-within-requires
-find-within-requires c κs = search needs
+find-requires : tie.Need-find-requires
+find-requires c κs = search needs
 
 same-length-2 : tie.Need-same-length-2
 same-length-2 c = search needs
@@ -47,7 +47,7 @@ returns-2 c =
     let k = c .before in
     let z = k .before .before .before .before .before .before .before .before .before .before .before .before .before in
     let o = k .before .before .before .before .order-fits in
-    let f = k .find-within in
+    let f = k .find in
     let filled = k .before .before .before .before .before .before .before .fill .ensures in
     let fits = sym (o .ensures) ∙ not-false (o .result) (k .before .before .before .if1 .left) in
     let w = answer-stopped (kindOf (z .args .kind)) (z .args .limit) (lent z) (passes z) fits _ filled (f .result) (f .ensures) (c .if2 .taken) in
@@ -58,7 +58,7 @@ sub-trials c =
     let k = c .before .before in
     let z = k .before .before .before .before .before .before .before .before .before .before .before .before .before in
     let o = k .before .before .before .before .order-fits in
-    let f = k .find-within in
+    let f = k .find in
     let filled = k .before .before .before .before .before .before .before .fill .ensures in
     let fits = sym (o .ensures) ∙ not-false (o .result) (k .before .before .before .if1 .left) in
     left-within (kindOf (z .args .kind)) (z .args .limit) (lent z) (passes z) fits _ filled (f .result) (f .ensures) (c .before .if2 .left)
@@ -74,7 +74,7 @@ returns-3 c =
     let k = c .before .before .before .before in
     let z = k .before .before .before .before .before .before .before .before .before .before .before .before .before in
     let o = k .before .before .before .before .order-fits in
-    let f = k .find-within in
+    let f = k .find in
     let filled = k .before .before .before .before .before .before .before .fill .ensures in
     let fits = sym (o .ensures) ∙ not-false (o .result) (k .before .before .before .if1 .left) in
     let w = answer-nothing (kindOf (z .args .kind)) (z .args .limit) (lent z) (passes z) fits _ filled (f .result) (f .ensures) (c .before .before .before .if2 .left) (not-true (f .result .ok) (c .if3 .taken)) in
@@ -85,7 +85,7 @@ write-map-requires c κs =
     let k = c .before .before .before .before .before .before .before in
     let z = k .before .before .before .before .before .before .before .before .before .before .before .before .before in
     let o = k .before .before .before .before .order-fits in
-    let f = k .find-within in
+    let f = k .find in
     let filled = k .before .before .before .before .before .before .before .fill .ensures in
     let fits = sym (o .ensures) ∙ not-false (o .result) (k .before .before .before .if1 .left) in
     let small = z .pre .0 .0 .filled .order .1 in
@@ -102,7 +102,7 @@ returns-4 c =
     let k = c .before .before .before .before .before .before .before .before .before .before in
     let z = k .before .before .before .before .before .before .before .before .before .before .before .before .before in
     let o = k .before .before .before .before .order-fits in
-    let f = k .find-within in
+    let f = k .find in
     let filled = k .before .before .before .before .before .before .before .fill .ensures in
     let fits = sym (o .ensures) ∙ not-false (o .result) (k .before .before .before .if1 .left) in
     let w = answer-found (kindOf (z .args .kind)) (z .args .limit) (lent z) (passes z) fits _ filled (f .result) (f .ensures) (c .before .before .before .before .before .before .before .before .before .if2 .left) (not-false (f .result .ok) (c .before .before .before .before .before .before .if3 .left)) in
@@ -116,7 +116,7 @@ answer-spec =
     order-fits-requires
     same-length
     returns
-    find-within-requires
+    find-requires
     same-length-2
     same-length-3
     returns-2

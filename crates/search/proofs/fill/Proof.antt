@@ -21,6 +21,12 @@ enum-told-2 c = search needs
 fill-isomorphisms-requires : tie.Need-fill-isomorphisms-requires
 fill-isomorphisms-requires c κs = search needs
 
+enum-told-3 : tie.Need-enum-told-3
+enum-told-3 c = search needs
+
+fill-reversed-requires : tie.Need-fill-reversed-requires
+fill-reversed-requires c κs = search needs
+
 same-length : tie.Need-same-length
 same-length c = search needs
 
@@ -41,6 +47,16 @@ returns-2 c =
     c .before .before .fill-isomorphisms .ensures
     ∙ ap (λ (k : Kind). scratchAfter (a .m) (a .n) (candidate (kindOf k) (a .m) (product (a .m) (a .source .now)) (a .n) (product (a .n) (a .target .now))) (a .scratch .now)) (sym (c .before .before .before .before .enum-told2 .given .1))
 
+same-length-3 : tie.Need-same-length-3
+same-length-3 c = search needs
+
+returns-3 : tie.Need-returns-3
+returns-3 c =
+    let z = c .before .before .before .before .before .before .before .before .before in
+    let a = z .args in
+    c .before .before .fill-reversed .ensures
+    ∙ ap (λ (k : Kind). scratchAfter (a .m) (a .n) (candidate (kindOf k) (a .m) (product (a .m) (a .source .now)) (a .n) (product (a .n) (a .target .now))) (a .scratch .now)) (sym (c .before .before .before .before .enum-told3 .given .1))
+
 pub fill-spec : {M : Type 1} → statement M
 fill-spec =
     tie.close
@@ -49,7 +65,11 @@ fill-spec =
     fill-embeddings-requires
     enum-told-2
     fill-isomorphisms-requires
+    enum-told-3
+    fill-reversed-requires
     same-length
     returns
     same-length-2
-    returns-2)
+    returns-2
+    same-length-3
+    returns-3)

@@ -78,7 +78,7 @@ pub enum Call {
 }
 
 /// The functions' names, in the order of the header.
-pub const FUNCTIONS: [&str; 16] = [
+pub const FUNCTIONS: [&str; 19] = [
     "check_table",
     "index_period",
     "profile",
@@ -89,8 +89,11 @@ pub const FUNCTIONS: [&str; 16] = [
     "next_embedding",
     "first_isomorphism",
     "next_isomorphism",
+    "first_reversed_isomorphism",
+    "next_reversed_isomorphism",
     "first_embedding_within",
     "first_isomorphism_within",
+    "first_reversed_isomorphism_within",
     "transformations",
     "load",
     "save",
@@ -110,8 +113,11 @@ impl Call {
             Call::Search { kind: Kind::Embedding, ask: Ask::Next, .. } => "next_embedding",
             Call::Search { kind: Kind::Isomorphism, ask: Ask::First, .. } => "first_isomorphism",
             Call::Search { kind: Kind::Isomorphism, ask: Ask::Next, .. } => "next_isomorphism",
+            Call::Search { kind: Kind::Reversed, ask: Ask::First, .. } => "first_reversed_isomorphism",
+            Call::Search { kind: Kind::Reversed, ask: Ask::Next, .. } => "next_reversed_isomorphism",
             Call::LimitedSearch { kind: Kind::Embedding, .. } => "first_embedding_within",
             Call::LimitedSearch { kind: Kind::Isomorphism, .. } => "first_isomorphism_within",
+            Call::LimitedSearch { kind: Kind::Reversed, .. } => "first_reversed_isomorphism_within",
             Call::Transformations { .. } => "transformations",
             Call::Load { .. } => "load",
             Call::Save { .. } => "save",
@@ -143,6 +149,8 @@ impl Call {
                     (Kind::Embedding, Ask::Next) => abi::next_embedding,
                     (Kind::Isomorphism, Ask::First) => abi::first_isomorphism,
                     (Kind::Isomorphism, Ask::Next) => abi::next_isomorphism,
+                    (Kind::Reversed, Ask::First) => abi::first_reversed_isomorphism,
+                    (Kind::Reversed, Ask::Next) => abi::next_reversed_isomorphism,
                 };
                 search(&source.cells, source.order, &target.cells, target.order, map, scratch, &mut answer);
             }
@@ -150,6 +158,7 @@ impl Call {
                 let search = match kind {
                     Kind::Embedding => abi::first_embedding_within,
                     Kind::Isomorphism => abi::first_isomorphism_within,
+                    Kind::Reversed => abi::first_reversed_isomorphism_within,
                 };
                 search(&source.cells, source.order, &target.cells, target.order, map, scratch, *limit, &mut answer);
             }
@@ -194,6 +203,8 @@ impl Call {
                     (Kind::Embedding, Ask::Next) => tickdrizzle::next_embedding,
                     (Kind::Isomorphism, Ask::First) => tickdrizzle::first_isomorphism,
                     (Kind::Isomorphism, Ask::Next) => tickdrizzle::next_isomorphism,
+                    (Kind::Reversed, Ask::First) => tickdrizzle::first_reversed_isomorphism,
+                    (Kind::Reversed, Ask::Next) => tickdrizzle::next_reversed_isomorphism,
                 };
                 let answer = search(&source.cells, source.order, &target.cells, target.order, map, scratch);
                 encoded(answer, |answer| vec![usize::from(answer == Search::Found)])
@@ -202,6 +213,7 @@ impl Call {
                 let search = match kind {
                     Kind::Embedding => tickdrizzle::first_embedding_within,
                     Kind::Isomorphism => tickdrizzle::first_isomorphism_within,
+                    Kind::Reversed => tickdrizzle::first_reversed_isomorphism_within,
                 };
                 let answer = search(&source.cells, source.order, &target.cells, target.order, map, scratch, *limit);
                 encoded(answer, limited_values)

@@ -235,3 +235,10 @@ pub fn relabelled(random: &mut Random, semigroup: &Semigroup) -> Semigroup {
     }
     Semigroup { cells, ..*semigroup }
 }
+
+/// The semigroup with its products the other way round, its elements numbered anew.
+pub fn turned(random: &mut Random, semigroup: &Semigroup) -> Semigroup {
+    let n = semigroup.order;
+    let cells = (0..n * n).map(|place| semigroup.cells[place % n * n + place / n]).collect();
+    relabelled(random, &Semigroup { cells, ..*semigroup })
+}

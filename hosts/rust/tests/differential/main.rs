@@ -13,7 +13,7 @@ use calls::{Call, Lent, LentTable};
 use families::Semigroup;
 use inputs::Input;
 use random::Random;
-use reference::{Ask, Kind, Pair, Table};
+use reference::{Ask, Kind, Pair, Table, KINDS};
 use std::process::ExitCode;
 use std::time::{SystemTime, UNIX_EPOCH};
 use tally::Tally;
@@ -73,8 +73,8 @@ impl Comparison {
     }
 
     /// Every table of order 1 to 3, with every short list as its generators. Of the accepted ones every element, what every
-    /// short list generates, the first embedding and isomorphism between every two of them, with the candidates, and the least
-    /// degree. What every short list generates in mat5, and its least degree.
+    /// short list generates, the first and the next map of each kind between every two of them, with the candidates, and the
+    /// least degree. What every short list generates in mat5, and its least degree.
     fn small_tables(&mut self) {
         let all = (1..=3)
             .flat_map(|order| reference::lists(order * order, order).into_iter().map(move |cells| (cells, order)));
@@ -95,7 +95,7 @@ impl Comparison {
             self.short_parts(source, SMALL);
             self.least_degrees(source, SMALL);
             for target in &accepted {
-                self.first_maps(source, target);
+                self.small_maps(source, target);
                 self.around_trials(source, target, SMALL);
             }
         }
@@ -136,13 +136,16 @@ impl Comparison {
         }
     }
 
-    /// The first embedding and the first isomorphism.
-    fn first_maps(&mut self, source: &LentTable, target: &LentTable) {
-        for kind in [Kind::Embedding, Kind::Isomorphism] {
-            let map = Lent::random(&mut self.random, source.order);
-            let scratch = Lent::random(&mut self.random, scratch_size(source.order, target.order));
-            let (source, target) = (source.clone(), target.clone());
-            self.compare(&mut Call::Search { kind, ask: Ask::First, source, target, map, scratch }, SMALL);
+    /// The first map of each kind, and the one after a list.
+    fn small_maps(&mut self, source: &LentTable, target: &LentTable) {
+        for kind in KINDS {
+            for ask in [Ask::First, Ask::Next] {
+                let list: Vec<u8> = (0..source.order).map(|_| self.random.below(target.order + 1) as u8).collect();
+                let map = Lent::new(&mut self.random, &list);
+                let scratch = Lent::random(&mut self.random, scratch_size(source.order, target.order));
+                let (source, target) = (source.clone(), target.clone());
+                self.compare(&mut Call::Search { kind, ask, source, target, map, scratch }, SMALL);
+            }
         }
     }
 
@@ -152,7 +155,7 @@ impl Comparison {
             let source = inputs::lend(&mut self.random, &families::null_of_order(m));
             let target = inputs::lend(&mut self.random, &families::null_of_order(n));
             for length in lengths(scratch_size(m, n)) {
-                for kind in [Kind::Embedding, Kind::Isomorphism] {
+                for kind in KINDS {
                     let map = Lent::random(&mut self.random, m);
                     let scratch = Lent::new(&mut self.random, &vec![255; length]);
                     let (source, target) = (source.table.clone(), target.table.clone());
@@ -165,11 +168,11 @@ impl Comparison {
         }
     }
 
-    /// Both searches with a limit: one below the exact number of trials, at it, one above it, and the least and the greatest.
+    /// The searches with a limit: one below the exact number of trials, at it, one above it, and the least and the greatest.
     /// Where more are needed than the reference counts, a limit below that.
     fn around_trials(&mut self, source: &LentTable, target: &LentTable, family: &'static str) {
         let Some(pair) = accepted(source, target) else { return };
-        for kind in [Kind::Embedding, Kind::Isomorphism] {
+        for kind in KINDS {
             let limits = match pair.counted(kind, MOST_TRIALS) {
                 Some((_, trials)) => vec![trials.saturating_sub(1), trials, trials + 1, 0, u32::MAX],
                 None => vec![self.random.below(MOST_TRIALS as usize) as u32],
@@ -191,7 +194,7 @@ impl Comparison {
             _ => self.pair(8),
         };
         self.around_trials(&source.table, &target.table, source.family);
-        let kind = self.random.pick(&[Kind::Embedding, Kind::Isomorphism]);
+        let kind = self.random.pick(&KINDS);
         let map = inputs::map(&mut self.random, source.table.order, target.table.order);
         let scratch = self.scratch(source.table.order, target.table.order);
         let limit = self.random.below(200) as u32;
@@ -258,13 +261,15 @@ impl Comparison {
         self.compare(&mut call, source.family);
     }
 
-    /// Two tables: a semigroup with itself, a relabelled copy, a part of it, an unrelated one, or one that is refused.
+    /// Two tables: a semigroup with itself, a relabelled copy, at times turned, a part of it, an unrelated one, or one that
+    /// is refused.
     fn pair(&mut self, greatest: usize) -> (Input, Input) {
         let random = &mut self.random;
         let target = families::any(random, greatest);
         let source = match random.below(10) {
             0..=1 => target.clone(),
-            2..=3 => families::relabelled(random, &target),
+            2 => families::relabelled(random, &target),
+            3 => families::turned(random, &target),
             4..=5 => families::part(random, &target),
             6..=7 => families::any(random, greatest),
             8 => return (inputs::table(random, greatest), inputs::lend(random, &target)),
@@ -302,9 +307,9 @@ impl Comparison {
         (inputs::lend(&mut self.random, &source), inputs::lend(&mut self.random, &target))
     }
 
-    /// Any of the four searches; the call after it.
+    /// Any of the searches; the call after it.
     fn search(&mut self, source: LentTable, target: LentTable, map: Lent, family: &'static str) -> Call {
-        let kind = self.random.pick(&[Kind::Embedding, Kind::Isomorphism]);
+        let kind = self.random.pick(&KINDS);
         let ask = self.random.pick(&[Ask::First, Ask::Next]);
         let scratch = self.scratch(source.order, target.order);
         let mut call = Call::Search { kind, ask, source, target, map, scratch };
@@ -331,7 +336,7 @@ impl Comparison {
 
     /// A walk: next calls on one map buffer that starts as zeros, refused ones between them, held to the full list.
     fn walk(&mut self) {
-        let kind = self.random.pick(&[Kind::Embedding, Kind::Isomorphism]);
+        let kind = self.random.pick(&KINDS);
         let (source, target) = self.walk_pair(kind);
         let full_list = full_list(kind, &source, &target);
         let (source, target) = (inputs::lend(&mut self.random, &source), inputs::lend(&mut self.random, &target));
@@ -372,6 +377,7 @@ impl Comparison {
             (0, _) => target.clone(),
             (1, Kind::Embedding) => families::part(random, &target),
             (2, Kind::Embedding) => families::any(random, greatest),
+            (_, Kind::Reversed) => families::turned(random, &target),
             _ => families::relabelled(random, &target),
         };
         (source, target)

@@ -42,6 +42,10 @@ fn answer(says: Says) -> Answer {
     answer
 }
 
+/// The places of the row and column counts in a profile.
+const ROW: usize = 4;
+const COLUMN: usize = 5;
+
 fn write_front(buffer: &mut [u8], bytes: &[u8]) {
     buffer[..bytes.len()].copy_from_slice(bytes);
 }
@@ -133,7 +137,7 @@ impl<'a> Table<'a> {
         count
     }
 
-    /// The counts of a profile, index and period first.
+    /// The counts of a profile, index and period first; those of row and column at their places.
     fn profile(&self, element: usize) -> [usize; 7] {
         let [index, period] = self.index_period(element);
         [
@@ -239,20 +243,32 @@ pub fn subsemigroup(cells: &[u8], order: usize, chosen: &[u8], part: &mut [u8], 
     }))
 }
 
-/// Embeddings or isomorphisms.
+/// Embeddings, isomorphisms or reversed isomorphisms.
 #[derive(Clone, Copy, Debug, PartialEq, Eq)]
 pub enum Kind {
     Embedding,
     Isomorphism,
+    Reversed,
 }
+
+pub const KINDS: [Kind; 3] = [Kind::Embedding, Kind::Isomorphism, Kind::Reversed];
 
 impl Kind {
     /// What an element and its candidates have in common.
     fn invariants(self, table: &Table, element: usize) -> Vec<usize> {
         match self {
             Kind::Embedding => table.index_period(element).to_vec(),
-            Kind::Isomorphism => table.profile(element).to_vec(),
+            Kind::Isomorphism | Kind::Reversed => table.profile(element).to_vec(),
         }
+    }
+
+    /// The same of a target element, with row and column counts exchanged for reversed maps.
+    fn target_invariants(self, table: &Table, element: usize) -> Vec<usize> {
+        let mut invariants = self.invariants(table, element);
+        if self == Kind::Reversed {
+            invariants.swap(ROW, COLUMN);
+        }
+        invariants
     }
 }
 
@@ -277,13 +293,15 @@ impl<'a> Pair<'a> {
         Ok(Pair { source, target })
     }
 
-    fn keeps_product(&self, map: &[u8], i: usize, j: usize) -> bool {
+    /// Whether the image of i·j is the product of the images; for reversed maps, with the image of j first.
+    fn keeps_product(&self, kind: Kind, map: &[u8], i: usize, j: usize) -> bool {
         let image = |element: usize| usize::from(map[element - 1]);
-        image(self.source.product(i, j)) == self.target.product(image(i), image(j))
+        let (first, second) = if kind == Kind::Reversed { (j, i) } else { (i, j) };
+        image(self.source.product(i, j)) == self.target.product(image(first), image(second))
     }
 
-    /// The earliest fault of a map, in the numbers of an answer; 0 alone where it is an embedding.
-    fn check(&self, map: &[u8]) -> Vec<usize> {
+    /// The earliest fault of a map, in the numbers of an answer; 0 alone where it is one to one and keeps the products.
+    fn check(&self, kind: Kind, map: &[u8]) -> Vec<usize> {
         for i in self.source.elements() {
             if !self.target.elements().contains(&usize::from(map[i - 1])) {
                 return vec![1, i];
@@ -298,7 +316,7 @@ impl<'a> Pair<'a> {
         }
         for i in self.source.elements() {
             for j in self.source.elements() {
-                if !self.keeps_product(map, i, j) {
+                if !self.keeps_product(kind, map, i, j) {
                     return vec![3, i, j];
                 }
             }
@@ -308,7 +326,7 @@ impl<'a> Pair<'a> {
 
     fn is_map(&self, kind: Kind, map: &[u8]) -> bool {
         let fits = kind == Kind::Embedding || self.source.order == self.target.order;
-        fits && self.check(map) == [0]
+        fits && self.check(kind, map) == [0]
     }
 
     /// The full list of a kind, by trying every list of images in list order; for small orders.
@@ -320,15 +338,15 @@ impl<'a> Pair<'a> {
     /// The earliest map of a kind, or the earliest later than a list.
     fn earliest(&self, kind: Kind, after: Option<&[u8]>) -> Option<Vec<u8>> {
         let (m, n) = (self.source.order, self.target.order);
-        if m > n || (kind == Kind::Isomorphism && m != n) {
+        if m > n || (kind != Kind::Embedding && m != n) {
             return None;
         }
-        self.extended(&mut Vec::new(), after)
+        self.extended(kind, &mut Vec::new(), after)
     }
 
-    /// The earliest embedding that starts with these images. A start is given up where two of its images are equal, where
+    /// The earliest map of a kind that starts with these images. A start is given up where two of its images are equal, where
     /// it breaks a product of its own elements, or where it is earlier than the start of the list to come after.
-    fn extended(&self, start: &mut Vec<u8>, after: Option<&[u8]>) -> Option<Vec<u8>> {
+    fn extended(&self, kind: Kind, start: &mut Vec<u8>, after: Option<&[u8]>) -> Option<Vec<u8>> {
         let placed = start.len();
         if after.is_some_and(|list| *start.as_slice() < list[..placed]) {
             return None;
@@ -342,8 +360,8 @@ impl<'a> Pair<'a> {
                 continue;
             }
             start.push(image);
-            if self.keeps_last(start) {
-                if let Some(map) = self.extended(start, after) {
+            if self.keeps_last(kind, start) {
+                if let Some(map) = self.extended(kind, start, after) {
                     return Some(map);
                 }
             }
@@ -354,13 +372,13 @@ impl<'a> Pair<'a> {
 
     /// Whether the placed pairs with the last element in them, as factor or product, keep their product where it is
     /// placed.
-    fn keeps_last(&self, start: &[u8]) -> bool {
+    fn keeps_last(&self, kind: Kind, start: &[u8]) -> bool {
         let last = start.len();
         (1..=last).all(|i| {
             (1..=last).all(|j| {
                 let product = self.source.product(i, j);
                 let concerns_last = i == last || j == last || product == last;
-                !concerns_last || product > last || self.keeps_product(start, i, j)
+                !concerns_last || product > last || self.keeps_product(kind, start, i, j)
             })
         })
     }
@@ -370,11 +388,11 @@ impl<'a> Pair<'a> {
     /// goes, and the one before it counts on.
     pub fn counted(&self, kind: Kind, most: u32) -> Option<(Option<Vec<u8>>, u32)> {
         let (m, n) = (self.source.order, self.target.order);
-        if m > n || (kind == Kind::Isomorphism && m != n) {
+        if m > n || (kind != Kind::Embedding && m != n) {
             return Some((None, 0));
         }
         let of_source: Vec<_> = self.source.elements().map(|i| kind.invariants(&self.source, i)).collect();
-        let of_target: Vec<_> = self.target.elements().map(|j| kind.invariants(&self.target, j)).collect();
+        let of_target: Vec<_> = self.target.elements().map(|j| kind.target_invariants(&self.target, j)).collect();
         let (mut images, mut trials) = (vec![0], 0);
         while let Some(last) = images.pop() {
             let candidates =
@@ -386,7 +404,7 @@ impl<'a> Pair<'a> {
             }
             trials += 1;
             images.push(image);
-            if self.passes(&images) {
+            if self.passes(kind, &images) {
                 if images.len() == m {
                     return Some((Some(images), trials));
                 }
@@ -397,11 +415,12 @@ impl<'a> Pair<'a> {
     }
 
     /// Whether each product inside a list of images agrees, and each product outside it has its target product unused.
-    fn passes(&self, images: &[u8]) -> bool {
+    fn passes(&self, kind: Kind, images: &[u8]) -> bool {
         let placed = 1..=images.len();
         placed.clone().all(|i| {
             placed.clone().all(|j| {
-                let image = self.target.product(usize::from(images[i - 1]), usize::from(images[j - 1])) as u8;
+                let (first, second) = if kind == Kind::Reversed { (j, i) } else { (i, j) };
+                let image = self.target.product(usize::from(images[first - 1]), usize::from(images[second - 1])) as u8;
                 match images.get(self.source.product(i, j) - 1) {
                     Some(inside) => *inside == image,
                     None => !images.contains(&image),
@@ -412,7 +431,7 @@ impl<'a> Pair<'a> {
 
     /// The scratch bytes: a 1 for each candidate, pair after pair, the first in the lowest bit of the first byte.
     fn candidates(&self, kind: Kind) -> Vec<u8> {
-        let of_target: Vec<_> = self.target.elements().map(|j| kind.invariants(&self.target, j)).collect();
+        let of_target: Vec<_> = self.target.elements().map(|j| kind.target_invariants(&self.target, j)).collect();
         let mut marks = Vec::new();
         for i in self.source.elements() {
             let of_source = kind.invariants(&self.source, i);
@@ -439,7 +458,7 @@ pub fn lists(length: usize, greatest: usize) -> Vec<Vec<u8>> {
 pub fn check_map(source: &[u8], source_order: usize, target: &[u8], target_order: usize, map: &[u8]) -> Answer {
     answer(Pair::accepted(source, source_order, target, target_order).and_then(|pair| {
         ask(map.len() == source_order, 5)?;
-        Ok(numbers(&pair.check(map)))
+        Ok(numbers(&pair.check(Kind::Embedding, map)))
     }))
 }
 
@@ -458,7 +477,7 @@ fn marked<'a>(
     Ok(pair)
 }
 
-/// A search of either kind, for the first or the next map.
+/// A search of any kind, for the first or the next map.
 pub fn search(
     kind: Kind,
     asked: Ask,

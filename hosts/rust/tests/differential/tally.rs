@@ -49,13 +49,13 @@ impl Tally {
 
     /// A row for each function: calls, answered or found, none, stopped, refused by each question.
     fn print_outcomes(&self) {
-        print!("{:<26}{:>8} {:>8} {:>7} {:>7}", "function", "calls", "answered", "none", "stopped");
+        print!("{:<34}{:>8} {:>8} {:>7} {:>7}", "function", "calls", "answered", "none", "stopped");
         QUESTIONS.iter().for_each(|question| print!("{question:>7}"));
         println!();
         for name in FUNCTIONS {
             let calls = self.sum(|function, _, _| function == name);
             let count = |wanted| self.sum(|function, _, outcome| function == name && outcome == wanted);
-            print!("{name:<26}{calls:>8} {:>8}", count(Outcome::Answered));
+            print!("{name:<34}{calls:>8} {:>8}", count(Outcome::Answered));
             print!(" {:>7} {:>7}", count(Outcome::Nothing), count(Outcome::Stopped));
             QUESTIONS.iter().for_each(|&question| print!("{:>7}", count(Outcome::Refused(question))));
             println!();
