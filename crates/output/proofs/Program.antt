@@ -1,27 +1,24 @@
 -- What the definition of the whole output says: which file speaks, how much of a file decides, which numbers can come, and 01's example.
 -- Assumes nothing.
 use mathlib.Core.Path.{_≡_, refl, ap, ap₂, sym, _∙_}
-use mathlib.Core.Logic.{_⊎_, inl, inr}
 use mathlib.Core.List.{List, [], flatMap, flatten}
 use mathlib.Core.Option.{none, some, orElse}
-use Prim.Native.Nat.{ℕ, _*_, _≤_, _<_}
+use Prim.Native.Nat.{ℕ, _*_, _≤_}
 use native.Mathlib.Omega.{arith}
 use lib.ListN.{length, take, drop, length-append}
-use lib.Seq.{length-take-le, take-all}
 use Rattle.semigroups.specs.Lists.{range, elements, at, all, find, keep, firstOf, member, distinct, lists}
 use Rattle.semigroups.specs.Tables.{product, isElement, associates, badCell, badTriple}
 use Rattle.semigroups.specs.Questions.{Refusal, no}
 use Rattle.semigroups.specs.Maps.{isHomomorphism, isEmbedding, maps, earliest}
-use Rattle.semigroups.proofs.Booleans.{at-most-or-above}
 use Rattle.csv.specs.Decimals.{isDigit, value, valueFrom, numeralWithin, numeral}
 use Rattle.csv.specs.Records.{isBreak, onto, records, fields, rows, recordText, lineText, rowsText}
 use Rattle.csv.specs.Tables.{fieldsOf, orderOf, cellsOf}
 use Rattle.csv.specs.Questions.{breakAt, inBreak, isAllowed, firstOther, fieldsQuestions, isSquare}
 use Rattle.semigroups.specs.Calls.{refused, overwritten}
-use Rattle.csv.proofs.Loading.{too-short, too-long}
 use Rattle.output.specs.Records.{firstRecord, pairRecord, pairRecords, foundRecords, noneRecords, refusedRecord, refusedRecords}
 use Rattle.files.specs.Files.{fileRefusal, fileAnswer, room}
-use Rattle.files.proofs.Files.{Holds, loading-refused, refused-file}
+use Rattle.files.proofs.Files.{Holds, refused-file}
+use Rattle.files.proofs.Length.{Cut, whole, too-much, cut}
 use Rattle.output.specs.Program.{answerRecords, recueRecords, recueOutput}
 use Rattle.output.specs.Example.{sourceFile, targetFile, printed}
 
@@ -67,24 +64,6 @@ output-within source target before q e =
     omega (arith, ap length e ∙ length-append text (drop (length text) before))
 
 -- ---- how much of a file decides
-
-pub empty-file : fileRefusal [] room ≡ some (no 20 [])
-empty-file = loading-refused [] room (too-short [] room (omega arith))
-
-pub long-file : (t : List ℕ) → 57720 < length t → fileRefusal t room ≡ some (no 20 [])
-long-file t h = loading-refused t room (too-long t room h)
-
--- One byte above the most that a text may have is enough to see that a file is too long.
-data Cut (t : List ℕ) : Type 0 where
-  whole : take 57721 t ≡ t → Cut t
-  too-much : fileRefusal (take 57721 t) room ≡ some (no 20 []) → fileRefusal t room ≡ some (no 20 []) → Cut t
-
-cut : (t : List ℕ) → Cut t
-cut t = go (at-most-or-above (length t) 57721)
-  where
-    go : (length t ≤ 57721) ⊎ (57721 < length t) → Cut t
-    go (inl h) = whole (take-all 57721 t h)
-    go (inr h) = too-much (long-file (take 57721 t) (let e = length-take-le 57721 t (omega arith) in omega arith)) (long-file t (omega arith))
 
 by-target : (source : List ℕ) {target : List ℕ} → Cut target → recueOutput source (take 57721 target) ≡ recueOutput source target
 unfolding recueOutput recueRecords

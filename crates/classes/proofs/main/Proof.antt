@@ -1,0 +1,113 @@
+-- `main` goes on while a file is wanted. The invariant: what holds of a session at all times, and which file is wanted; the measure is how many files may
+-- still be asked for. Assumes nothing.
+use mathlib.Core.Path.{_≡_, refl, sym, _∙_}
+use mathlib.Core.List.{List}
+use mathlib.Core.Option.{Option}
+use Prim.Native.Nat.{ℕ}
+use native.Mathlib.Omega.{arith}
+use lib.ListN.{length, take}
+use lib.Seq.{length-take-le}
+use borrow.Author.Needs.{needs}
+use Rattle.classification.specs.Session as sessions
+use Rattle.classification.specs.Held.{sessionOf, answerOf}
+use Rattle.classification.proofs.Program.{start-sound, later-sound, later-fewer, few-notes, text-within}
+use Rattle.classes.proofs.main.Statement.{statement}
+use Rattle.classes.proofs.main.Tie as tie
+
+abbrev Inv-loop : tie.InvT-loop
+Inv-loop text₀ cells₀ out classifier₀ wanted₀ text cells classifier wanted =
+    (length text ≡ 57721) × (length cells ≡ 14400) × sessions.Sound (sessionOf classifier cells) × (wanted ≡ sessions.wanted (sessionOf classifier cells))
+
+abbrev μ-loop : tie.MeasureT-loop
+μ-loop text₀ cells₀ out classifier₀ wanted₀ text cells classifier wanted = sessions.left (sessionOf classifier cells)
+
+-- What came of the file that was read.
+abbrev came : tie.After-read-file Inv-loop μ-loop → Option (List ℕ)
+came c = let r = c .read-file in answerOf (r .result .opened) (take (r .result .length) (r .last .1 .0))
+
+start-requires : tie.Need-start-requires Inv-loop μ-loop
+start-requires c κs = tt
+
+wanted-requires : tie.Need-wanted-requires Inv-loop μ-loop
+wanted-requires c κs = tt
+
+loop-holds : tie.Need-loop-holds Inv-loop μ-loop
+loop-holds c = (refl, refl, start-sound _ (c .before .start .ensures _), c .wanted .ensures _)
+
+read-file-requires : tie.Need-read-file-requires Inv-loop μ-loop
+read-file-requires c κs = let v = c .before .before .loop .inv .0 in omega arith
+
+array-share-prefix-text : tie.Need-array-share-prefix-text Inv-loop μ-loop
+array-share-prefix-text c = search needs
+
+slice-aggregate-step : tie.Need-slice-aggregate-step Inv-loop μ-loop
+slice-aggregate-step c = search needs
+
+slice-aggregate-step-2 : tie.Need-slice-aggregate-step-2 Inv-loop μ-loop
+slice-aggregate-step-2 c = sym (c .before .before .before .before .before .loop .inv .1)
+
+step-requires : tie.Need-step-requires Inv-loop μ-loop
+step-requires c κs =
+    let v = c .before .before .before .before .before .loop .inv in
+    let t = c .before .before .before .before .loop-test .taken in
+    (v .1, (v .2, λ e. t (v .3 ∙ e)))
+
+wanted-requires-2 : tie.Need-wanted-requires-2 Inv-loop μ-loop
+wanted-requires-2 c κs = tt
+
+loop-less : tie.Need-loop-less Inv-loop μ-loop
+loop-less c =
+    let l = c .before .before .before .before .before .before .before .before .loop in
+    let v = l .inv in
+    let t = c .before .before .before .before .before .before .before .loop-test .taken in
+    later-fewer (sessionOf (l .classifier) (l .cells)) (v .2) (λ e. t (v .3 ∙ e)) (came (c .before .before .before .before .before)) (c .before .before .step .ensures .0)
+
+loop-again : tie.Need-loop-again Inv-loop μ-loop
+loop-again c =
+    let l = c .before .before .before .before .before .before .before .before .loop in
+    let v = l .inv in
+    let t = c .before .before .before .before .before .before .before .loop-test .taken in
+    let st = c .before .before .step in (
+      c .before .before .before .before .before .read-file .ensures .1 ∙ v .0,
+      st .kept .1 .1 .1 .0 ∙ v .1,
+      later-sound (sessionOf (l .classifier) (l .cells)) (v .2) (λ e. t (v .3 ∙ e)) (came (c .before .before .before .before .before)) (st .ensures .0),
+      c .wanted2 .ensures _,
+    )
+
+put-requires : tie.Need-put-requires Inv-loop μ-loop
+put-requires c κs = let l = c .before .before .loop in few-notes (l .classifier) (l .cells) (l .inv .2)
+
+array-share-prefix-out : tie.Need-array-share-prefix-out Inv-loop μ-loop
+array-share-prefix-out c = text-within (c .before .before .before .loop .classifier) _ (c .put .ensures .0) (c .put .ensures .1)
+
+slice-aggregate-write-all : tie.Need-slice-aggregate-write-all Inv-loop μ-loop
+slice-aggregate-write-all c = sym (length-take-le _ _ (text-within (c .before .before .before .before .loop .classifier) _ (c .before .put .ensures .0) (c .before .put .ensures .1)))
+
+write-all-requires : tie.Need-write-all-requires Inv-loop μ-loop
+write-all-requires c κs = search needs
+
+returns : tie.Need-returns Inv-loop μ-loop
+returns c = search needs
+
+pub main-spec : {M : Type 1} → statement M
+main-spec =
+    tie.close
+    (tie.spec
+    Inv-loop
+    μ-loop
+    start-requires
+    wanted-requires
+    loop-holds
+    read-file-requires
+    array-share-prefix-text
+    slice-aggregate-step
+    slice-aggregate-step-2
+    step-requires
+    wanted-requires-2
+    loop-less
+    loop-again
+    put-requires
+    array-share-prefix-out
+    slice-aggregate-write-all
+    write-all-requires
+    returns)

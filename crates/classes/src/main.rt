@@ -1,0 +1,57 @@
+// Reads 01.csv, 02.csv and so on from the folder that it is run in, and prints which of them hold isomorphic tables, or why a file is refused. Which
+// file is read next and what is printed is proved in crate `classification`, from the bytes of the files; here they are read, and the text is written.
+ghost use mathlib.Core.Path.{_≡_};
+ghost use Prim.Native.Nat.{_<_};
+ghost use lib.ListN.{length};
+ghost use Rattle.io.specs.Counts.{Counts};
+ghost use Rattle.csv.specs.Questions.{longest};
+use classification::Classifier;
+use classification::file_name;
+use libc::STDOUT_FILENO;
+
+// One byte more than a text may have: enough to see that a file is too long. Its later bytes do not matter (`first-bytes-decide`).
+const ROOM: usize = 57721;
+
+// What came of a file: whether it could be opened, and how many bytes were read.
+struct Reading {
+    opened: bool,
+    length: usize,
+}
+
+// Reads file k to `text`. A file that is opened and can't be read counts as empty.
+fn read_file(k: usize, text: &mut [u8; ROOM]) -> Reading
+    requires room { ⌜ longest < length (now text) ⌝ }
+    ensures count { λ r. ⌜ Counts (r .length) (now (text .exit)) ⌝ }
+    ensures size { λ _. ⌜ length (now (text .exit)) ≡ length (now (text .entry)) ⌝ }
+{
+    let name = file_name(k);
+    let fd = os::open_read(&name);
+    if fd < 0 {
+        return Reading {
+            opened: false,
+            length: 0,
+        };
+    }
+    let length = io::read_full(fd, text);
+    libc::close(fd);
+    Reading {
+        opened: true,
+        length,
+    }
+}
+
+fn main() {
+    let mut text = [0u8; ROOM];
+    let mut cells = [0u8; 14400];
+    let mut out = [0u8; 1700];
+    let mut classifier = Classifier::start();
+    let mut wanted = classifier.wanted();
+    while wanted != 0 {
+        let reading = read_file(wanted, &mut text);
+        let length = reading.length;
+        classifier = classifier.step(reading.opened, &text[..length], &mut cells);
+        wanted = classifier.wanted();
+    }
+    let written = classifier.put(&mut out);
+    io::write_all(STDOUT_FILENO, &out[..written]);
+}

@@ -1,0 +1,14 @@
+pub mod Lists
+pub mod Equivalence
+pub mod Files
+pub mod Classes
+pub mod Growth
+pub mod NextClass
+pub mod Session
+pub mod Examples
+pub mod Held
+pub mod Text
+pub mod Said
+pub mod Steps
+pub mod Cut
+pub mod Program

@@ -1,0 +1,38 @@
+-- What the program's loop and its buffers need. Assumes nothing.
+use mathlib.Core.Path.{_≡_, sym, ap, _∙_, subst}
+use mathlib.Core.List.{List}
+use mathlib.Core.Option.{Option}
+use Prim.Native.Nat.{ℕ, _≤_, _<_}
+use native.Mathlib.Omega.{arith}
+use lib.ListN.{length, drop, length-append}
+use Rattle.semigroups.specs.Calls.{overwritten}
+use Rattle.classification.specs.Classes.{mostFiles, Note}
+use Rattle.classification.specs.Output.{notesText}
+use Rattle.classification.specs.Session.{Phase, reading, comparing, over, Session, start, wanted, step, SoundIn, Sound, left}
+use Rattle.classification.specs.Held.{notesIn, sessionOf}
+use Rattle.classification.specs.declared.Classifier.{Classifier}
+use Rattle.classification.proofs.Session.{goes}
+use Rattle.classification.proofs.Steps.{count-notes}
+
+pub start-sound : (s : Session) → s ≡ start → Sound s
+start-sound s e = subst Sound (sym e) (let z : 0 ≤ mostFiles = omega arith in z)
+
+module _ (s : Session) (h : Sound s) (w : wanted s ≡ 0 → ⊥) (answer : Option (List ℕ)) {later : Session} (e : later ≡ step s answer) where
+  pub later-sound : Sound later
+  later-sound = subst Sound (sym e) (goes s h w .sound answer)
+
+  pub later-fewer : left later < left s
+  later-fewer = subst (λ (t : Session). left t < left s) (sym e) (goes s h w .fewer answer)
+
+few : (notes : List Note) (phase : Phase) → SoundIn notes phase → length notes ≤ mostFiles
+few notes reading s = s
+few notes (comparing n cells j) s = let s0 = s .0 in omega arith
+few notes over s = s
+
+-- There are at most fifty notes.
+pub few-notes : (c : Classifier) (cells : List ℕ) → Sound (sessionOf c cells) → c .count ≤ 50
+few-notes c cells s = let h = few (sessionOf c cells .notes) (sessionOf c cells .phase) s in let l = count-notes c cells in omega arith
+
+-- What is written lies within the buffer.
+pub text-within : (c : Classifier) (before : List ℕ) {p : ℕ} {out : List ℕ} → p ≡ length (notesText (notesIn c)) → out ≡ overwritten (notesText (notesIn c)) before → p ≤ length out
+text-within c before q e = let text = notesText (notesIn c) in omega (arith, ap length e ∙ length-append text (drop (length text) before))

@@ -1,0 +1,63 @@
+-- What 02, (xi) says of the classes and the totals, for any files.
+-- Assumes nothing.
+use mathlib.Core.Path.{_≡_}
+use mathlib.Core.Bool.{true, _&&_}
+use mathlib.Core.Logic.{_↔_}
+use mathlib.Core.List.{List, [], List·Memᴰ}
+use mathlib.Core.Option.{some, Option·map}
+use Prim.Native.Nat.{ℕ, _≤_, _<_}
+use lib.Dec.{eqb}
+use lib.ListN.{length, take}
+use Rattle.semigroups.specs.Lists.{elements, sum, count, Sorted}
+use Rattle.semigroups.specs.Tables.{product, Element, Accepted}
+use Rattle.semigroups.specs.Questions.{Refusal, EarliestNo}
+use Rattle.semigroups.specs.Maps.{Isomorphism}
+use Rattle.csv.specs.Tables.{orderOf, cellsOf}
+use Rattle.files.specs.Files.{fileQuestions, fileRefusal, room}
+use Rattle.classification.specs.Classes.{Folder, accepted, refusedBy, inClass, file, lowest, noteOf, notesOf}
+use Rattle.classification.specs.Output.{lowestFiles, members, classesOutput, folderOutput}
+
+-- An isomorphism exists between the tables of two files.
+abbrev pub Isomorphic : List ℕ → List ℕ → Type 0
+Isomorphic t u = (f : List ℕ) × Isomorphism (orderOf t) (product (orderOf t) (cellsOf t)) (orderOf u) (product (orderOf u) (cellsOf u)) f
+
+module _ (files : List (List ℕ)) where
+  -- File k is one of the files, and it is accepted.
+  abbrev pub IsAccepted : ℕ → Type 0
+  IsAccepted k = Element (length files) k × (accepted (file files k) ≡ true)
+
+  -- The classes.
+  pub record Classified : Type 0 where
+    -- "Two accepted tables are in one class exactly if an isomorphism exists."
+    pub one-class : (j k : ℕ) → IsAccepted j → IsAccepted k → (lowest files j ≡ lowest files k) ↔ Isomorphic (file files j) (file files k)
+    -- A class is named by its lowest file: one of its members, and no member is lower.
+    pub a-member : (k : ℕ) → IsAccepted k → IsAccepted (lowest files k) × (lowest files (lowest files k) ≡ lowest files k)
+    pub no-lower : (j k : ℕ) → IsAccepted j → IsAccepted k → lowest files j ≡ lowest files k → lowest files k ≤ j
+    -- An accepted file holds an accepted table, and its order and its class are said.
+    pub says-class : (k : ℕ) → IsAccepted k → (noteOf files k ≡ inClass (orderOf (file files k)) (lowest files k)) × Accepted (orderOf (file files k)) (cellsOf (file files k))
+    -- "A refusal's number is that of its earliest failed question."
+    pub says-refused : (k : ℕ) (r : Refusal) → fileRefusal (file files k) room ≡ some r → (noteOf files k ≡ refusedBy (r .number)) × EarliestNo (fileQuestions (file files k) room) r
+
+  -- The totals.
+  pub record Totalled : Type 0 where
+    -- "By rising lowest file."
+    pub rising : Sorted _<_ (lowestFiles (notesOf files))
+    -- There is a total for each file that is the lowest of its class, and no other.
+    pub each-class : (a : ℕ) → List·Memᴰ a (lowestFiles (notesOf files)) ↔ (IsAccepted a × (lowest files a ≡ a))
+    -- It counts the accepted files of that class.
+    pub counts : (a : ℕ) → members (notesOf files) a ≡ count (λ k. accepted (file files k) && eqb (lowest files k) a) (elements (length files))
+    -- "The totals sum to the accepted files,
+    pub sum-accepted : sum (members (notesOf files)) (lowestFiles (notesOf files)) ≡ count accepted files
+    -- and each accepted file is counted once."
+    pub counted-once : (k : ℕ) → IsAccepted k → count (eqb (lowest files k)) (lowestFiles (notesOf files)) ≡ 1
+
+-- "With no file it prints nothing."
+abbrev pub NothingForNoFile : Type 0
+NothingForNoFile = classesOutput [] ≡ []
+
+-- One byte more than a text may have is read of each file; no later byte makes a difference.
+abbrev pub firstBytes : List ℕ → List ℕ
+firstBytes t = take 57721 t
+
+abbrev pub FirstBytesDecide : Folder → Type 0
+FirstBytesDecide folder = folderOutput (λ k. Option·map firstBytes (folder k)) ≡ folderOutput folder
