@@ -1,6 +1,6 @@
 /*
  * Multiplication tables of finite semigroups, from C: checks, invariants, generators, embeddings, isomorphisms,
- * CSV text, least degrees.
+ * CSV text, least degrees, name sheets.
  * The functions are proved, for every input, in crates/exports; docs/HOSTS.md tells how to link them.
  *
  * A table of order n is n * n bytes, row after row, each 1 to n: the cell in row i, column j is the product i.j.
@@ -36,6 +36,8 @@ extern "C" {
 #define TICKDRIZZLE_MOST_CELLS 14400   /* cells of a table of order 120 */
 #define TICKDRIZZLE_MOST_SCRATCH 1800  /* scratch bytes of a search between tables of order 120 */
 #define TICKDRIZZLE_LONGEST_TEXT 57720 /* text of a table of order 120 whose cells have three digits each */
+#define TICKDRIZZLE_MOST_NAMES 120     /* names on a sheet */
+#define TICKDRIZZLE_LONGEST_NAME 40    /* bytes of a name */
 #define TICKDRIZZLE_ANSWERS 16         /* numbers in an answer */
 
 /* The scratch bytes that a search between tables of these orders asks for: a bit for each pair. */
@@ -58,8 +60,12 @@ extern "C" {
 #define TICKDRIZZLE_NO_FIELD_START 24   /* is its first byte other than 0? An empty field has none */
 #define TICKDRIZZLE_NO_FIELD_RANGE 25   /* is it at most 120? */
 #define TICKDRIZZLE_NO_SQUARE 26        /* are there as many records as the first has fields, each with that many? */
-#define TICKDRIZZLE_NO_CELL_ROOM 27     /* has the buffer room for the cells? */
+#define TICKDRIZZLE_NO_CELL_ROOM 27     /* has each buffer room for what is loaded? */
 #define TICKDRIZZLE_NO_TEXT_ROOM 28     /* has the buffer room for the text? */
+#define TICKDRIZZLE_NO_SHEET 40         /* is the sheet one or more records of two fields? the offending place, from 0 */
+#define TICKDRIZZLE_NO_NAME 41          /* is the name 1 to 40 bytes from 20 to 7E? its place, from 1 */
+#define TICKDRIZZLE_NO_NAME_NUMBER 42   /* is the number the next and at most 120? the record's place, from 1; saving asks
+                                           whether there are 1 to 120 lengths, and says 0 */
 #define TICKDRIZZLE_NO_GENERATOR 50     /* is every entry of the list 1 to n? */
 #define TICKDRIZZLE_NO_GENERATION 51    /* does the list generate all n elements? An empty one generates none */
 #define TICKDRIZZLE_NO_CHOSEN 60        /* is the list not empty and every entry 1 to n? */
@@ -223,6 +229,21 @@ void tickdrizzle_first_reversed_isomorphism_within(const uint8_t *source, size_t
 void tickdrizzle_least_degree(const uint8_t *cells, size_t cells_length, size_t order,
                               uint8_t *TICKDRIZZLE_RESTRICT positions, size_t positions_length,
                               uint64_t *TICKDRIZZLE_RESTRICT answer);
+
+/* The names on a sheet, one after another in names, and their lengths, a byte each, in lengths. A sheet is CSV text with one record
+   for each name, its number, rising by one from 1, and the name; fields quoted or not, records closed by CR LF, the last one or not. A
+   name is 1 to 40 bytes from hexadecimal 20 to 7E, a backslash an ordinary one. The offending place is the length of the longest
+   beginning of the text that some sheet starts with (40, 42 and 41 of each record, 27).
+   Says the number of names; writes as many bytes of lengths, and of names the sum of these. */
+void tickdrizzle_load_names(const uint8_t *text, size_t text_length, uint8_t *TICKDRIZZLE_RESTRICT names, size_t names_length,
+                            uint8_t *TICKDRIZZLE_RESTRICT lengths, size_t lengths_length,
+                            uint64_t *TICKDRIZZLE_RESTRICT answer);
+
+/* The sheet of names that stand one after another in names, with these lengths: exactly those with a comma or a quote mark are
+   quoted, and each quote mark inside is doubled. Bytes of names past the last length are not looked at (42, 41 of each name, 28).
+   Says its length; writes as many bytes of text. */
+void tickdrizzle_save_names(const uint8_t *names, size_t names_length, const uint8_t *lengths, size_t lengths_length,
+                            uint8_t *TICKDRIZZLE_RESTRICT text, size_t text_length, uint64_t *TICKDRIZZLE_RESTRICT answer);
 
 #ifdef __cplusplus
 }

@@ -19,7 +19,8 @@ use Rattle.csv.specs.Records.{closed, rows, rowsText}
 use Rattle.csv.specs.Tables.{fieldsOf, orderOf, cellsOf, tableText}
 use Rattle.csv.specs.Questions.{fieldRefusal, fieldsRefusal, isSquare, gridRefusal, loadRefusal}
 use Rattle.csv.specs.Passing.{Number}
-use Rattle.csv.proofs.Every.{Every, every-append}
+use Rattle.csv.specs.Every.{Every}
+use Rattle.csv.proofs.Every.{every-append}
 use Rattle.csv.proofs.Bytes.{clean, clean-other, other-clean, no-other, closed-is}
 use Rattle.csv.proofs.Scan.{none-refused}
 use Rattle.csv.proofs.Rows.{Digits, Row, Rows, rows-rowsText, rowsText-rows, clean-rows, rows-some, rowsText-clean}

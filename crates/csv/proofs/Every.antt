@@ -1,12 +1,9 @@
--- What holds of every entry of a list.
+-- Laws of what holds of every entry of a list.
 -- Assumes nothing.
 use mathlib.Core.List.{List, [], _∷_, _++_}
+use Rattle.csv.specs.Every.{Every}
 
 module _ {A : Type 0} where
-  abbrev pub Every : (A → Type 0) → List A → Type 0
-  Every P [] = Unit
-  Every P (x ∷ l) = P x × Every P l
-
   pub every-append : (P : A → Type 0) (l k : List A) → Every P l → Every P k → Every P (l ++ k)
   every-append P [] k h g = g
   every-append P (x ∷ l) k h g = (h .0, every-append P l k (h .1) g)

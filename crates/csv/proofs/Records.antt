@@ -8,7 +8,7 @@ use native.Mathlib.Omega.{arith}
 use lib.Dec.{eqb}
 use borrow.Author.Tests.{eqb-true}
 use Rattle.csv.specs.Records.{isBreak, onto, records, fields, recordText}
-use Rattle.csv.proofs.Every.{Every}
+use Rattle.csv.specs.Every.{Every}
 
 -- ---- fields
 

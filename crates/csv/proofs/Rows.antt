@@ -12,7 +12,8 @@ use borrow.Author.Tests.{eqb-true, ne-eqb, leb-true}
 use Rattle.semigroups.proofs.Booleans.{and-left, and-right}
 use Rattle.csv.specs.Decimals.{isDigit}
 use Rattle.csv.specs.Records.{isBreak, onto, records, fields, rows, recordText, lineText, rowsText}
-use Rattle.csv.proofs.Every.{Every, every-append, every-map}
+use Rattle.csv.specs.Every.{Every}
+use Rattle.csv.proofs.Every.{every-append, every-map}
 use Rattle.csv.proofs.Records.{Cons, Plain, Whole, fields-cons, recordText-fields, fields-recordText, records-closed, linesText, linesText-records, missing}
 use Rattle.csv.proofs.Bytes.{inField, clean}
 

@@ -14,7 +14,7 @@ use Rattle.semigroups.proofs.Sums.{sum-append, sum-map}
 use Rattle.csv.specs.Decimals.{numeral}
 use Rattle.csv.specs.Records.{recordText, lineText, rowsText}
 use Rattle.csv.specs.Tables.{rowFields, tableText}
-use Rattle.csv.proofs.Every.{Every}
+use Rattle.csv.specs.Every.{Every}
 
 -- ---- cells cut into rows
 

@@ -1,3 +1,4 @@
+pub mod Every
 pub mod Decimals
 pub mod Records
 pub mod Cursor

@@ -33,6 +33,11 @@ use Rattle.limited.specs.Calls.{firstWork, limitedCall}
 use Rattle.exports.specs.Answers.{refusalWords, questionWords, answerWords, checkedValues, soughtValues, limitedValues, numberValues, degreeValues}
 use Rattle.planning.specs.Degrees.{leastDegree, degreeQuestions, degreeRefusal}
 use Rattle.planning.specs.Answers.{degreeSays}
+use Rattle.sheets.specs.Readings.{Reading, namesIn}
+use Rattle.sheets.specs.Names.{namesText, namesAt}
+use Rattle.sheets.specs.Questions.{loadNamesQuestions, loadNamesRefusal, saveNamesQuestions, saveNamesRefusal}
+use Rattle.sheets.specs.Calls.{loadNamesAnswer, saveNamesAnswer}
+use Rattle.sheets.proofs.Questions.{load-names-listed, save-names-listed}
 
 -- No question fails, or one with a number from 1 on.
 data Numbered : Option Refusal → Type 0 where
@@ -125,3 +130,14 @@ save-told n cells text = answer-told numberValues (length (tableText n cells)) (
 pub degree-told : (m : ℕ) (cells : List ℕ) (size : ℕ) → Tells (answerWords degreeValues (degreeSays m cells size)) (degreeRefusal m cells size)
 unfolding degreeSays degreeRefusal member
 degree-told m cells size = answer-told degreeValues (leastDegree m (product m cells)) (numbered (degreeQuestions m cells size) refl)
+
+pub load-names-told : {t : List ℕ} (w : Reading t) (names lengths : List ℕ)
+    → Tells (answerWords numberValues (loadNamesAnswer w names lengths)) (loadNamesRefusal w (length names) (length lengths))
+unfolding loadNamesAnswer loadNamesRefusal member
+load-names-told w names lengths =
+    answer-told numberValues (length (namesIn w)) (by-list (40 ∷ 42 ∷ 41 ∷ 27 ∷ []) refl (loadNamesQuestions w (length names) (length lengths)) (load-names-listed w (length names) (length lengths)))
+
+pub save-names-told : (names lengths text : List ℕ) → Tells (answerWords numberValues (saveNamesAnswer names lengths text)) (saveNamesRefusal names lengths (length text))
+unfolding saveNamesAnswer saveNamesRefusal member
+save-names-told names lengths text =
+    answer-told numberValues (length (namesText (namesAt names lengths))) (by-list (42 ∷ 41 ∷ 28 ∷ []) refl (saveNamesQuestions names lengths (length text)) (save-names-listed names lengths (length text)))

@@ -22,6 +22,9 @@ ghost use Rattle.csv.specs.Calls.{loadAnswer, cellsAfter, saveAnswer, textAfter
 ghost use Rattle.text.specs.Answers.{loadedAnswer, savedAnswer};
 ghost use Rattle.exports.specs.Answers.{words, numbersWords, questionWords, answerWords, indexPeriodValues, profileValues, checkedValues, soughtValues, limitedValues, numberValues, degreeValues};
 ghost use Rattle.planning.specs.Answers.{degreeSays, positionsAfter, degreeAnswerSays};
+ghost use Rattle.sheets.specs.Readings.{Reading};
+ghost use Rattle.sheets.specs.Calls.{loadNamesAnswer, namesAfter, lengthsAfter, saveNamesAnswer, sheetAfter};
+ghost use Rattle.names.specs.Answers.{namesAnswerSays};
 use generated::GeneratorsVerdict;
 use generated::SubsemigroupAnswer;
 use invariants::IndexPeriodAnswer;
@@ -29,6 +32,7 @@ use invariants::ProfileAnswer;
 use limited::LimitedAnswer;
 use maps::MapAnswer;
 use planning::DegreeAnswer;
+use names::NamesAnswer;
 use search::SearchAnswer;
 use tables::Refusal;
 use tables::Verdict;
@@ -197,6 +201,15 @@ fn degree_words(said: DegreeAnswer) -> [u64; 16]
         DegreeAnswer::Degree(degree) => words(0, 0, &[degree]),
         DegreeAnswer::Nothing => words(0, 0, &[0]),
         DegreeAnswer::Refused(fault) => refusal_words(fault.refusal()),
+    }
+}
+
+fn names_words(said: NamesAnswer) -> [u64; 16]
+    ensures answer { λ r. ⌜ r ≡ answerWords numberValues (namesAnswerSays said) ⌝ }
+{
+    match said {
+        NamesAnswer::Given(x) => words(0, 0, &[x]),
+        NamesAnswer::Refused(fault) => refusal_words(fault.refusal()),
     }
 }
 
@@ -512,4 +525,36 @@ pub extern "C" fn tickdrizzle_first_reversed_isomorphism_within(
     *answer = limited_words(limited::first_reversed_isomorphism_within(
         source, m, target, n, map, scratch, limit,
     ));
+}
+
+// ---- name sheets
+
+// Loads the names on the sheet `text`: writes them, one after another, to the start of `names` and their lengths to the start of `lengths`. Value: how many
+// there are.
+#[no_mangle]
+pub extern "C" fn tickdrizzle_load_names(
+    text: &[u8],
+    names: &mut [u8],
+    lengths: &mut [u8],
+    answer: &mut [u64; 16],
+)
+    ensures answer { λ _. ⌜ ((w : Reading (now (text .entry))) → now (answer .exit) ≡ answerWords numberValues (loadNamesAnswer w (now (names .entry)) (now (lengths .entry)))) ⌝ }
+    ensures names { λ _. ⌜ ((w : Reading (now (text .entry))) → now (names .exit) ≡ namesAfter w (now (names .entry)) (now (lengths .entry))) ⌝ }
+    ensures lengths { λ _. ⌜ ((w : Reading (now (text .entry))) → now (lengths .exit) ≡ lengthsAfter w (now (names .entry)) (now (lengths .entry))) ⌝ }
+{
+    *answer = names_words(names::load(text, names, lengths));
+}
+
+// Saves names with these lengths: writes their sheet to the start of `text`. Value: the length of the sheet.
+#[no_mangle]
+pub extern "C" fn tickdrizzle_save_names(
+    names: &[u8],
+    lengths: &[u8],
+    text: &mut [u8],
+    answer: &mut [u64; 16],
+)
+    ensures answer { λ _. ⌜ now (answer .exit) ≡ answerWords numberValues (saveNamesAnswer (now (names .entry)) (now (lengths .entry)) (now (text .entry))) ⌝ }
+    ensures text { λ _. ⌜ now (text .exit) ≡ sheetAfter (now (names .entry)) (now (lengths .entry)) (now (text .entry)) ⌝ }
+{
+    *answer = names_words(names::save(names, lengths, text));
 }

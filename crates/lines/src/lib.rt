@@ -1,11 +1,25 @@
 // The pieces of RFC 4180 lines, each written at a place of a lent buffer: bytes, a decimal number, a field behind a comma, a line break. Each answers
-// the place behind what it wrote; no other byte is changed.
+// the place behind what it wrote; no other byte is changed. And how many digits a number has.
 ghost use mathlib.Core.Path.{_≡_};
 ghost use mathlib.Core.List.{_∷_, []};
 ghost use Prim.Native.Nat.{_+_, _≤_, _<_};
 ghost use lib.ListN.{length};
 ghost use lib.Seq.{sets};
 ghost use Rattle.csv.specs.Decimals.{numeral};
+
+// How many digits the decimal number of k has.
+pub fn digit_count(k: usize) -> usize
+    requires { ⌜ k < 1000 ⌝ }
+    ensures answer { λ r. ⌜ r ≡ length (numeral k) ⌝ }
+{
+    if k < 10 {
+        return 1;
+    }
+    if k < 100 {
+        return 2;
+    }
+    3
+}
 
 // Writes `bytes`.
 pub fn put_bytes(out: &mut [u8], at: usize, bytes: &[u8]) -> usize

@@ -7,7 +7,7 @@ ghost use Prim.Native.Nat.{_+_, _≤_, _<_};
 ghost use lib.ListN.{length, drop};
 ghost use lib.Seq.{sets};
 ghost use Rattle.semigroups.specs.Tables.{Element, Filled};
-ghost use Rattle.csv.specs.Decimals.{digits, value, numeral};
+ghost use Rattle.csv.specs.Decimals.{digits, value};
 ghost use Rattle.csv.specs.Records.{lineText};
 ghost use Rattle.csv.specs.Cursor.{fieldEnd};
 ghost use Rattle.csv.specs.Tables.{fieldsOf, orderOf, cellsOf, rowFields, tableText};
@@ -298,20 +298,6 @@ pub fn load(text: &[u8], cells: &mut [u8]) -> Loaded
     Loaded::Order(n)
 }
 
-// How many digits the decimal number of k has.
-fn digit_count(k: usize) -> usize
-    requires { ⌜ k < 1000 ⌝ }
-    ensures answer { λ r. ⌜ r ≡ length (numeral k) ⌝ }
-{
-    if k < 10 {
-        return 1;
-    }
-    if k < 100 {
-        return 2;
-    }
-    3
-}
-
 // The length of the text of a table: each cell is followed by a comma or a CR, each row by an LF.
 fn text_length(cells: &[u8], n: usize) -> usize
     requires { ⌜ Filled n (now cells) ⌝ }
@@ -320,7 +306,7 @@ fn text_length(cells: &[u8], n: usize) -> usize
     let mut total = n;
     let mut place: usize = 0;
     while place < cells.len() {
-        total += digit_count(cells[place] as usize) + 1;
+        total += lines::digit_count(cells[place] as usize) + 1;
         place += 1;
     }
     total

@@ -68,6 +68,24 @@ extern "C" {
         positions_length: usize,
         answer: &mut Answer,
     );
+    fn tickdrizzle_load_names(
+        text: *const u8,
+        text_length: usize,
+        names: *mut u8,
+        names_length: usize,
+        lengths: *mut u8,
+        lengths_length: usize,
+        answer: &mut Answer,
+    );
+    fn tickdrizzle_save_names(
+        names: *const u8,
+        names_length: usize,
+        lengths: *const u8,
+        lengths_length: usize,
+        text: *mut u8,
+        text_length: usize,
+        answer: &mut Answer,
+    );
 }
 
 pub fn check_table(cells: &[u8], order: usize, answer: &mut Answer) {
@@ -261,5 +279,33 @@ pub fn save(cells: &[u8], order: usize, text: &mut [u8], answer: &mut Answer) {
 pub fn least_degree(cells: &[u8], order: usize, positions: &mut [u8], answer: &mut Answer) {
     unsafe {
         tickdrizzle_least_degree(cells.as_ptr(), cells.len(), order, positions.as_mut_ptr(), positions.len(), answer)
+    }
+}
+
+pub fn load_names(text: &[u8], names: &mut [u8], lengths: &mut [u8], answer: &mut Answer) {
+    unsafe {
+        tickdrizzle_load_names(
+            text.as_ptr(),
+            text.len(),
+            names.as_mut_ptr(),
+            names.len(),
+            lengths.as_mut_ptr(),
+            lengths.len(),
+            answer,
+        )
+    }
+}
+
+pub fn save_names(names: &[u8], lengths: &[u8], text: &mut [u8], answer: &mut Answer) {
+    unsafe {
+        tickdrizzle_save_names(
+            names.as_ptr(),
+            names.len(),
+            lengths.as_ptr(),
+            lengths.len(),
+            text.as_mut_ptr(),
+            text.len(),
+            answer,
+        )
     }
 }

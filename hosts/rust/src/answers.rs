@@ -61,10 +61,25 @@ pub enum Question {
     FieldRange,
     /// 26: are there as many records as the first has fields, each with that many?
     Square,
-    /// 27: has the buffer room for the cells?
+    /// 27: has each buffer room for what is loaded?
     CellRoom,
     /// 28: has the buffer room for the text?
     TextRoom,
+    /// 40: is the sheet one or more records of two fields?
+    Sheet {
+        /// The offending place, counted from 0: the length of the longest beginning that some sheet starts with.
+        place: usize,
+    },
+    /// 41: is the name 1 to 40 bytes from 20 to 7E?
+    Name {
+        /// The place of its record or in the list of lengths, counted from 1.
+        place: usize,
+    },
+    /// 42: is the number the next and at most 120?
+    NameNumber {
+        /// The record's place, counted from 1. Saving asks whether there are 1 to 120 lengths, and says 0.
+        place: usize,
+    },
     /// 50: is every entry of the list 1 to n?
     Generator,
     /// 51: does the list generate all n elements? An empty one generates none.
@@ -100,6 +115,9 @@ impl Question {
             Question::Square => 26,
             Question::CellRoom => 27,
             Question::TextRoom => 28,
+            Question::Sheet { .. } => 40,
+            Question::Name { .. } => 41,
+            Question::NameNumber { .. } => 42,
             Question::Generator => 50,
             Question::Generation => 51,
             Question::Chosen => 60,
@@ -128,6 +146,9 @@ impl Question {
             26 => Question::Square,
             27 => Question::CellRoom,
             28 => Question::TextRoom,
+            40 => Question::Sheet { place: number(answer, 2) },
+            41 => Question::Name { place: number(answer, 2) },
+            42 => Question::NameNumber { place: number(answer, 2) },
             50 => Question::Generator,
             51 => Question::Generation,
             60 => Question::Chosen,
@@ -315,7 +336,7 @@ impl LimitedSearch {
     }
 }
 
-/// The size that a call gives: an order or a length.
+/// The size that a call gives: an order, a length or a number of names.
 pub(crate) fn size(answer: &Answer) -> usize {
     number(answer, 2)
 }

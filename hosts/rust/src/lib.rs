@@ -36,6 +36,10 @@ pub const MOST_CELLS: usize = GREATEST_ORDER * GREATEST_ORDER;
 pub const MOST_SCRATCH: usize = scratch_size(GREATEST_ORDER, GREATEST_ORDER);
 /// The text of a table of the greatest order whose cells have three digits each.
 pub const LONGEST_TEXT: usize = 57_720;
+/// The most names on a sheet.
+pub const MOST_NAMES: usize = 120;
+/// The most bytes of a name.
+pub const LONGEST_NAME: usize = 40;
 /// The greatest degree of a table of transformations.
 pub const GREATEST_DEGREE: usize = 3;
 
@@ -208,4 +212,16 @@ pub fn save(cells: &[u8], order: usize, text: &mut [u8]) -> Result<usize, Refusa
 /// ```
 pub fn least_degree(cells: &[u8], order: usize, positions: &mut [u8]) -> Result<Option<usize>, Refusal> {
     answered(|answer| abi::least_degree(cells, order, positions, answer), answers::degree)
+}
+
+/// Writes the names on a sheet, one after another, to the front of `names` and their lengths to the front of `lengths`; how
+/// many there are. A sheet has one record for each name: its number, rising by one from 1, and the name, each quoted or not.
+pub fn load_names(text: &[u8], names: &mut [u8], lengths: &mut [u8]) -> Result<usize, Refusal> {
+    answered(|answer| abi::load_names(text, names, lengths, answer), answers::size)
+}
+
+/// Writes the sheet of the names that stand one after another in `names`, with these lengths, to the front of `text`; its
+/// length. Bytes of `names` past the last length are not looked at.
+pub fn save_names(names: &[u8], lengths: &[u8], text: &mut [u8]) -> Result<usize, Refusal> {
+    answered(|answer| abi::save_names(names, lengths, text, answer), answers::size)
 }

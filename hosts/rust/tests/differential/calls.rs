@@ -2,6 +2,7 @@
 
 use crate::random::Random;
 use crate::reference::{self, Ask, Kind};
+use crate::sheets;
 use std::fmt;
 use std::ops::{Deref, DerefMut};
 use tickdrizzle::abi::{self, Answer};
@@ -75,10 +76,12 @@ pub enum Call {
     Load { text: Lent, cells: Lent },
     Save { table: LentTable, text: Lent },
     LeastDegree { table: LentTable, positions: Lent },
+    LoadNames { text: Lent, names: Lent, lengths: Lent },
+    SaveNames { names: Lent, lengths: Lent, text: Lent },
 }
 
 /// The functions' names, in the order of the header.
-pub const FUNCTIONS: [&str; 19] = [
+pub const FUNCTIONS: [&str; 21] = [
     "check_table",
     "index_period",
     "profile",
@@ -98,6 +101,8 @@ pub const FUNCTIONS: [&str; 19] = [
     "load",
     "save",
     "least_degree",
+    "load_names",
+    "save_names",
 ];
 
 impl Call {
@@ -122,6 +127,8 @@ impl Call {
             Call::Load { .. } => "load",
             Call::Save { .. } => "save",
             Call::LeastDegree { .. } => "least_degree",
+            Call::LoadNames { .. } => "load_names",
+            Call::SaveNames { .. } => "save_names",
         }
     }
 
@@ -168,6 +175,8 @@ impl Call {
             Call::LeastDegree { table, positions } => {
                 abi::least_degree(&table.cells, table.order, positions, &mut answer);
             }
+            Call::LoadNames { text, names, lengths } => abi::load_names(text, names, lengths, &mut answer),
+            Call::SaveNames { names, lengths, text } => abi::save_names(names, lengths, text, &mut answer),
         }
         answer
     }
@@ -229,6 +238,12 @@ impl Call {
                 let answer = tickdrizzle::least_degree(&table.cells, table.order, positions);
                 encoded(answer, |degree| vec![degree.unwrap_or(0)])
             }
+            Call::LoadNames { text, names, lengths } => {
+                encoded(tickdrizzle::load_names(text, names, lengths), |count| vec![count])
+            }
+            Call::SaveNames { names, lengths, text } => {
+                encoded(tickdrizzle::save_names(names, lengths, text), |length| vec![length])
+            }
         }
     }
 
@@ -257,6 +272,8 @@ impl Call {
             Call::Load { text, cells } => reference::load(text, cells),
             Call::Save { table, text } => reference::save(&table.cells, table.order, text),
             Call::LeastDegree { table, positions } => reference::least_degree(&table.cells, table.order, positions),
+            Call::LoadNames { text, names, lengths } => sheets::load(text, names, lengths),
+            Call::SaveNames { names, lengths, text } => sheets::save(names, lengths, text),
         }
     }
 }
@@ -284,6 +301,7 @@ fn question_values(question: Question) -> Vec<usize> {
         Question::CellRange { cell } => vec![cell],
         Question::Associativity { i, j, k } => vec![i, j, k],
         Question::TextByte { place } => vec![place],
+        Question::Sheet { place } | Question::Name { place } | Question::NameNumber { place } => vec![place],
         _ => vec![],
     }
 }

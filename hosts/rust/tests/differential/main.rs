@@ -1,12 +1,14 @@
 //! Compares the library with an independent implementation, the whole answer and every byte of every buffer, on every
-//! small table and on CALLS random inputs: differential [CALLS] [SEED]. Prints the counts; fails where there is any
+//! small table, every short name sheet and CALLS random inputs: differential [CALLS] [SEED]. Prints the counts; fails where there is any
 //! difference.
 
 mod calls;
 mod families;
 mod inputs;
+mod names;
 mod random;
 mod reference;
+mod sheets;
 mod tally;
 
 use calls::{Call, Lent, LentTable};
@@ -38,6 +40,8 @@ fn main() -> ExitCode {
     let mut comparison = Comparison { random: Random::new(seed), tally: Tally::default() };
     comparison.small_tables();
     comparison.scratch_lengths();
+    comparison.small_sheets();
+    comparison.written_sheets();
     let enough = comparison.tally.calls + calls;
     while comparison.tally.calls < enough {
         comparison.some_calls();
@@ -204,7 +208,7 @@ impl Comparison {
 
     /// Calls of one kind.
     fn some_calls(&mut self) {
-        match self.random.below(45) {
+        match self.random.below(53) {
             0..=10 => self.one_table(),
             11..=13 => self.lists(),
             14..=15 => self.map_check(),
@@ -214,7 +218,10 @@ impl Comparison {
             27..=33 => self.load(),
             34..=39 => self.save(),
             40..=42 => self.limited_search(),
-            _ => self.least_degree(),
+            43..=44 => self.least_degree(),
+            45..=48 => self.load_names(),
+            49..=51 => self.save_names(),
+            _ => self.name_rounds(),
         }
     }
 

@@ -4,20 +4,20 @@
 use tickdrizzle::abi::{Answer, ANSWERS};
 
 /// The first question that failed: its number, the side it names or 0, the values said with it.
-struct No {
+pub struct No {
     number: u64,
     side: u64,
     values: Vec<u64>,
 }
 
 /// What a call says: its values, or the first "no".
-type Says = Result<Vec<u64>, No>;
+pub type Says = Result<Vec<u64>, No>;
 
-fn no(number: u64, values: &[usize]) -> No {
+pub fn no(number: u64, values: &[usize]) -> No {
     No { number, side: 0, values: numbers(values) }
 }
 
-fn ask(yes: bool, number: u64) -> Result<(), No> {
+pub fn ask(yes: bool, number: u64) -> Result<(), No> {
     if yes {
         Ok(())
     } else {
@@ -25,12 +25,12 @@ fn ask(yes: bool, number: u64) -> Result<(), No> {
     }
 }
 
-fn numbers(values: &[usize]) -> Vec<u64> {
+pub fn numbers(values: &[usize]) -> Vec<u64> {
     values.iter().map(|&value| value as u64).collect()
 }
 
 /// The numbers of an answer.
-fn answer(says: Says) -> Answer {
+pub fn answer(says: Says) -> Answer {
     let (number, side, values) = match says {
         Ok(values) => (0, 0, values),
         Err(no) => (no.number, no.side, no.values),
@@ -46,7 +46,7 @@ fn answer(says: Says) -> Answer {
 const ROW: usize = 4;
 const COLUMN: usize = 5;
 
-fn write_front(buffer: &mut [u8], bytes: &[u8]) {
+pub fn write_front(buffer: &mut [u8], bytes: &[u8]) {
     buffer[..bytes.len()].copy_from_slice(bytes);
 }
 

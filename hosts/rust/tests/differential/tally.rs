@@ -5,7 +5,8 @@ use std::collections::{BTreeMap, BTreeSet};
 use tickdrizzle::abi::Answer;
 
 /// The numbers of the questions.
-const QUESTIONS: [u64; 23] = [1, 2, 3, 4, 5, 6, 7, 8, 9, 20, 21, 23, 24, 25, 26, 27, 28, 50, 51, 60, 61, 62, 80];
+const QUESTIONS: [u64; 26] =
+    [1, 2, 3, 4, 5, 6, 7, 8, 9, 20, 21, 23, 24, 25, 26, 27, 28, 40, 41, 42, 50, 51, 60, 61, 62, 80];
 
 #[derive(Clone, Copy, PartialEq, Eq, PartialOrd, Ord)]
 enum Outcome {

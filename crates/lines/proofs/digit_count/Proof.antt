@@ -3,8 +3,8 @@
 use mathlib.Core.Path.{ap, sym}
 use lib.ListN.{length}
 use Rattle.csv.proofs.Decimals.{numeral-one, numeral-two, numeral-three}
-use Rattle.text.proofs.digit_count.Statement.{statement}
-use Rattle.text.proofs.digit_count.Tie as tie
+use Rattle.lines.proofs.digit_count.Statement.{statement}
+use Rattle.lines.proofs.digit_count.Tie as tie
 
 returns : tie.Need-returns
 returns c = sym (ap length (numeral-one _ (c .if1 .taken)))

@@ -1,0 +1,23 @@
+-- `tickdrizzle_save_names` meets its contract: it writes what `names::save` answers, and the text is as that leaves it.
+-- Assumes nothing.
+use borrow.Author.Needs.{needs}
+use Rattle.exports.proofs.tickdrizzle_save_names.Statement.{statement}
+use Rattle.exports.proofs.tickdrizzle_save_names.Tie as tie
+
+save-requires : tie.Need-save-requires
+save-requires c κs = search needs
+
+names-words-requires : tie.Need-names-words-requires
+names-words-requires c κs = search needs
+
+same-length : tie.Need-same-length
+same-length c = search needs
+
+returns : tie.Need-returns
+returns c =
+    let called = c .before .before .before .save .ensures in
+    (rw (called .0) at (c .names-words .ensures), called .1)
+
+pub tickdrizzle-save-names-spec : {M : Type 1} → statement M
+tickdrizzle-save-names-spec =
+    tie.close (tie.spec save-requires names-words-requires same-length returns)

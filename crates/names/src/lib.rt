@@ -1,0 +1,705 @@
+// Name sheets: one record for each name, its number and the name, as RFC 4180 text with quoted fields. In memory the names stand one after another in
+// one buffer, their lengths, a byte each, in another. `load` asks questions 40, 42, 41 and 27 of a text, `save` asks 42, 41 and 28; a refusal changes no
+// byte. What the contracts cite, and that loading and saving undo each other, is in the crate `sheets`.
+ghost use mathlib.Core.Path.{_≡_};
+ghost use mathlib.Core.Bool.{cond};
+ghost use mathlib.Core.List.{List, [], _∷_, _++_, map, flatten};
+ghost use mathlib.Core.Option.{none, some};
+ghost use Prim.Native.Nat.{ℕ, _+_, _≤_};
+ghost use lib.ListN.{length, drop};
+ghost use lib.Seq.{sets};
+ghost use Rattle.semigroups.specs.Calls.{overwritten};
+ghost use Rattle.tables.specs.Answers.{refusalNumbers};
+ghost use Rattle.sheets.specs.Grammar.{isPrintable, isTextData, isQuotable, Passes, sheetRows};
+ghost use Rattle.sheets.specs.Readings.{Reading, rowsNames};
+ghost use Rattle.sheets.specs.Names.{isName, isNumber, needsQuotes, doubled, nameText, namesText, namesAt};
+ghost use Rattle.sheets.specs.Calls.{loadNamesAnswer, namesAfter, lengthsAfter, saveNamesAnswer, sheetAfter};
+ghost use Rattle.sheets.specs.Automaton.{afterField, bareStep, openingStep, step, accepting, isDead, accepts, place};
+ghost use Rattle.sheets.specs.Cursor.{bareValue, quotedValue, quotedSize, valueAt, sizeAt};
+ghost use Rattle.names.specs.Answers.{namesFaultRefusal, namesAnswerSays};
+ghost use Rattle.names.specs.declared.State.the-variants.{Quoted, Shut, Cr, Bare};
+ghost use Rattle.names.specs.Reading.{partOf, stateOf, formPlace, Holds, Judges, JudgesNames, Fits, Nameable};
+use tables::Refusal;
+
+// Why a text or names are refused: 40 with the offending place; 42 and 41 with the place of the record or name, from 1; 42 for the number of lengths; 27
+// for the buffers of the names; 28 for the buffer of the text.
+pub enum NamesFault {
+    Form(usize),
+    Number(usize),
+    Name(usize),
+    Count,
+    NamesRoom,
+    TextRoom,
+}
+
+impl NamesFault {
+    pub fn refusal(self) -> Refusal
+        ensures answer { λ r. ⌜ r ≡ refusalNumbers (namesFaultRefusal self) ⌝ }
+    {
+        match self {
+            NamesFault::Form(place) => Refusal::by(40, place),
+            NamesFault::Number(place) => Refusal::by(42, place),
+            NamesFault::Name(place) => Refusal::by(41, place),
+            NamesFault::Count => Refusal::by(42, 0),
+            NamesFault::NamesRoom => Refusal::by(27, 0),
+            NamesFault::TextRoom => Refusal::by(28, 0),
+        }
+    }
+}
+
+// What a call answers: the number of names loaded or the length of the text saved; or the earliest failed question.
+pub enum NamesAnswer {
+    Given(usize),
+    Refused(NamesFault),
+}
+
+// ---- bytes
+
+// Hexadecimal 20 to 7E.
+fn is_printable(b: u8) -> bool
+    ensures answer { λ r. ⌜ r ≡ isPrintable b ⌝ }
+{
+    match b {
+        32..=126 => true,
+        _ => false,
+    }
+}
+
+// A byte of a field with no quote marks around it.
+fn is_text_data(b: u8) -> bool
+    ensures answer { λ r. ⌜ r ≡ isTextData b ⌝ }
+{
+    match b {
+        34 => false,
+        44 => false,
+        _ => is_printable(b),
+    }
+}
+
+// A byte that stands for itself between quote marks.
+fn is_quotable(b: u8) -> bool
+    ensures answer { λ r. ⌜ r ≡ isQuotable b ⌝ }
+{
+    match b {
+        10 => true,
+        13 => true,
+        34 => false,
+        _ => is_printable(b),
+    }
+}
+
+// ---- question 40: the text byte by byte
+
+// The two fields of a record.
+enum Part {
+    Number,
+    Name,
+}
+
+// Where the reading stands: at the start of a field; behind a byte of a field with no quote marks; between quote marks; behind a quote mark that closes
+// the field or is the first of two; behind CR; behind CR LF; nowhere.
+enum State {
+    Opening(Part),
+    Bare(Part),
+    Quoted(Part),
+    Shut(Part),
+    Cr,
+    Line,
+    Dead,
+}
+
+// Behind a field comes a comma or CR.
+fn after_field(part: Part, b: u8) -> State
+    ensures answer { λ r. ⌜ stateOf r ≡ afterField (partOf part) b ⌝ }
+{
+    match part {
+        Part::Number => {
+            if b == 44 {
+                return State::Opening(Part::Name);
+            }
+            State::Dead
+        }
+        Part::Name => {
+            if b == 13 {
+                return State::Cr;
+            }
+            State::Dead
+        }
+    }
+}
+
+fn bare_step(part: Part, b: u8) -> State
+    ensures answer { λ r. ⌜ stateOf r ≡ bareStep (partOf part) b ⌝ }
+{
+    if is_text_data(b) {
+        return State::Bare(part);
+    }
+    after_field(part, b)
+}
+
+fn opening_step(part: Part, b: u8) -> State
+    ensures answer { λ r. ⌜ stateOf r ≡ openingStep (partOf part) b ⌝ }
+{
+    if b == 34 {
+        return State::Quoted(part);
+    }
+    bare_step(part, b)
+}
+
+fn quoted_step(part: Part, b: u8) -> State
+    ensures answer { λ r. ⌜ stateOf r ≡ step (stateOf (Quoted part)) b ⌝ }
+{
+    if b == 34 {
+        return State::Shut(part);
+    }
+    if is_quotable(b) {
+        return State::Quoted(part);
+    }
+    State::Dead
+}
+
+fn shut_step(part: Part, b: u8) -> State
+    ensures answer { λ r. ⌜ stateOf r ≡ step (stateOf (Shut part)) b ⌝ }
+{
+    if b == 34 {
+        return State::Quoted(part);
+    }
+    after_field(part, b)
+}
+
+fn cr_step(b: u8) -> State
+    ensures answer { λ r. ⌜ stateOf r ≡ step (stateOf Cr) b ⌝ }
+{
+    if b == 10 {
+        return State::Line;
+    }
+    State::Dead
+}
+
+// The state behind one more byte.
+fn step(state: State, b: u8) -> State
+    ensures answer { λ r. ⌜ stateOf r ≡ step (stateOf state) b ⌝ }
+{
+    match state {
+        State::Opening(part) => opening_step(part, b),
+        State::Bare(part) => bare_step(part, b),
+        State::Quoted(part) => quoted_step(part, b),
+        State::Shut(part) => shut_step(part, b),
+        State::Cr => cr_step(b),
+        State::Line => opening_step(Part::Number, b),
+        State::Dead => State::Dead,
+    }
+}
+
+fn is_name_part(part: Part) -> bool
+    ensures answer { λ r. ⌜ r ≡ accepting (stateOf (Bare part)) ⌝ }
+{
+    match part {
+        Part::Number => false,
+        Part::Name => true,
+    }
+}
+
+// Whether the text may end here.
+fn may_end(state: State) -> bool
+    ensures answer { λ r. ⌜ r ≡ accepting (stateOf state) ⌝ }
+{
+    match state {
+        State::Opening(part) => is_name_part(part),
+        State::Bare(part) => is_name_part(part),
+        State::Quoted(_) => false,
+        State::Shut(part) => is_name_part(part),
+        State::Cr => false,
+        State::Line => true,
+        State::Dead => false,
+    }
+}
+
+// Whether no sheet has begun so.
+fn is_dead(state: State) -> bool
+    ensures answer { λ r. ⌜ r ≡ isDead (stateOf state) ⌝ }
+{
+    match state {
+        State::Opening(_) => false,
+        State::Bare(_) => false,
+        State::Quoted(_) => false,
+        State::Shut(_) => false,
+        State::Cr => false,
+        State::Line => false,
+        State::Dead => true,
+    }
+}
+
+// Whether the text is one or more records of two fields, or where it offends.
+enum Form {
+    Sheet,
+    Offends(usize),
+}
+
+fn scan(text: &[u8]) -> Form
+    ensures answer { λ r. ⌜ formPlace r ≡ cond (accepts (now (text .entry))) none (some (place (now (text .entry)))) ⌝ }
+{
+    let mut state = State::Opening(Part::Number);
+    let mut i: usize = 0;
+    while i < text.len() {
+        let next = step(state, text[i]);
+        if is_dead(next) {
+            return Form::Offends(i);
+        }
+        state = next;
+        i += 1;
+    }
+    if may_end(state) {
+        return Form::Sheet;
+    }
+    Form::Offends(i)
+}
+
+// ---- fields
+
+// The value of a field: its first 41 bytes, so that one of more than 40 shows; and the place behind the field.
+struct Value {
+    bytes: [u8; 41],
+    size: usize,
+    end: usize,
+}
+
+impl Value {
+    fn empty() -> Self
+        ensures answer { λ r. ⌜ Holds [] r ⌝ }
+    {
+        Value {
+            bytes: [0u8; 41],
+            size: 0,
+            end: 0,
+        }
+    }
+
+    // With one byte more, unless there are 41.
+    fn with(self, b: u8) -> Self
+        ensures answer { λ r. ⌜ ((s : List ℕ) → Holds s self → Holds (s ++ b ∷ []) r) ⌝ }
+    {
+        let at = self.size;
+        if 41 <= at {
+            return self;
+        }
+        let mut longer = self;
+        longer.bytes[at] = b;
+        longer.size = at + 1;
+        longer
+    }
+
+    // The same, of a field with this place behind it.
+    fn ending(self, end: usize) -> Self
+        ensures value { λ r. ⌜ ((s : List ℕ) → Holds s self → Holds s r) ⌝ }
+        ensures end { λ r. ⌜ r .end ≡ end ⌝ }
+    {
+        let mut ended = self;
+        ended.end = end;
+        ended
+    }
+
+    // Whether it is the number k; whether it is a name.
+    fn is_number(self, k: usize) -> bool
+        ensures answer { λ r. ⌜ ((s : List ℕ) → Holds s self → r ≡ isNumber k s) ⌝ }
+    {
+        let bytes = self.bytes;
+        let size = self.size;
+        if 41 < size {
+            return false;
+        }
+        is_number(&bytes[..size], k)
+    }
+
+    fn is_name(self) -> bool
+        ensures answer { λ r. ⌜ ((s : List ℕ) → Holds s self → r ≡ isName s) ⌝ }
+    {
+        let bytes = self.bytes;
+        let size = self.size;
+        if 41 < size {
+            return false;
+        }
+        is_name(&bytes[..size])
+    }
+}
+
+// The field with no quote marks around it that begins at `at`.
+fn read_bare(text: &[u8], at: usize) -> Value
+    requires { ⌜ at ≤ length (now text) ⌝ }
+    ensures value { λ r. ⌜ Holds (bareValue (drop at (now (text .entry)))) r ⌝ }
+    ensures end { λ r. ⌜ r .end ≡ at + length (bareValue (drop at (now (text .entry)))) ⌝ }
+{
+    let mut value = Value::empty();
+    let mut i = at;
+    while i < text.len() {
+        let b = text[i];
+        match b {
+            13 => {
+                return value.ending(i);
+            }
+            44 => {
+                return value.ending(i);
+            }
+            _ => {
+                value = value.with(b);
+                i += 1;
+            }
+        }
+    }
+    value.ending(i)
+}
+
+// The field whose opening quote mark stands before `at`.
+fn read_quoted(text: &[u8], at: usize) -> Value
+    requires { ⌜ at ≤ length (now text) ⌝ }
+    ensures value { λ r. ⌜ Holds (quotedValue (drop at (now (text .entry)))) r ⌝ }
+    ensures end { λ r. ⌜ r .end ≡ at + quotedSize (drop at (now (text .entry))) ⌝ }
+{
+    let mut value = Value::empty();
+    let mut i = at;
+    while i < text.len() {
+        let b = text[i];
+        match b {
+            34 => {
+                if text.len() - i < 2 {
+                    return value.ending(i + 1);
+                }
+                if text[i + 1] != 34 {
+                    return value.ending(i + 1);
+                }
+                value = value.with(b);
+                i += 2;
+            }
+            _ => {
+                value = value.with(b);
+                i += 1;
+            }
+        }
+    }
+    value.ending(i)
+}
+
+// The field that begins at `at`.
+fn read_field(text: &[u8], at: usize) -> Value
+    requires { ⌜ at ≤ length (now text) ⌝ }
+    ensures value { λ r. ⌜ Holds (valueAt (drop at (now (text .entry)))) r ⌝ }
+    ensures end { λ r. ⌜ r .end ≡ at + sizeAt (drop at (now (text .entry))) ⌝ }
+{
+    if text.len() <= at {
+        return read_bare(text, at);
+    }
+    if text[at] == 34 {
+        return read_quoted(text, at + 1);
+    }
+    read_bare(text, at)
+}
+
+// ---- names and numbers
+
+// Whether these bytes are the number k, of at most 120: decimal, with no leading 0.
+fn is_number(bytes: &[u8], k: usize) -> bool
+    ensures answer { λ r. ⌜ r ≡ isNumber k (now (bytes .entry)) ⌝ }
+{
+    if 120 < k {
+        return false;
+    }
+    if bytes.len() < 1 {
+        return false;
+    }
+    if 3 < bytes.len() {
+        return false;
+    }
+    if bytes[0] == 48 {
+        return false;
+    }
+    let mut v: usize = 0;
+    let mut i: usize = 0;
+    while i < bytes.len() {
+        let b = bytes[i];
+        match b {
+            48..=57 => {
+                v = v * 10 + (b - 48) as usize;
+                i += 1;
+            }
+            _ => {
+                return false;
+            }
+        }
+    }
+    v == k
+}
+
+// Whether these bytes are a name: 1 to 40 of them, from hexadecimal 20 to 7E.
+fn is_name(bytes: &[u8]) -> bool
+    ensures answer { λ r. ⌜ r ≡ isName (now (bytes .entry)) ⌝ }
+{
+    if bytes.len() < 1 {
+        return false;
+    }
+    if 40 < bytes.len() {
+        return false;
+    }
+    let mut i: usize = 0;
+    while i < bytes.len() {
+        let b = bytes[i];
+        match b {
+            32..=126 => {
+                i += 1;
+            }
+            _ => {
+                return false;
+            }
+        }
+    }
+    true
+}
+
+// ---- loading
+
+// Whether the questions about the records or the names pass; then two numbers: how many names, and how many bytes they take in memory or as a text.
+enum Judged {
+    Passed(usize, usize),
+    Failed(NamesFault),
+}
+
+// Questions 42 and 41 of each record; then how many names there are, and how many bytes they have.
+fn judge_records(text: &[u8]) -> Judged
+    requires { ⌜ Passes (now text) ⌝ }
+    ensures answer { λ r. ⌜ ((p : Passes (now (text .entry))) → Judges (sheetRows (p .sheet)) r) ⌝ }
+{
+    let mut at: usize = 0;
+    let mut k: usize = 1;
+    let mut total: usize = 0;
+    let mut more = true;
+    while more {
+        let number = read_field(text, at);
+        let comma = number.end;
+        if !number.is_number(k) {
+            return Judged::Failed(NamesFault::Number(k));
+        }
+        let name = read_field(text, comma + 1);
+        let end = name.end;
+        let size = name.size;
+        if !name.is_name() {
+            return Judged::Failed(NamesFault::Name(k));
+        }
+        total += size;
+        k += 1;
+        at = end + 2;
+        more = at < text.len();
+    }
+    Judged::Passed(k - 1, total)
+}
+
+// Writes the names of the records to `names`, one after another, and their lengths to `lengths`.
+fn write_names(text: &[u8], names: &mut [u8], lengths: &mut [u8])
+    requires form { ⌜ Passes (now text) ⌝ }
+    requires fits { ⌜ ((p : Passes (now text)) → Fits (sheetRows (p .sheet)) (length (now names)) (length (now lengths))) ⌝ }
+    ensures names { λ _. ⌜ ((p : Passes (now (text .entry))) → now (names .exit) ≡ overwritten (flatten (rowsNames (sheetRows (p .sheet)))) (now (names .entry))) ⌝ }
+    ensures lengths { λ _. ⌜ ((p : Passes (now (text .entry))) → now (lengths .exit) ≡ overwritten (map length (rowsNames (sheetRows (p .sheet)))) (now (lengths .entry))) ⌝ }
+{
+    let mut at: usize = 0;
+    let mut start: usize = 0;
+    let mut k: usize = 0;
+    let mut more = true;
+    while more {
+        let number = read_field(text, at);
+        let name = read_field(text, number.end + 1);
+        let end = name.end;
+        let size = name.size;
+        let bytes = name.bytes;
+        start = lines::put_bytes(names, start, &bytes[..size]);
+        lengths[k] = size as u8;
+        k += 1;
+        at = end + 2;
+        more = at < text.len();
+    }
+}
+
+// Loads the names on the sheet `text`: answers their number, writes them one after another to the start of `names` and their lengths to the start of
+// `lengths`; or answers the earliest question that fails, and writes nothing.
+pub fn load(text: &[u8], names: &mut [u8], lengths: &mut [u8]) -> NamesAnswer
+    ensures answer { λ r. ⌜ ((w : Reading (now (text .entry))) → namesAnswerSays r ≡ loadNamesAnswer w (now (names .entry)) (now (lengths .entry))) ⌝ }
+    ensures names { λ _. ⌜ ((w : Reading (now (text .entry))) → now (names .exit) ≡ namesAfter w (now (names .entry)) (now (lengths .entry))) ⌝ }
+    ensures lengths { λ _. ⌜ ((w : Reading (now (text .entry))) → now (lengths .exit) ≡ lengthsAfter w (now (names .entry)) (now (lengths .entry))) ⌝ }
+{
+    let form = scan(text);
+    if let Form::Offends(k) = form {
+        return NamesAnswer::Refused(NamesFault::Form(k));
+    }
+    let judged = judge_records(text);
+    match judged {
+        Judged::Failed(fault) => NamesAnswer::Refused(fault),
+        Judged::Passed(count, total) => {
+            if names.len() < total {
+                return NamesAnswer::Refused(NamesFault::NamesRoom);
+            }
+            if lengths.len() < count {
+                return NamesAnswer::Refused(NamesFault::NamesRoom);
+            }
+            write_names(text, names, lengths);
+            NamesAnswer::Given(count)
+        }
+    }
+}
+
+// ---- saving
+
+// Whether a name holds a comma or a quote mark.
+fn needs_quotes(name: &[u8]) -> bool
+    ensures answer { λ r. ⌜ r ≡ needsQuotes (now (name .entry)) ⌝ }
+{
+    let mut i: usize = 0;
+    while i < name.len() {
+        let b = name[i];
+        match b {
+            34 => {
+                return true;
+            }
+            44 => {
+                return true;
+            }
+            _ => {
+                i += 1;
+            }
+        }
+    }
+    false
+}
+
+// The length of the text of a name.
+fn name_length(name: &[u8]) -> usize
+    requires { ⌜ length (now name) ≤ 40 ⌝ }
+    ensures answer { λ r. ⌜ r ≡ length (nameText (now (name .entry))) ⌝ }
+{
+    if !needs_quotes(name) {
+        return name.len();
+    }
+    let mut total: usize = 2;
+    let mut i: usize = 0;
+    while i < name.len() {
+        let b = name[i];
+        match b {
+            34 => {
+                total += 2;
+                i += 1;
+            }
+            _ => {
+                total += 1;
+                i += 1;
+            }
+        }
+    }
+    total
+}
+
+// Writes a name with each quote mark doubled. Answers the place behind it.
+fn put_doubled(text: &mut [u8], start: usize, name: &[u8]) -> usize
+    requires { ⌜ start + length (doubled (now name)) ≤ length (now text) ⌝ }
+    ensures answer { λ r. ⌜ r ≡ start + length (doubled (now (name .entry))) ⌝ }
+    ensures text { λ _. ⌜ now (text .exit) ≡ sets (now (text .entry)) start (doubled (now (name .entry))) ⌝ }
+{
+    let mut at = start;
+    let mut i: usize = 0;
+    while i < name.len() {
+        let b = name[i];
+        match b {
+            34 => {
+                text[at] = 34;
+                text[at + 1] = 34;
+                at += 2;
+                i += 1;
+            }
+            _ => {
+                text[at] = b;
+                at += 1;
+                i += 1;
+            }
+        }
+    }
+    at
+}
+
+// Writes a name, between quote marks where it needs them. Answers the place behind it.
+fn put_name(text: &mut [u8], start: usize, name: &[u8]) -> usize
+    requires { ⌜ start + length (nameText (now name)) ≤ length (now text) ⌝ }
+    ensures answer { λ r. ⌜ r ≡ start + length (nameText (now (name .entry))) ⌝ }
+    ensures text { λ _. ⌜ now (text .exit) ≡ sets (now (text .entry)) start (nameText (now (name .entry))) ⌝ }
+{
+    if !needs_quotes(name) {
+        return lines::put_bytes(text, start, name);
+    }
+    text[start] = 34;
+    let at = put_doubled(text, start + 1, name);
+    text[at] = 34;
+    at + 1
+}
+
+// Question 41 of each name; then how many there are, and the length of their text.
+fn judge_names(names: &[u8], lengths: &[u8]) -> Judged
+    requires { ⌜ length (now lengths) ≤ 120 ⌝ }
+    ensures answer { λ r. ⌜ JudgesNames (now (names .entry)) (now (lengths .entry)) r ⌝ }
+{
+    let mut start: usize = 0;
+    let mut k: usize = 0;
+    let mut total: usize = 0;
+    while k < lengths.len() {
+        let size = lengths[k] as usize;
+        if names.len() - start < size {
+            return Judged::Failed(NamesFault::Name(k + 1));
+        }
+        let end = start + size;
+        if !is_name(&names[start..end]) {
+            return Judged::Failed(NamesFault::Name(k + 1));
+        }
+        total += lines::digit_count(k + 1) + name_length(&names[start..end]) + 3;
+        start = end;
+        k += 1;
+    }
+    Judged::Passed(k, total)
+}
+
+// Writes the records of the names to the start of `text`.
+fn put_names(names: &[u8], lengths: &[u8], text: &mut [u8])
+    requires names { ⌜ Nameable (now names) (now lengths) ⌝ }
+    requires room { ⌜ length (namesText (namesAt (now names) (now lengths))) ≤ length (now text) ⌝ }
+    ensures text { λ _. ⌜ now (text .exit) ≡ overwritten (namesText (namesAt (now (names .entry)) (now (lengths .entry)))) (now (text .entry)) ⌝ }
+{
+    let mut start: usize = 0;
+    let mut k: usize = 0;
+    let mut at: usize = 0;
+    while k < lengths.len() {
+        let end = start + lengths[k] as usize;
+        at = lines::put_number(text, at, k + 1);
+        text[at] = 44;
+        at = put_name(text, at + 1, &names[start..end]);
+        at = lines::put_break(text, at);
+        start = end;
+        k += 1;
+    }
+}
+
+// Saves names that stand one after another in `names` with these lengths: writes their sheet to the start of `text` and answers its length; or answers
+// the earliest question that fails, and writes nothing.
+pub fn save(names: &[u8], lengths: &[u8], text: &mut [u8]) -> NamesAnswer
+    ensures answer { λ r. ⌜ namesAnswerSays r ≡ saveNamesAnswer (now (names .entry)) (now (lengths .entry)) (now (text .entry)) ⌝ }
+    ensures text { λ _. ⌜ now (text .exit) ≡ sheetAfter (now (names .entry)) (now (lengths .entry)) (now (text .entry)) ⌝ }
+{
+    if lengths.len() < 1 {
+        return NamesAnswer::Refused(NamesFault::Count);
+    }
+    if 120 < lengths.len() {
+        return NamesAnswer::Refused(NamesFault::Count);
+    }
+    let judged = judge_names(names, lengths);
+    match judged {
+        Judged::Failed(fault) => NamesAnswer::Refused(fault),
+        Judged::Passed(_, total) => {
+            if text.len() < total {
+                return NamesAnswer::Refused(NamesFault::TextRoom);
+            }
+            put_names(names, lengths, text);
+            NamesAnswer::Given(total)
+        }
+    }
+}

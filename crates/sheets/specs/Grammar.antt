@@ -1,0 +1,117 @@
+-- Sheets of two fields a record, as RFC 4180, section 2, writes them: which texts there are, and the values of their fields. The names of the
+-- constructors are those of the RFC's grammar. Stricter than it by 02, (iii): every record has two fields, and no record is a header.
+-- Assumes nothing.
+use mathlib.Core.Path.{_≡_}
+use mathlib.Core.Bool.{Bool, true, _&&_, _||_, not, cond}
+use mathlib.Core.List.{List, [], _∷_, _++_, flatMap}
+use Prim.Native.Nat.{ℕ}
+use lib.Dec.{eqb, leb}
+use Rattle.csv.specs.Every.{Every}
+
+-- ---- bytes
+
+-- The bytes that a name may have, hexadecimal 20 to 7E (02, (iii)).
+unfoldable pub isPrintable : ℕ → Bool
+isPrintable b = leb 32 b && leb b 126
+
+-- TEXTDATA: those but a comma, byte 44, and a quote mark, byte 34.
+unfoldable pub isTextData : ℕ → Bool
+isTextData b = isPrintable b && (not (eqb b 44) && not (eqb b 34))
+
+-- TEXTDATA / COMMA / CR / LF: a byte that stands for itself between quote marks.
+unfoldable pub isQuotable : ℕ → Bool
+isQuotable b = (isPrintable b && not (eqb b 34)) || (eqb b 13 || eqb b 10)
+
+-- ---- a sheet as it is written
+
+-- Between quote marks: a byte, or 2DQUOTE.
+pub data Item : Type 0 where
+  single : ℕ → Item
+  twice : Item
+
+-- A field without or with quote marks around it.
+pub data Field : Type 0 where
+  non-escaped : List ℕ → Field
+  escaped : List Item → Field
+
+pub record Entry : Type 0 where
+  pub number : Field
+  pub name : Field
+
+-- One or more records; whether CR LF stands behind the last (02, (iii): "Record ends follow the rule of (ii)").
+pub record Sheet : Type 0 where
+  pub first : Entry
+  pub others : List Entry
+  pub closed : Bool
+
+-- ---- the bytes that it may have
+
+abbrev pub ProperItem : Item → Type 0
+ProperItem (single b) = isQuotable b ≡ true
+ProperItem twice = Unit {0}
+
+abbrev pub ProperField : Field → Type 0
+ProperField (non-escaped s) = Every (λ b. isTextData b ≡ true) s
+ProperField (escaped i) = Every ProperItem i
+
+abbrev pub ProperEntry : Entry → Type 0
+ProperEntry e = ProperField (e .number) × ProperField (e .name)
+
+abbrev pub ProperSheet : Sheet → Type 0
+ProperSheet s = ProperEntry (s .first) × Every ProperEntry (s .others)
+
+-- ---- its text
+
+unfoldable pub itemText : Item → List ℕ
+itemText (single b) = b ∷ []
+itemText twice = 34 ∷ 34 ∷ []
+
+unfoldable pub fieldText : Field → List ℕ
+fieldText (non-escaped s) = s
+fieldText (escaped i) = 34 ∷ flatMap itemText i ++ 34 ∷ []
+
+unfoldable pub entryText : Entry → List ℕ
+entryText e = fieldText (e .number) ++ 44 ∷ fieldText (e .name)
+
+-- CR LF between two records.
+unfoldable pub entriesText : Entry → List Entry → List ℕ
+entriesText e [] = entryText e
+entriesText e (f ∷ fs) = entryText e ++ 13 ∷ 10 ∷ entriesText f fs
+
+unfoldable pub sheetText : Sheet → List ℕ
+sheetText s = entriesText (s .first) (s .others) ++ cond (s .closed) (13 ∷ 10 ∷ []) []
+
+-- The text passes 40: its bytes "form one or more records of two fields as RFC 4180 allows" (02, (iii)).
+pub record Passes (t : List ℕ) : Type 0 where
+  pub sheet : Sheet
+  pub proper : ProperSheet sheet
+  pub text : t ≡ sheetText sheet
+
+-- ---- its values: quote marks around a field removed, doubled ones undone
+
+unfoldable pub itemValue : Item → ℕ
+itemValue (single b) = b
+itemValue twice = 34
+
+unfoldable pub itemsValue : List Item → List ℕ
+itemsValue [] = []
+itemsValue (i ∷ is) = itemValue i ∷ itemsValue is
+
+unfoldable pub fieldValue : Field → List ℕ
+fieldValue (non-escaped s) = s
+fieldValue (escaped i) = itemsValue i
+
+-- A record's two values.
+pub record Row : Type 0 where
+  pub number : List ℕ
+  pub name : List ℕ
+
+unfoldable pub entryRow : Entry → Row
+entryRow e = record { number = fieldValue (e .number); name = fieldValue (e .name) }
+
+unfoldable pub entriesRows : Entry → List Entry → List Row
+entriesRows e [] = entryRow e ∷ []
+entriesRows e (f ∷ fs) = entryRow e ∷ entriesRows f fs
+
+unfoldable pub sheetRows : Sheet → List Row
+sheetRows s = entriesRows (s .first) (s .others)
