@@ -88,7 +88,7 @@ fn find_turned(
     let mut turned = [0u8; 14400];
     let size = n * n;
     tables::turn(target, n, &mut turned);
-    backtrack::find(source, m, &turned[..size], n, scratch, after, next)
+    narrowing::find(source, m, &turned[..size], n, scratch, after, next)
 }
 
 // The marked search: on the target as it came, or turned.
@@ -107,8 +107,8 @@ fn find(
     ensures answer { λ r. ⌜ r ≡ foundIn (searched (product m (now (source .entry))) (facing (kindOf kind) n (now (target .entry))) (marked n (now (scratch .entry))) (bounded next (now (after .entry))) n m []) ⌝ }
 {
     match kind {
-        Kind::Embeddings => backtrack::find(source, m, target, n, scratch, after, next),
-        Kind::Isomorphisms => backtrack::find(source, m, target, n, scratch, after, next),
+        Kind::Embeddings => narrowing::find(source, m, target, n, scratch, after, next),
+        Kind::Isomorphisms => narrowing::find(source, m, target, n, scratch, after, next),
         Kind::Reversed => find_turned(source, m, target, n, scratch, after, next),
     }
 }

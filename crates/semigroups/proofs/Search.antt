@@ -2,10 +2,11 @@
 -- begins no map that is asked for, and a whole list that passes is an embedding. Assumes nothing.
 use mathlib.Core.Path.{_≡_, refl, sym, ap, ap₂, _∙_, subst}
 use mathlib.Core.Bool.{Bool, true, false, _&&_, not, cond}
-use mathlib.Core.Logic.{⊎-elim}
+use mathlib.Core.Logic.{_⊎_, inl, inr, ⊎-elim}
 use mathlib.Core.Option.{Option, none, some}
 use mathlib.Core.List.{List, [], _∷_, _++_, append-assoc, List·Memᴰ·not-nil, List·Memᴰ·eq-of-singleton, List·Memᴰ·append-cases, Memᴰ·cast, Memᴰ·of-map}
-use Prim.Native.Nat.{ℕ, zero, suc, _+_, _-_}
+use Prim.Native.Nat.{ℕ, zero, suc, _+_, _-_, _≤_, _<_}
+use native.Mathlib.Nat.{eq-or-lt-of-le}
 use native.Mathlib.Omega.{arith}
 use borrow.Author.Tests.{eqb-true, eq-eqb, leb-true, leb-false, le-leb, not-true}
 use lib.Dec.{eqb, leb}
@@ -13,9 +14,9 @@ use lib.ListN.{length, length-append}
 use Rattle.semigroups.specs.Lists.{range, elements, at, all, member, earlier, lists}
 use Rattle.semigroups.specs.Tables.{Product, Element, Closed}
 use Rattle.semigroups.specs.Maps.{Embedding, isEmbedding, embeddings, maps, Ask, first, next, beyond, earliest}
-use Rattle.semigroups.specs.Search.{notBefore, fits, passes, admits, search, Placed}
+use Rattle.semigroups.specs.Search.{notBefore, fits, passes, admits, search, wanted, earliestBehind, Among, Placed}
 use Rattle.semigroups.proofs.Booleans.{clash, untrue, both, and-left, and-right, not-of-false}
-use Rattle.semigroups.proofs.Lists.{mem-elements, at-suc, at-front, at-seam, length-snoc, pairs-at, pairs-of, none-find, find-keep, sorted-append, not-member, unmember}
+use Rattle.semigroups.proofs.Lists.{mem-elements, at-suc, at-front, at-seam, length-snoc, each-at, each-of, pairs-at, pairs-of, none-find, find-same, find-keep, sorted-append, not-member, unmember}
 use Rattle.semigroups.proofs.NoRepeats.{one-to-one, mem-place, place-mem}
 use Rattle.semigroups.proofs.ListOrder.{earlier-irreflexive, earlier-transitive, earlier-longer}
 use Rattle.semigroups.proofs.Completions.{behind, findBehind, find-all, find-whole, find-entry, firstOf-same}
@@ -85,35 +86,63 @@ module _ (m : ℕ) (s : Product) (n : ℕ) (t : Product) (closed : Closed m s) w
         one-to-one = one-to-one m p e (P .apart);
       }
 
-  -- ---- the search
+-- ---- what is found behind a list
 
-  -- Every embedding takes its images among the candidates.
-  abbrev pub Sound : (ℕ → ℕ → Bool) → Type 0
-  Sound candidate = (f : List ℕ) → Embedding m s n t f → (i : ℕ) → Element m i → candidate i (at f i) ≡ true
+-- A list that is late enough begins late enough.
+late : (a : Ask) (p q : List ℕ) → beyond a (p ++ q) ≡ true → notBefore a p ≡ true
+late first p q e = refl
+late (next b) p q e =
+    not-of-false (earlier p b) (untrue (earlier p b) (λ h.
+    clash {b = earlier b b} (earlier-transitive b (p ++ q) b e (earlier-longer p q b h)) (earlier-irreflexive b)))
 
-  module _ (candidate : ℕ → ℕ → Bool) (sound : Sound candidate) (ask : Ask) where
-    wanted : List ℕ → Bool
-    wanted f = isEmbedding m s n t f && beyond ask f
+module _ (m : ℕ) (s : Product) (n : ℕ) (t : Product) (candidate : ℕ → ℕ → Bool) (ask : Ask) where
+  abbrev asked : List ℕ → Bool
+  asked = wanted m s n t candidate ask
 
-    -- A list that is late enough begins late enough.
-    late : (a : Ask) (p q : List ℕ) → beyond a (p ++ q) ≡ true → notBefore a p ≡ true
-    late first p q e = refl
-    late (next b) p q e =
-        not-of-false (earlier p b) (untrue (earlier p b) (λ h.
-        clash {b = earlier b b} (earlier-transitive b (p ++ q) b e (earlier-longer p q b h)) (earlier-irreflexive b)))
+  pub as-behind : (d : ℕ) (p : List ℕ) → earliestBehind m s n t candidate ask d p ≡ findBehind asked n d p
+  unfolding earliestBehind findBehind behind
+  as-behind d p = refl
 
+  wanted-parts : (f : List ℕ) → asked f ≡ true → Embedding m s n t f × Among m candidate f × (beyond ask f ≡ true)
+  unfolding wanted
+  wanted-parts f w =
+      let a = isEmbedding m s n t f in
+      let b = all (λ i. candidate i (at f i)) (elements m) in
+      let c = beyond ask f in
+      let r = and-right a (b && c) w in
+      (is-embedding m s n t f (and-left a (b && c) w), each-at m (λ i. candidate i (at f i)) (and-left b c r), and-right b c r)
+
+  -- Nothing is found behind a list that no map asked for begins with.
+  pub nothing-behind : (d : ℕ) (p : List ℕ) → ((q : List ℕ) → Embedding m s n t (p ++ q) → Among m candidate (p ++ q) → beyond ask (p ++ q) ≡ true → ⊥) → findBehind asked n d p ≡ none
+  unfolding findBehind behind
+  nothing-behind d p h =
+      none-find asked (behind p (lists d n)) (λ f k.
+      let r = Memᴰ·of-map {A = List ℕ} {B = List ℕ} (λ q. p ++ q) (lists d n) k in
+      untrue (asked f) (λ w.
+      let v = wanted-parts (p ++ r .0) (subst (λ (l : List ℕ). asked l ≡ true) (sym (r .2)) w) in
+      h (r .0) (v .0) (v .1) (v .2)))
+
+  -- A whole list with its images among the candidates.
+  pub whole-behind : (p : List ℕ) → Among m candidate p → findBehind asked n 0 p ≡ cond (isEmbedding m s n t p && beyond ask p) (some p) none
+  unfolding wanted
+  whole-behind p among =
+      find-whole asked n p
+      ∙ ap {B = Option (List ℕ)} (λ (b : Bool). cond (isEmbedding m s n t p && (b && beyond ask p)) (some p) none) (each-of m (λ i. candidate i (at p i)) among)
+
+  -- ---- the paper's search
+
+  module _ (closed : Closed m s) where
     -- A placing that begins a map asked for is admitted.
-    begins : (p : List ℕ) (x : ℕ) (q : List ℕ) → wanted ((p ++ x ∷ []) ++ q) ≡ true → admits s t candidate ask p x ≡ true
-    unfolding wanted admits
-    begins p x q w =
+    admitted : (p : List ℕ) (x : ℕ) (q : List ℕ) → Embedding m s n t ((p ++ x ∷ []) ++ q) → Among m candidate ((p ++ x ∷ []) ++ q) → beyond ask ((p ++ x ∷ []) ++ q) ≡ true → admits s t candidate ask p x ≡ true
+    unfolding admits
+    admitted p x q F among b =
         let f = (p ++ x ∷ []) ++ q in
-        let F = is-embedding m s n t f (and-left (isEmbedding m s n t f) (beyond ask f) w) in
         let same : f ≡ p ++ x ∷ q = append-assoc p (x ∷ []) q in
         let size : length p + suc (length q) ≡ m = sym (length-append p (x ∷ q)) ∙ ap length (sym same) ∙ F .homomorphism .size in
         let last : at f (suc (length p)) ≡ x = ap (λ (l : List ℕ). at l (suc (length p))) same ∙ at-seam p x q (suc (length p)) refl in
         let passing = passes s t (p ++ x ∷ []) in
         let late-enough = notBefore ask (p ++ x ∷ []) in
-        both (candidate (suc (length p)) x) (not (member x p) && (passing && late-enough)) (sym (ap (candidate (suc (length p))) last) ∙ sound f F (suc (length p)) (omega arith))
+        both (candidate (suc (length p)) x) (not (member x p) && (passing && late-enough)) (sym (ap (candidate (suc (length p))) last) ∙ among (suc (length p)) (omega arith))
         (both (not (member x p)) (passing && late-enough)
         (not-of-false (member x p) (unmember x p (λ k.
         let r = mem-place 0 p k in
@@ -122,37 +151,74 @@ module _ (m : ℕ) (s : Product) (n : ℕ) (t : Product) (closed : Closed m s) w
         last ∙ sym (r .2) ∙ sym (at-suc p (r .0)) ∙ sym (at-front p (x ∷ q) (suc (r .0)) (omega arith)) ∙ sym (ap (λ (l : List ℕ). at l (suc (r .0))) same) in
         let z = F .one-to-one (suc (length p)) (suc (r .0)) (omega arith) (omega arith) y in
         let o : ⊥ = omega arith in o)))
-        (both passing late-enough (beginning-passes (p ++ x ∷ []) q F) (late ask (p ++ x ∷ []) q (and-right (isEmbedding m s n t f) (beyond ask f) w))))
+        (both passing late-enough (beginning-passes m s n t closed (p ++ x ∷ []) q F) (late ask (p ++ x ∷ []) q b)))
 
-    not-admitted : (d : ℕ) (p : List ℕ) (x : ℕ) → admits s t candidate ask p x ≡ false → findBehind wanted n d (p ++ x ∷ []) ≡ none
-    unfolding findBehind behind
-    not-admitted d p x e =
-        none-find wanted (behind (p ++ x ∷ []) (lists d n)) (λ f k.
-        let r = Memᴰ·of-map {A = List ℕ} {B = List ℕ} (λ q. (p ++ x ∷ []) ++ q) (lists d n) k in
-        untrue (wanted f) (λ w. clash {b = admits s t candidate ask p x} (begins p x (r .0) (subst (λ (l : List ℕ). wanted l ≡ true) (sym (r .2)) w)) e))
+    not-admitted : (d : ℕ) (p : List ℕ) (x : ℕ) → admits s t candidate ask p x ≡ false → findBehind asked n d (p ++ x ∷ []) ≡ none
+    not-admitted d p x e = nothing-behind d (p ++ x ∷ []) (λ q F among b. clash {b = admits s t candidate ask p x} (admitted p x q F among b) e)
 
-    -- From a list placed so far the search finds the first that is asked for.
-    searches : (d : ℕ) (p : List ℕ) → length p + d ≡ m → Placed n p → passes s t p ≡ true → search s t candidate ask n d p ≡ findBehind wanted n d p
-    unfolding search wanted
-    searches zero p e P h =
-        sym (find-whole wanted n p
-        ∙ ap {B = Option (List ℕ)} (λ (c : Bool). cond (c && beyond ask p) (some p) none) (embedding-is m s n t p (whole-embeds p (omega arith) P h)))
-    searches (suc d) p e P h =
-        firstOf-same (λ x. cond (admits s t candidate ask p x) (search s t candidate ask n d (p ++ x ∷ [])) none) (λ x. findBehind wanted n d (p ++ x ∷ [])) (elements n)
-        (λ x k. one x (admits s t candidate ask p x) refl (λ a.
-        let a1 = and-right (candidate (suc (length p)) x) (not (member x p) && (passes s t (p ++ x ∷ []) && notBefore ask (p ++ x ∷ []))) (unfold admits in a) in
-        let a2 = and-right (not (member x p)) (passes s t (p ++ x ∷ []) && notBefore ask (p ++ x ∷ [])) a1 in
-        searches d (p ++ x ∷ []) (omega (arith, length-snoc p x))
-        (placed-more n p x P (mem-elements n x k) (not-true (member x p) (and-left (not (member x p)) (passes s t (p ++ x ∷ []) && notBefore ask (p ++ x ∷ [])) a1)))
-        (and-left (passes s t (p ++ x ∷ [])) (notBefore ask (p ++ x ∷ [])) a2)))
-        ∙ sym (find-entry wanted n d p)
+    -- What is placed so far.
+    record Good (p : List ℕ) : Type 0 where
+      placed : Placed n p
+      passed : passes s t p ≡ true
+      among : Among (length p) candidate p
+
+    good-more : (p : List ℕ) (x : ℕ) → Good p → Element n x → admits s t candidate ask p x ≡ true → Good (p ++ x ∷ [])
+    unfolding admits
+    good-more p x G hx a =
+        let u = passes s t (p ++ x ∷ []) in
+        let v = notBefore ask (p ++ x ∷ []) in
+        let a1 = and-right (candidate (suc (length p)) x) (not (member x p) && (u && v)) a in
+        let mine = and-left (candidate (suc (length p)) x) (not (member x p) && (u && v)) a in
+        record {
+          placed = placed-more n p x (G .placed) hx (not-true (member x p) (and-left (not (member x p)) (u && v) a1));
+          passed = and-left u v (and-right (not (member x p)) (u && v) a1);
+          among = λ i hi. mark i hi mine (eq-or-lt-of-le (let z : i ≤ suc (length p) = omega (arith, length-snoc p x) in z));
+        }
       where
-        one : (x : ℕ) (c : Bool) → admits s t candidate ask p x ≡ c → (admits s t candidate ask p x ≡ true → search s t candidate ask n d (p ++ x ∷ []) ≡ findBehind wanted n d (p ++ x ∷ [])) → cond c (search s t candidate ask n d (p ++ x ∷ [])) none ≡ findBehind wanted n d (p ++ x ∷ [])
+        mark : (i : ℕ) → Element (length (p ++ x ∷ [])) i → candidate (suc (length p)) x ≡ true → (i ≡ suc (length p)) ⊎ (i < suc (length p)) → candidate i (at (p ++ x ∷ []) i) ≡ true
+        mark i hi mine (inl e) = ap₂ candidate e (at-seam p x [] i e) ∙ mine
+        mark i hi mine (inr l) = ap (candidate i) (at-front p (x ∷ []) i (omega arith)) ∙ G .among i (omega arith)
+
+    -- From a list placed so far the search finds the earliest map behind it.
+    searches : (d : ℕ) (p : List ℕ) → length p + d ≡ m → Good p → search s t candidate ask n d p ≡ findBehind asked n d p
+    unfolding search
+    searches zero p e G =
+        sym (whole-behind p (λ i hi. G .among i (omega arith))
+        ∙ ap {B = Option (List ℕ)} (λ (c : Bool). cond (c && beyond ask p) (some p) none) (embedding-is m s n t p (whole-embeds m s n t closed p (omega arith) (G .placed) (G .passed))))
+    searches (suc d) p e G =
+        firstOf-same (λ x. cond (admits s t candidate ask p x) (search s t candidate ask n d (p ++ x ∷ [])) none) (λ x. findBehind asked n d (p ++ x ∷ [])) (elements n)
+        (λ x k. one x (admits s t candidate ask p x) refl (λ a. searches d (p ++ x ∷ []) (omega (arith, length-snoc p x)) (good-more p x G (mem-elements n x k) a)))
+        ∙ sym (find-entry asked n d p)
+      where
+        one : (x : ℕ) (c : Bool) → admits s t candidate ask p x ≡ c → (admits s t candidate ask p x ≡ true → search s t candidate ask n d (p ++ x ∷ []) ≡ findBehind asked n d (p ++ x ∷ [])) → cond c (search s t candidate ask n d (p ++ x ∷ [])) none ≡ findBehind asked n d (p ++ x ∷ [])
         one x true a below = below a
         one x false a below = sym (not-admitted d p x a)
 
-    -- From nothing placed it finds the earliest map asked for.
+    pub search-behind : search s t candidate ask n m [] ≡ findBehind asked n m []
+    search-behind =
+        searches m [] (let z : 0 + m ≡ m = omega arith in z)
+        (record { placed = placed-none n; passed = unfold passes all elements range in refl; among = λ i hi. absurd (let z : ⊥ = omega arith in z) })
+
+-- ---- sound candidates
+
+module _ (m : ℕ) (s : Product) (n : ℕ) (t : Product) (closed : Closed m s) where
+  -- Every embedding takes its images among the candidates.
+  abbrev pub Sound : (ℕ → ℕ → Bool) → Type 0
+  Sound candidate = (f : List ℕ) → Embedding m s n t f → Among m candidate f
+
+  module _ (candidate : ℕ → ℕ → Bool) (sound : Sound candidate) (ask : Ask) where
+    all-among : (f : List ℕ) → wanted m s n t candidate ask f ≡ (isEmbedding m s n t f && beyond ask f)
+    unfolding wanted
+    all-among f = go (isEmbedding m s n t f) refl
+      where
+        go : (b : Bool) → isEmbedding m s n t f ≡ b → (b && (all (λ i. candidate i (at f i)) (elements m) && beyond ask f)) ≡ (b && beyond ask f)
+        go true e = ap (λ (c : Bool). c && beyond ask f) (each-of m (λ i. candidate i (at f i)) (sound f (is-embedding m s n t f e)))
+        go false e = refl
+
+    -- From nothing placed the search finds the earliest map asked for.
     pub search-earliest : search s t candidate ask n m [] ≡ earliest ask (maps embeddings m s n t)
-    unfolding earliest maps wanted
+    unfolding earliest maps
     search-earliest =
-        searches m [] (let z : 0 + m ≡ m = omega arith in z) (placed-none n) (unfold passes all elements range in refl) ∙ sym (find-all wanted n m) ∙ sym (find-keep (isEmbedding m s n t) (beyond ask) (lists m n))
+        search-behind m s n t candidate ask closed ∙ sym (find-all (wanted m s n t candidate ask) n m)
+        ∙ find-same (wanted m s n t candidate ask) (λ f. isEmbedding m s n t f && beyond ask f) (lists m n) (λ f k. all-among f)
+        ∙ sym (find-keep (isEmbedding m s n t) (beyond ask) (lists m n))

@@ -2,15 +2,16 @@
 -- placing tested before the next. It takes any candidates. What it finds is a theorem about it and no part of what first and next mean.
 -- The paper prints φ(i)φ(k) for the undefined product that it means, φ(i)φ(j).
 -- Assumes nothing.
+use mathlib.Core.Path.{_≡_}
 use mathlib.Core.Bool.{Bool, true, _&&_, not, cond}
-use mathlib.Core.List.{List, [], _∷_, _++_, List·Memᴰ}
+use mathlib.Core.List.{List, [], _∷_, _++_, map, List·Memᴰ}
 use mathlib.Core.Option.{Option, none, some}
 use Prim.Native.Nat.{ℕ, zero, suc}
 use lib.Dec.{eqb, leb}
 use lib.ListN.{length}
-use Rattle.semigroups.specs.Lists.{elements, at, all, firstOf, member, earlier, NoRepeats}
+use Rattle.semigroups.specs.Lists.{elements, at, all, find, firstOf, member, earlier, lists, NoRepeats}
 use Rattle.semigroups.specs.Tables.{Product, Element}
-use Rattle.semigroups.specs.Maps.{Ask, first, next, beyond}
+use Rattle.semigroups.specs.Maps.{isEmbedding, Ask, first, next, beyond}
 
 -- Whether no list that begins with p is ruled out for being too early.
 abbrev pub notBefore : Ask → List ℕ → Bool
@@ -43,7 +44,25 @@ module _ (s t : Product) where
     search n zero p = cond (beyond ask p) (some p) none
     search n (suc d) p = firstOf (λ x. let r = search n d (p ++ x ∷ []) in cond (admits p x) r none) (elements n)
 
+-- ---- what a search finds, whatever its test
+
+module _ (m : ℕ) (s : Product) (n : ℕ) (t : Product) (candidate : ℕ → ℕ → Bool) (ask : Ask) where
+  -- A map asked for: an embedding with its images among the candidates, late enough.
+  unfoldable pub wanted : List ℕ → Bool
+  wanted f =
+      let late = beyond ask f in
+      let among = all (λ i. candidate i (at f i)) (elements m) && late in
+      isEmbedding m s n t f && among
+
+  -- The earliest one that begins with the list placed, where d elements are left to place. A search with any test that loses no map finds it.
+  unfoldable pub earliestBehind : ℕ → List ℕ → Option (List ℕ)
+  earliestBehind d p = find wanted (map (λ q. p ++ q) (lists d n))
+
 -- ---- plain statements
+
+-- The images of a map are among the candidates.
+abbrev pub Among : ℕ → (ℕ → ℕ → Bool) → List ℕ → Type 0
+Among m candidate f = (i : ℕ) → Element m i → candidate i (at f i) ≡ true
 
 -- What is placed so far: its entries are elements of the target, and no two are equal.
 pub record Placed (n : ℕ) (p : List ℕ) : Type 0 where

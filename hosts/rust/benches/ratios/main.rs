@@ -3,9 +3,13 @@
 //! Each time is that of whole calls through the safe wrapper, questions and all, on buffers that are not cleared between
 //! calls. The two take turns; a sample is as many calls as take some milliseconds, and the least of the samples counts.
 
+mod families;
 mod plain;
 mod tables;
 
+use families::{
+    brandt, elementary_group, form_group, generated, part, rees, shuffled, three_nilpotent, two_squares, Numbers,
+};
 use std::fmt::Debug;
 use std::hint::black_box;
 use std::time::{Duration, Instant};
@@ -31,6 +35,7 @@ fn main() {
     time_transformations();
     time_texts();
     println!("\n{beside_full}");
+    time_families();
 }
 
 /// Times a call by the library and by plain Rust, after a look whether they answer the same, and prints a row; the
@@ -281,4 +286,104 @@ fn time_texts() {
         || plain::load(black_box(&text[..length]), &mut other),
     );
     assert_eq!(cells, other);
+}
+
+/// How many trials the paper's search may make beside the library.
+const MOST_TRIALS: u64 = 1_000_000;
+
+/// Searches that the paper's test alone does not settle, or late: the library beside the paper's search with a limit.
+fn time_families() {
+    println!("\n| {:<76} | answer | library, ms | paper's search, ms |", "call");
+    println!("|:{:-<76}-|:-------|------------:|-------------------:|", "");
+    let mut numbers = Numbers::new(1);
+    time_chains_and_bands(&mut numbers);
+    time_groups(&mut numbers);
+    for size in [5, 7, 10] {
+        onto(&format!("Brandt semigroup of order {}", size * size + 1), &brandt(size), &mut numbers);
+    }
+    for (rows, columns, group) in [(3, 4, 3), (5, 4, 6), (6, 10, 2), (3, 4, 10)] {
+        let name = format!("Rees matrix semigroup, {rows} by {columns} over {group}");
+        let table = rees(rows, columns, group, &mut numbers);
+        onto(&name, &table, &mut numbers);
+    }
+    for (factors, products) in [(20, 9), (40, 19), (100, 19), (118, 1)] {
+        let name = format!("3-nilpotent, {factors} factors, {products} products");
+        let table = three_nilpotent(factors, products, &mut numbers);
+        onto(&name, &table, &mut numbers);
+    }
+    for (points, generators) in [(4, 2), (4, 3), (5, 2), (5, 3), (6, 2), (6, 3)] {
+        let whole = generated(points, generators, &mut numbers);
+        let name = format!("{generators} transformations of {points} points generate {}", whole.order);
+        onto(&name, &whole, &mut numbers);
+        let chosen: Vec<usize> = (0..3).map(|_| numbers.below(whole.order)).collect();
+        let some = part(&whole, &chosen);
+        into(&format!("a part of order {} of these", some.order), &some, &whole, &mut numbers);
+    }
+}
+
+fn time_chains_and_bands(numbers: &mut Numbers) {
+    for order in [30, 60, 120] {
+        onto(&format!("chain of {order}"), &chain(order), numbers);
+    }
+    into("chain of 30 in 60", &chain(30), &chain(60), numbers);
+    into("chain of 60 in 120", &chain(60), &chain(120), numbers);
+    into("rectangular band 8 by 8 in 10 by 12", &rectangular_band(8, 8), &rectangular_band(10, 12), numbers);
+    into("rectangular band 10 by 10 in 9 by 13", &rectangular_band(10, 10), &rectangular_band(9, 13), numbers);
+}
+
+/// Forms of groups with as many elements of each profile that are not isomorphic.
+const EQUAL_PROFILES: [([usize; 9], [usize; 9]); 2] = [
+    ([3, 6, 1, 7, 4, 3, 3, 1, 5], [6, 2, 7, 1, 1, 4, 5, 5, 6]),
+    ([0, 7, 4, 2, 6, 1, 5, 7, 6], [2, 5, 0, 1, 3, 4, 2, 3, 4]),
+];
+
+fn time_groups(numbers: &mut Numbers) {
+    for order in [16, 60, 120] {
+        onto(&format!("cyclic group of order {order}"), &cyclic_group(order), numbers);
+        onto(&format!("dihedral group of order {order}"), &dihedral_group(order / 2), numbers);
+    }
+    for rank in [4, 5, 6] {
+        onto(&format!("elementary abelian group of order {}", 1 << rank), &elementary_group(rank), numbers);
+    }
+    into("elementary abelian group of order 16 in D4 × D4", &elementary_group(4), &two_squares(), numbers);
+    into("elementary abelian group of order 32 in D4 × D4", &elementary_group(5), &two_squares(), numbers);
+    for (one, other) in EQUAL_PROFILES {
+        let name = "two groups of order 64 with equal profiles";
+        isomorphic(name, &form_group(one), &form_group(other), numbers);
+    }
+}
+
+/// A table onto itself, relabelled at random: the first embedding and the first isomorphism.
+fn onto(name: &str, table: &Table, numbers: &mut Numbers) {
+    into(&format!("{name}, onto itself"), table, table, numbers);
+    isomorphic(&format!("{name}, onto itself"), table, table, numbers);
+}
+
+fn into(name: &str, source: &Table, target: &Table, numbers: &mut Numbers) {
+    let (source, target) = (shuffled(source, numbers), shuffled(target, numbers));
+    family_row(&format!("first_embedding, {name}"), false, &source, &target);
+}
+
+fn isomorphic(name: &str, source: &Table, target: &Table, numbers: &mut Numbers) {
+    let (source, target) = (shuffled(source, numbers), shuffled(target, numbers));
+    family_row(&format!("first_isomorphism, {name}"), true, &source, &target);
+}
+
+/// A row: the least of some calls of the library, and the paper's search with a limit.
+fn family_row(name: &str, isomorphisms: bool, source: &Table, target: &Table) {
+    let (m, n) = (source.order, target.order);
+    let (mut map, mut scratch) = (vec![0; m], vec![0; m * n]);
+    let call = if isomorphisms { tickdrizzle::first_isomorphism } else { tickdrizzle::first_embedding };
+    let mut answer = None;
+    let mut search = || answer = call(black_box(&source.cells), m, &target.cells, n, &mut map, &mut scratch).ok();
+    let least = (0..FEWEST_SAMPLES).map(|_| sample(1, &mut search)).min().unwrap_or(Duration::MAX);
+    let lent = plain::Lent { source: &source.cells, source_order: m, target: &target.cells, target_order: n };
+    let (mut other_map, mut other_scratch) = (vec![0; m], vec![0; m * n]);
+    let start = Instant::now();
+    let settled = plain::settled(isomorphisms, MOST_TRIALS, &lent, &mut other_map, &mut other_scratch);
+    let millis = |time: Duration| format!("{:.2}", time.as_secs_f64() * 1e3);
+    let beside = if settled { millis(start.elapsed()) } else { "stopped".to_owned() };
+    let said = if answer == Some(tickdrizzle::Search::Found) { "found" } else { "none" };
+    assert!(!settled || said == "none" || map == other_map, "{name}");
+    println!("| {name:<76} | {said:<6} | {:>11} | {beside:>18} |", millis(least));
 }

@@ -8,7 +8,7 @@ pub struct Table {
 }
 
 /// The table of a product on the numbers from 0 to `order` - 1.
-fn table(order: usize, product: impl Fn(usize, usize) -> usize) -> Table {
+pub fn table(order: usize, product: impl Fn(usize, usize) -> usize) -> Table {
     let cells = (0..order * order).map(|place| product(place / order, place % order) as u8 + 1).collect();
     Table { order, cells }
 }

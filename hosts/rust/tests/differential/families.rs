@@ -40,6 +40,70 @@ pub fn easy(random: &mut Random) -> Semigroup {
     }
 }
 
+/// Two semigroups of up to 33 elements, relabelled, between which a search may need many trials: the families that the
+/// benchmark has at larger orders, and pairs with no map between them.
+pub fn late(random: &mut Random) -> (Semigroup, Semigroup) {
+    let (source, target) = match random.below(9) {
+        0 => twice(table("chain", random.within(6, 14), std::cmp::min)),
+        1 => {
+            let points = random.within(3, 5);
+            let unions = table("unions of points", 1 << points, |i, j| i | j);
+            (table("chain", points + random.within(1, 2), std::cmp::min), unions)
+        }
+        2 => (band(3, 3), band(2, random.within(5, 8))),
+        3 => (band(2, 3), band(4, 5)),
+        4 => twice(group_of_16(random.one_in(2))),
+        5 => (group_of_16(true), group_of_16(false)),
+        6 => twice(matrix_units(random.within(2, 3))),
+        7 => {
+            let factors = random.within(4, 6);
+            let sums = nilpotent("nilpotent sums", factors, |i, j| (i + j) % factors);
+            (sums, nilpotent("nilpotent products", factors, |i, j| i * j % factors))
+        }
+        _ => {
+            let factors = random.within(4, 7);
+            let chosen: Vec<usize> = (0..factors * factors).map(|_| random.below(factors)).collect();
+            twice(nilpotent("nilpotent", factors, |i, j| chosen[i * factors + j]))
+        }
+    };
+    (relabelled(random, &source), relabelled(random, &target))
+}
+
+fn twice(semigroup: Semigroup) -> (Semigroup, Semigroup) {
+    (semigroup.clone(), semigroup)
+}
+
+fn band(rows: usize, columns: usize) -> Semigroup {
+    table("rectangular band", rows * columns, |i, j| i / columns * columns + j % columns)
+}
+
+/// Two groups of order 16 with as many elements of each order: y·x = x⁻¹·y and x⁴ = 1 in both; y⁴ = 1 in the one, and in the other y² = x²
+/// and an element z of order 2 commutes with both.
+fn group_of_16(twisted: bool) -> Semigroup {
+    table("group of order 16", 16, |i, j| {
+        let (x, y, u, v) = (i % 4, i / 4, j % 4, j / 4);
+        let moved = if y % 2 == 1 { 4 - u } else { u };
+        if twisted {
+            (x + moved) % 4 + (y + v) % 4 * 4
+        } else {
+            (x + moved + 2 * (y & v & 1)) % 4 + (y ^ v) * 4
+        }
+    })
+}
+
+/// The matrix units of a size, and zero.
+fn matrix_units(size: usize) -> Semigroup {
+    let zero = size * size;
+    let meet = |i: usize, j: usize| i < zero && j < zero && i % size == j / size;
+    table("Brandt", zero + 1, |i, j| if meet(i, j) { i / size * size + j % size } else { zero })
+}
+
+/// Factors, then as many products, then a zero.
+fn nilpotent(family: &'static str, factors: usize, square: impl Fn(usize, usize) -> usize) -> Semigroup {
+    let zero = 2 * factors;
+    table(family, zero + 1, |i, j| if i < factors && j < factors { factors + square(i, j) } else { zero })
+}
+
 /// The table of a product on the numbers from 0 to `order` - 1.
 fn table(family: &'static str, order: usize, product: impl Fn(usize, usize) -> usize) -> Semigroup {
     let mut cells = Vec::with_capacity(order * order);

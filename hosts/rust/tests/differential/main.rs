@@ -213,7 +213,9 @@ impl Comparison {
             11..=13 => self.lists(),
             14..=15 => self.map_check(),
             16..=21 => self.searches(),
-            22..=23 => self.walk(),
+            22 => self.walk(),
+            23 if self.random.one_in(8) => self.isomorphism_walk(),
+            23 => self.walk(),
             24..=26 => self.transformations(),
             27..=33 => self.load(),
             34..=39 => self.save(),
@@ -287,9 +289,10 @@ impl Comparison {
 
     /// Some searches between two tables, on one map buffer: mostly small tables, at times larger ones.
     fn searches(&mut self) {
-        let (source, target) = match self.random.below(40) {
-            0 => self.small_in_large(),
-            1..=2 => self.easy_pair(),
+        let (source, target) = match self.random.below(240) {
+            0..=1 => self.late_pair(),
+            2..=7 => self.small_in_large(),
+            8..=19 => self.easy_pair(),
             _ => self.pair(8),
         };
         let mut map = inputs::map(&mut self.random, source.table.order, target.table.order);
@@ -301,6 +304,11 @@ impl Comparison {
                 map = inputs::map(&mut self.random, source.table.order, target.table.order);
             }
         }
+    }
+
+    fn late_pair(&mut self) -> (Input, Input) {
+        let (source, target) = families::late(&mut self.random);
+        (inputs::lend(&mut self.random, &source), inputs::lend(&mut self.random, &target))
     }
 
     fn small_in_large(&mut self) -> (Input, Input) {
@@ -353,6 +361,27 @@ impl Comparison {
                 map = self.refused_step(kind, &source.table, &target.table, map);
             }
             map = self.walk_step(kind, &source, &target, map, full_list.get(made));
+        }
+        self.tally.walks += 1;
+    }
+
+    /// A walk through the isomorphisms of a semigroup of order up to 12 onto a relabelled copy, or its first forty steps.
+    fn isomorphism_walk(&mut self) {
+        let greatest = self.random.within(6, 12);
+        let target = families::any(&mut self.random, greatest);
+        let source = families::relabelled(&mut self.random, &target);
+        let (source, target) = (inputs::lend(&mut self.random, &source), inputs::lend(&mut self.random, &target));
+        let mut map = Lent::new(&mut self.random, &vec![0; source.table.order]);
+        for _ in 0..40 {
+            let scratch = Lent::random(&mut self.random, source.table.order * target.table.order);
+            let (from, to) = (source.table.clone(), target.table.clone());
+            let kind = Kind::Isomorphism;
+            let mut call = Call::Search { kind, ask: Ask::Next, source: from, target: to, map, scratch };
+            let answer = self.compare(&mut call, source.family);
+            map = map_of(call);
+            if answer[2] == 0 {
+                break;
+            }
         }
         self.tally.walks += 1;
     }

@@ -1,0 +1,148 @@
+-- A placing and a forced product lose no image of an embedding that begins so. The idea: an embedding keeps products, and which of some elements are
+-- equal. Assumes nothing.
+use mathlib.Core.Path.{_≡_, refl, sym, ap, ap₂, _∙_}
+use mathlib.Core.Bool.{Bool, true, false, _&&_, cond, true≢false}
+use mathlib.Core.Logic.{_⊎_, inl, inr}
+use mathlib.Core.List.{List}
+use Prim.Native.Nat.{ℕ, _+_, _-_, _≤_}
+use native.Mathlib.Omega.{arith}
+use borrow.Author.Tests.{eqb-true, eq-eqb}
+use lib.Dec.{eqb}
+use lib.ListN.{replicate, getD-replicate}
+use Rattle.semigroups.specs.Lists.{at}
+use Rattle.semigroups.specs.Tables.{Product, Element, Closed}
+use Rattle.semigroups.specs.Maps.{Embedding}
+use Rattle.semigroups.specs.Search.{Among}
+use Rattle.semigroups.proofs.Booleans.{both, untrue, clash, equal-or-not}
+use Rattle.rows.specs.declared.Row.{Row}
+use Rattle.rows.specs.Rows.{bit, inRow, isEmpty, rowOf, has, word, packedRow, masked, Forced}
+use Rattle.rows.proofs.Words.{word-same}
+use Rattle.rows.proofs.Rows.{row, row-low, row-high, in-packed-row, none-in-empty, has-masked, other-masked}
+use Rattle.narrowing.specs.Rows.{digit, pattern, narrowed, stays}
+
+-- Two tests of equality agree where the equalities do.
+same-equality : (a b c d : ℕ) → (a ≡ b → c ≡ d) → (c ≡ d → a ≡ b) → eqb a b ≡ eqb c d
+same-equality a b c d f g = go (eqb c d) refl
+  where
+    go : (e : Bool) → eqb c d ≡ e → eqb a b ≡ e
+    go true q = eq-eqb a b (g (eqb-true c d q))
+    go false q = untrue (eqb a b) (λ h. true≢false (sym (eq-eqb c d (f (eqb-true a b h))) ∙ q))
+
+-- ---- rows with every element
+
+full-row : row 1152921504606846975 1152921504606846975 ≡ packedRow 120 (λ _. true)
+unfolding packedRow word
+full-row = refl
+
+pub all-left : (c y : ℕ) → Element 120 c → Element 120 y → has (replicate 120 1152921504606846975) (replicate 120 1152921504606846975) c y ≡ true
+unfolding has at
+all-left c y hc hy =
+    let entry = getD-replicate {A = ℕ} 120 (c - 1) 1152921504606846975 0 (omega arith) in
+    ap₂ (λ (a b : ℕ). inRow (row a b) y) entry entry ∙ ap (λ (r : Row). inRow r y) full-row ∙ in-packed-row 120 (λ _. true) y hy
+
+-- ---- the test of one element
+
+module _ (t : Product) (x looks : ℕ) (left right : Row) (y : ℕ) where
+  pub left-fails : inRow left (t x y) ≡ false → false ≡ stays t x looks left right y
+  unfolding stays
+  left-fails e = rw e
+
+  pub right-fails : inRow left (t x y) ≡ true → inRow right (t y x) ≡ false → false ≡ stays t x looks left right y
+  unfolding stays
+  right-fails e f = rw (e, f)
+
+  pub looks-decide : inRow left (t x y) ≡ true → inRow right (t y x) ≡ true → eqb (pattern x y (t x y) (t y x)) looks ≡ stays t x looks left right y
+  unfolding stays
+  looks-decide e f = rw (e, f)
+
+-- ---- a row as it is read
+
+module _ (s t : Product) (lo hi : List ℕ) (l x c : ℕ) (looks : ℕ) (is : looks ≡ pattern l c (s l c) (s c l))
+    (old left right : Row) (was : old ≡ rowOf lo hi c) (of-left : left ≡ rowOf lo hi (s l c)) (of-right : right ≡ rowOf lo hi (s c l)) where
+  same-test : (y : ℕ) → (inRow old y && stays t x looks left right y) ≡ narrowed s t (has lo hi) l x c y
+  unfolding narrowed stays has
+  same-test y = rw (is, was, of-left, of-right)
+
+  pub low-narrowed : (k : ℕ) → k ≤ 60 → word (λ y. bit (old .lo) (y - 1) && stays t x looks left right y) 1 k ≡ word (narrowed s t (has lo hi) l x c) 1 k
+  low-narrowed k h =
+      word-same (λ y. bit (old .lo) (y - 1) && stays t x looks left right y) (narrowed s t (has lo hi) l x c) 1 k
+      (λ j b. ap (λ (w : Bool). w && stays t x looks left right (1 + j)) (row-low old (1 + j) (omega arith)) ∙ same-test (1 + j))
+
+  pub high-narrowed : (k : ℕ) → word (λ y. bit (old .hi) (y - 61) && stays t x looks left right y) 61 k ≡ word (narrowed s t (has lo hi) l x c) 61 k
+  high-narrowed k =
+      word-same (λ y. bit (old .hi) (y - 61) && stays t x looks left right y) (narrowed s t (has lo hi) l x c) 61 k
+      (λ j b. ap (λ (w : Bool). w && stays t x looks left right (61 + j)) (row-high old (61 + j) (omega arith)) ∙ same-test (61 + j))
+
+-- ---- a forced row
+
+pub forced-kept : (m : ℕ) (s : Product) (n : ℕ) (t : Product) (f : List ℕ) → Embedding m s n t f → m ≤ 120 → n ≤ 120 → (old new : ℕ → ℕ → Bool) (c v : ℕ) → at f c ≡ v → Forced c v old new → Among m old f → Among m new f
+forced-kept m s n t f F lm ln old new c v e forced among d hd =
+    let w = F .homomorphism .within d hd in
+    forced d (at f d) (omega arith) (omega arith) (among d hd) (λ q. ap (at f) q ∙ e)
+
+-- ---- rows that an embedding is among
+
+module _ (m : ℕ) (s : Product) (n : ℕ) (t : Product) (closed : Closed m s) (f : List ℕ) (F : Embedding m s n t f) where
+  same-digit : (a b x y weight : ℕ) → Element m a → Element m b → x ≡ at f a → y ≡ at f b → digit x y weight ≡ digit a b weight
+  unfolding digit
+  same-digit a b x y weight ha hb p q = ap (λ (c : Bool). cond c weight 0) (same-equality x y a b (λ e. F .one-to-one a b ha hb (sym p ∙ e ∙ q)) (λ e. p ∙ ap (at f) e ∙ sym q))
+
+  kept : (a b : ℕ) → Element m a → Element m b → t (at f a) (at f b) ≡ at f (s a b)
+  kept a b ha hb = sym (F .homomorphism .keeps-product a b ha hb)
+
+  -- The images of two elements look like them.
+  same-pattern : (l c : ℕ) → Element m l → Element m c → pattern (at f l) (at f c) (t (at f l) (at f c)) (t (at f c) (at f l)) ≡ pattern l c (s l c) (s c l)
+  unfolding pattern
+  same-pattern l c hl hc =
+      let lc = closed l c hl hc in
+      let cl = closed c l hc hl in
+      let one = kept l c hl hc in
+      let two = kept c l hc hl in
+      ap₂ _+_
+      (ap₂ _+_ (ap₂ _+_ (same-digit l c (at f l) (at f c) 1 hl hc refl refl) (same-digit (s l c) c (t (at f l) (at f c)) (at f c) 2 lc hc one refl))
+      (ap₂ _+_ (same-digit (s c l) c (t (at f c) (at f l)) (at f c) 4 cl hc two refl) (same-digit (s l c) (s c l) (t (at f l) (at f c)) (t (at f c) (at f l)) 8 lc cl one two)))
+      (ap₂ _+_ (same-digit (s l c) l (t (at f l) (at f c)) (at f l) 16 lc hl one refl) (same-digit (s c l) l (t (at f c) (at f l)) (at f l) 32 cl hl two refl))
+
+  module _ (rows : ℕ → ℕ → Bool) (among : Among m rows f) where
+    narrowed-at : (l c : ℕ) → Element m l → Element m c → narrowed s t rows l (at f l) c (at f c) ≡ true
+    unfolding narrowed
+    narrowed-at l c hl hc =
+        let x = at f l in
+        let y = at f c in
+        let left = rows (s l c) (t x y) in
+        let right = rows (s c l) (t y x) in
+        let alike = eqb (pattern x y (t x y) (t y x)) (pattern l c (s l c) (s c l)) in
+        both (rows c y) (left && (right && alike)) (among c hc)
+        (both left (right && alike) (ap (rows (s l c)) (kept l c hl hc) ∙ among (s l c) (closed l c hl hc))
+        (both right alike (ap (rows (s c l)) (kept c l hc hl) ∙ among (s c l) (closed c l hc hl))
+        (eq-eqb (pattern x y (t x y) (t y x)) (pattern l c (s l c) (s c l)) (same-pattern l c hl hc))))
+
+    pub narrowed-kept : (l x c : ℕ) → Element m l → Element m c → at f l ≡ x → narrowed s t rows l x c (at f c) ≡ true
+    narrowed-kept l x c hl hc e = ap (λ (v : ℕ). narrowed s t rows l v c (at f c)) (sym e) ∙ narrowed-at l c hl hc
+
+  -- ---- row c narrowed
+
+  module _ (lo hi : List ℕ) (among : Among m (has lo hi) f) (l x c : ℕ) (hl : Element m l) (hc : Element m c) (e : at f l ≡ x) (r : Row) (is : r ≡ packedRow n (narrowed s t (has lo hi) l x c)) where
+    image-stays : inRow r (at f c) ≡ true
+    image-stays =
+        ap (λ (w : Row). inRow w (at f c)) is ∙ in-packed-row n (narrowed s t (has lo hi) l x c) (at f c) (F .homomorphism .within c hc)
+        ∙ narrowed-kept (has lo hi) among l x c hl hc e
+
+    pub not-empty : isEmpty r ≡ false
+    not-empty = untrue (isEmpty r) (λ h. clash {b = inRow r (at f c)} image-stays (none-in-empty r (at f c) h))
+
+    pub mask-kept : m ≤ 120 → Among m (has (masked lo c (r .lo)) (masked hi c (r .hi))) f
+    mask-kept lm d hd = go (equal-or-not d c)
+      where
+        new : ℕ → ℕ → Bool
+        new = has (masked lo c (r .lo)) (masked hi c (r .hi))
+
+        go : (d ≡ c) ⊎ (d ≡ c → ⊥) → new d (at f d) ≡ true
+        go (inl q) = ap (λ (k : ℕ). new k (at f k)) q ∙ has-masked lo hi c (omega arith) r (at f c) ∙ both (has lo hi c (at f c)) (inRow r (at f c)) (among c hc) image-stays
+        go (inr ne) = other-masked lo hi c (omega arith) r (at f d) d (omega arith) ne ∙ among d hd
+
+  -- ---- the product of two elements whose images are placed
+
+  pub pair-kept : m ≤ 120 → n ≤ 120 → (image : List ℕ) (old new : ℕ → ℕ → Bool) (a b : ℕ) → Element m a → Element m b → at f a ≡ at image a → at f b ≡ at image b
+      → Forced (s a b) (t (at image a) (at image b)) old new → Among m old f → Among m new f
+  pair-kept lm ln image old new a b ha hb ea eb = forced-kept m s n t f F lm ln old new (s a b) (t (at image a) (at image b)) (sym (kept a b ha hb) ∙ ap₂ t ea eb)

@@ -1,0 +1,107 @@
+-- `narrow` meets its contract. The invariant: the rows lost no embedding that sends l to x. Assumes nothing.
+use mathlib.Core.Path.{_≡_, refl, sym, subst₂, _∙_}
+use mathlib.Core.List.{List}
+use Prim.Native.Nat.{ℕ, _+_, _-_}
+use native.Mathlib.Omega.{arith}
+use borrow.Author.Needs.{needs}
+use Rattle.semigroups.specs.Lists.{at}
+use Rattle.semigroups.specs.Tables.{product, Element, Closed}
+use Rattle.semigroups.specs.Maps.{Embedding}
+use Rattle.semigroups.specs.Search.{Among}
+use Rattle.semigroups.proofs.Booleans.{clash}
+use Rattle.semigroups.proofs.Tables.{product-element}
+use Rattle.rows.specs.Rows.{has}
+use Rattle.narrowing.proofs.Narrowed.{not-empty, mask-kept}
+use Rattle.narrowing.proofs.narrow.Statement.{statement}
+use Rattle.narrowing.proofs.narrow.Tie as tie
+
+-- The rows lost no embedding that sends l to x.
+abbrev Rows : List ℕ → ℕ → List ℕ → ℕ → List ℕ → List ℕ → ℕ → ℕ → List ℕ → List ℕ → Type 0
+Rows source m target n lo₀ hi₀ l x lo hi = (f : List ℕ) → Embedding m (product m source) n (product n target) f → at f l ≡ x → Among m (has lo₀ hi₀) f → Among m (has lo hi) f
+
+abbrev Inv-loop : tie.InvT-loop
+Inv-loop source m target n lo₀ hi₀ l x c₀ lo hi c = Element (m + 1) c × Rows source m target n lo₀ hi₀ l x lo hi
+
+abbrev μ-loop : tie.MeasureT-loop
+μ-loop source m target n lo₀ hi₀ l x c₀ lo hi c = m + 1 - c
+
+loop-holds : tie.Need-loop-holds Inv-loop μ-loop
+loop-holds c = (omega arith, λ f F e h. h)
+
+narrow-row-requires : tie.Need-narrow-row-requires Inv-loop μ-loop
+narrow-row-requires c κs =
+    let z = c .before .before .before .before .before .before in
+    let i = c .before .before .before .loop .inv .0 in
+    (z .pre .0, (z .pre .1 .0, z .pre .1 .1, (i .0, c .before .before .loop-test .taken)))
+
+is-empty-requires : tie.Need-is-empty-requires Inv-loop μ-loop
+is-empty-requires c κs = search needs
+
+returns : tie.Need-returns Inv-loop μ-loop
+returns c =
+    let z = c .before .before .before .before .before .before .before .before .before in
+    let a = z .args in
+    let source = z .pre .0 .0 in
+    let closed : Closed (a .m) (product (a .m) (a .source .now)) = product-element (a .m) (a .source .now) (source .size) (source .in-range) in
+    let l = c .before .before .before .before .before .before .loop in
+    let t = c .before .before .before .before .before .loop-test .taken in
+    let r = c .before .before .narrow-row in
+    let w = c .before .is-empty in
+    λ f F e h.
+    absurd (clash {b = w .result} (c .if1 .taken)
+    (w .ensures ∙ not-empty (a .m) (product (a .m) (a .source .now)) (a .n) (product (a .n) (a .target .now)) closed f F (l .lo) (l .hi) (l .inv .1 f F e h) (a .l) (a .x) (l .c) (z .pre .1 .0) (l .inv .0 .0, t) e (r .result) (r .ensures)))
+
+mask-requires : tie.Need-mask-requires Inv-loop μ-loop
+mask-requires c κs =
+    let o = c .before .before .before .before .before .before .before .before .before .before .before .pre .0 .0 .order in
+    let i = c .before .before .before .before .before .before .before .before .loop .inv .0 in
+    let t = c .before .before .before .before .before .before .before .loop-test .taken in
+    omega arith
+
+add-c : tie.Need-add-c Inv-loop μ-loop
+add-c c =
+    let o = c .before .before .before .before .before .before .before .before .before .before .before .before .pre .0 .0 .order in
+    let t = c .before .before .before .before .before .before .before .before .loop-test .taken in
+    omega arith
+
+loop-less : tie.Need-loop-less Inv-loop μ-loop
+loop-less c =
+    let t = c .before .before .before .before .before .before .before .before .loop-test .taken in
+    omega arith
+
+loop-again : tie.Need-loop-again Inv-loop μ-loop
+loop-again c =
+    let z = c .before .before .before .before .before .before .before .before .before .before .before .before in
+    let a = z .args in
+    let source = z .pre .0 .0 in
+    let s = product (a .m) (a .source .now) in
+    let closed : Closed (a .m) s = product-element (a .m) (a .source .now) (source .size) (source .in-range) in
+    let l = c .before .before .before .before .before .before .before .before .before .loop in
+    let i = l .inv .0 in
+    let t = c .before .before .before .before .before .before .before .before .loop-test .taken in
+    let r = c .before .before .before .before .before .narrow-row in
+    let p = c .mask .ensures in (
+      omega arith,
+      subst₂ (λ (u v : List ℕ). Rows (a .source .now) (a .m) (a .target .now) (a .n) (a .lo .now) (a .hi .now) (a .l) (a .x) u v) (sym (p .0)) (sym (p .1))
+          (λ f F e h. mask-kept (a .m) s (a .n) (product (a .n) (a .target .now)) closed f F (l .lo) (l .hi) (l .inv .1 f F e h) (a .l) (a .x) (l .c) (z .pre .1 .0) (i .0, t) e (r .result) (r .ensures) (source .order .1)),
+    )
+
+returns-2 : tie.Need-returns-2 Inv-loop μ-loop
+returns-2 c =
+    λ f F e h. (refl, c .before .loop .inv .1 f F e h)
+
+pub narrow-spec : {M : Type 1} → statement M
+narrow-spec =
+    tie.close
+    (tie.spec
+    Inv-loop
+    μ-loop
+    loop-holds
+    narrow-row-requires
+    is-empty-requires
+    returns
+    mask-requires
+    add-c
+    loop-less
+    loop-again
+    returns-2)

@@ -1,0 +1,4 @@
+pub mod Words
+pub mod Masks
+pub mod Rows
+pub mod Room

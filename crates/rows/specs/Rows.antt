@@ -1,0 +1,56 @@
+-- Rows of bits: for each source element the target elements that are left for it. Target elements 1 to 60 are the bits of one word, from its lowest,
+-- and 61 to 120 those of another. Assumes nothing.
+use mathlib.Core.Path.{_≡_}
+use mathlib.Core.Bool.{Bool, true, _&&_, cond}
+use mathlib.Core.List.{List}
+use Prim.Native.Nat.{ℕ, zero, suc, _+_, _-_, _/_, _%_, _^_, min}
+use lib.Bits.{bitAnd}
+use lib.Dec.{eqb, leb}
+use lib.ListN.{set}
+use Rattle.semigroups.specs.Lists.{at}
+use Rattle.semigroups.specs.Tables.{Element}
+use Rattle.semigroups.specs.Scratch.{marked}
+use Rattle.rows.specs.declared.Row.{Row}
+
+-- Whether bit j of the word is set.
+unfoldable pub bit : ℕ → ℕ → Bool
+bit w j = eqb (w / 2 ^ j % 2) 1
+
+-- Whether target element y is in the row.
+unfoldable pub inRow : Row → ℕ → Bool
+inRow row y = cond (leb y 60) (bit (row .lo) (y - 1)) (bit (row .hi) (y - 61))
+
+-- Whether neither word of the row has a bit set.
+unfoldable pub isEmpty : Row → Bool
+isEmpty row = eqb (row .lo) 0 && eqb (row .hi) 0
+
+-- The row of source element c.
+abbrev pub rowOf : List ℕ → List ℕ → ℕ → Row
+rowOf lo hi c = record { lo = at lo c; hi = at hi c }
+
+-- Whether target element y is left for source element c.
+unfoldable pub has : List ℕ → List ℕ → ℕ → ℕ → Bool
+has lo hi c y = inRow (rowOf lo hi c) y
+
+-- The word of the k target elements from `from` on: bit j is set where from + j passes.
+unfoldable pub word : (ℕ → Bool) → ℕ → ℕ → ℕ
+word p from zero = 0
+word p from (suc k) = word p from k + cond (p (from + k)) (2 ^ k) 0
+
+-- The row of a test of n target elements.
+unfoldable pub packedRow : ℕ → (ℕ → Bool) → Row
+packedRow n p = record { lo = word p 1 (min n 60); hi = word p 61 (n - 60) }
+
+-- Words with the bits of one more word asked of the entry of c.
+unfoldable pub masked : List ℕ → ℕ → ℕ → List ℕ
+masked words c w = set words (c - 1) (bitAnd (at words c) w)
+
+-- ---- plain statements
+
+-- Nothing is left for c but v; no other pair is lost.
+abbrev pub Forced : ℕ → ℕ → (ℕ → ℕ → Bool) → (ℕ → ℕ → Bool) → Type 0
+Forced c v old new = (d y : ℕ) → Element 120 d → Element 120 y → old d y ≡ true → (d ≡ c → y ≡ v) → new d y ≡ true
+
+-- What is left is what was left and is marked.
+abbrev pub Marked : ℕ → ℕ → List ℕ → (ℕ → ℕ → Bool) → (ℕ → ℕ → Bool) → Type 0
+Marked m n scratch old new = (c y : ℕ) → Element m c → Element n y → new c y ≡ (old c y && marked n scratch c y)
