@@ -88,6 +88,11 @@ extern "C" {
 #define TICKDRIZZLE_FOUND 1
 #define TICKDRIZZLE_STOPPED 2 /* only by a search with a limit */
 
+/* What a count says: answer[2], with the number in answer[3]. */
+#define TICKDRIZZLE_COUNTED 0 /* the number is at most TICKDRIZZLE_MOST_COPIES */
+#define TICKDRIZZLE_MORE 1    /* there are more */
+#define TICKDRIZZLE_MOST_COPIES 65535
+
 /* Asks whether the cells are a table of this order (questions 1 to 4).
    Says no values; writes nothing but the answer. */
 void tickdrizzle_check_table(const uint8_t *cells, size_t cells_length, size_t order, uint64_t *TICKDRIZZLE_RESTRICT answer);
@@ -244,6 +249,13 @@ void tickdrizzle_load_names(const uint8_t *text, size_t text_length, uint8_t *TI
    Says its length; writes as many bytes of text. */
 void tickdrizzle_save_names(const uint8_t *names, size_t names_length, const uint8_t *lengths, size_t lengths_length,
                             uint8_t *TICKDRIZZLE_RESTRICT text, size_t text_length, uint64_t *TICKDRIZZLE_RESTRICT answer);
+
+/* The number of different copies of the source in the target: of the image sets of its embeddings, each of which comes from as many
+   embeddings as the source has isomorphisms onto itself (questions 1 to 4 of the source, of the target, 6).
+   Says TICKDRIZZLE_COUNTED and the number, or TICKDRIZZLE_MORE; writes scratch, as a search for embeddings does. */
+void tickdrizzle_copies(const uint8_t *source, size_t source_length, size_t source_order, const uint8_t *target,
+                        size_t target_length, size_t target_order, uint8_t *TICKDRIZZLE_RESTRICT scratch,
+                        size_t scratch_length, uint64_t *TICKDRIZZLE_RESTRICT answer);
 
 #ifdef __cplusplus
 }

@@ -14,6 +14,7 @@ use Rattle.semigroups.specs.Questions.{Question, Refusal, firstNo, numbers, tab
 use Rattle.semigroups.specs.Light.{generatorsQuestions, generatorsRefusal}
 use Rattle.semigroups.specs.Generated.{generated}
 use Rattle.semigroups.specs.Subsemigroups.{subsemigroupQuestions, subsemigroupRefusal}
+use Rattle.semigroups.specs.Copies.{copiesLimited, copiesQuestions, copiesRefusal}
 use Rattle.semigroups.specs.Transformations.{transformationOrder, transformationQuestions, transformationRefusal}
 use Rattle.semigroups.specs.Calls.{givenUnless}
 use Rattle.semigroups.specs.Maps.{Kind, sought}
@@ -23,6 +24,7 @@ use Rattle.semigroups.proofs.Booleans.{clash}
 use Rattle.semigroups.proofs.Questions.{number-listed, Listed, listed}
 use Rattle.maps.specs.Answers.{mapCheck}
 use Rattle.generated.specs.Answers.{subsemigroupSays}
+use Rattle.copies.specs.Answers.{copiesSays}
 use Rattle.transformations.specs.Answers.{transformationSays}
 use Rattle.csv.specs.Tables.{orderOf, tableText}
 use Rattle.csv.specs.Questions.{sizeQuestions, loadQuestions, loadRefusal, saveQuestions, saveRefusal}
@@ -30,7 +32,7 @@ use Rattle.csv.specs.Calls.{loadAnswer, saveAnswer}
 use Rattle.csv.proofs.Loading.{load-listed}
 use Rattle.search.specs.Calls.{Lent, Request, theFirst, refusalOf, answerOf, call}
 use Rattle.limited.specs.Calls.{firstWork, limitedCall}
-use Rattle.exports.specs.Answers.{refusalWords, questionWords, answerWords, checkedValues, soughtValues, limitedValues, numberValues, degreeValues}
+use Rattle.exports.specs.Answers.{refusalWords, questionWords, answerWords, checkedValues, soughtValues, limitedValues, numberValues, degreeValues, copiesValues}
 use Rattle.planning.specs.Degrees.{leastDegree, degreeQuestions, degreeRefusal}
 use Rattle.planning.specs.Answers.{degreeSays}
 use Rattle.sheets.specs.Readings.{Reading, namesIn}
@@ -141,3 +143,7 @@ pub save-names-told : (names lengths text : List ℕ) → Tells (answerWords num
 unfolding saveNamesAnswer saveNamesRefusal member
 save-names-told names lengths text =
     answer-told numberValues (length (namesText (namesAt names lengths))) (by-list (42 ∷ 41 ∷ 28 ∷ []) refl (saveNamesQuestions names lengths (length text)) (save-names-listed names lengths (length text)))
+
+pub copies-told : (m : ℕ) (source : List ℕ) (n : ℕ) (target : List ℕ) (l : ℕ) → Tells (answerWords copiesValues (copiesSays m source n target l)) (copiesRefusal m source n target l)
+unfolding copiesSays copiesRefusal member
+copies-told m source n target l = answer-told copiesValues (copiesLimited m (product m source) n (product n target)) (numbered (copiesQuestions m source n target l) refl)

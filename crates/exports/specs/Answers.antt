@@ -10,6 +10,7 @@ use Rattle.semigroups.specs.Invariants.{IndexPeriod, Profile}
 use Rattle.semigroups.specs.MapCheck.{Checked, holds, outside, equalImages, wrongProduct}
 use Rattle.semigroups.specs.Maps.{Sought, found, nothing}
 use Rattle.semigroups.specs.Trials.{Limited, stopped, ended}
+use Rattle.semigroups.specs.Copies as copies
 use Rattle.tables.specs.Answers.{sideOf}
 use Rattle.tables.specs.declared.Refusal.{Refusal as Numbers}
 
@@ -79,3 +80,8 @@ numberValues x = x ∷ []
 abbrev pub degreeValues : Option ℕ → List ℕ
 degreeValues (some d) = d ∷ []
 degreeValues none = 0 ∷ []
+
+-- 0 and the number; 1 for more.
+abbrev pub copiesValues : copies.Limited → List ℕ
+copiesValues (copies.number k) = 0 ∷ k ∷ []
+copiesValues copies.more = 1 ∷ []

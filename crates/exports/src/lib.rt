@@ -13,6 +13,7 @@ ghost use Rattle.tables.specs.Answers.{verdictRefusal};
 ghost use Rattle.invariants.specs.Answers.{indexPeriodSays, profileSays};
 ghost use Rattle.maps.specs.Answers.{mapCheck, mapAnswerSays};
 ghost use Rattle.generated.specs.Answers.{generatorsVerdictRefusal, subsemigroupSays, partAfter, elementsAfter, subsemigroupAnswerSays};
+ghost use Rattle.copies.specs.Answers.{copiesSays, copiesScratch, copiesAnswerSays};
 ghost use Rattle.search.specs.Calls.{theFirst, theNext, lend, call};
 ghost use Rattle.search.specs.Answers.{searchAnswerSays};
 ghost use Rattle.limited.specs.Calls.{limitedCall};
@@ -20,11 +21,12 @@ ghost use Rattle.limited.specs.Answers.{limitedAnswerSays};
 ghost use Rattle.transformations.specs.Answers.{transformationSays, transformationCellsAfter, transformationAnswerSays};
 ghost use Rattle.csv.specs.Calls.{loadAnswer, cellsAfter, saveAnswer, textAfter};
 ghost use Rattle.text.specs.Answers.{loadedAnswer, savedAnswer};
-ghost use Rattle.exports.specs.Answers.{words, numbersWords, questionWords, answerWords, indexPeriodValues, profileValues, checkedValues, soughtValues, limitedValues, numberValues, degreeValues};
+ghost use Rattle.exports.specs.Answers.{words, numbersWords, questionWords, answerWords, indexPeriodValues, profileValues, checkedValues, soughtValues, limitedValues, numberValues, degreeValues, copiesValues};
 ghost use Rattle.planning.specs.Answers.{degreeSays, positionsAfter, degreeAnswerSays};
 ghost use Rattle.sheets.specs.Readings.{Reading};
 ghost use Rattle.sheets.specs.Calls.{loadNamesAnswer, namesAfter, lengthsAfter, saveNamesAnswer, sheetAfter};
 ghost use Rattle.names.specs.Answers.{namesAnswerSays};
+use copies::CopiesAnswer;
 use generated::GeneratorsVerdict;
 use generated::SubsemigroupAnswer;
 use invariants::IndexPeriodAnswer;
@@ -210,6 +212,17 @@ fn names_words(said: NamesAnswer) -> [u64; 16]
     match said {
         NamesAnswer::Given(x) => words(0, 0, &[x]),
         NamesAnswer::Refused(fault) => refusal_words(fault.refusal()),
+    }
+}
+
+fn copies_words(said: CopiesAnswer) -> [u64; 16]
+    ensures answer { λ r. ⌜ r ≡ answerWords copiesValues (copiesAnswerSays said) ⌝ }
+{
+    match said {
+        CopiesAnswer::Number(k) => words(0, 0, &[0, k]),
+        CopiesAnswer::More => words(0, 0, &[1]),
+        CopiesAnswer::Refused(side, fault) => refusal_words(fault.refusal().naming(side)),
+        CopiesAnswer::ScratchLength => refusal_words(Refusal::by(6, 0)),
     }
 }
 
@@ -557,4 +570,22 @@ pub extern "C" fn tickdrizzle_save_names(
     ensures text { λ _. ⌜ now (text .exit) ≡ sheetAfter (now (names .entry)) (now (lengths .entry)) (now (text .entry)) ⌝ }
 {
     *answer = names_words(names::save(names, lengths, text));
+}
+
+// ---- copies
+
+// Counts the different copies of the source in the target. Values: 0 and their number, up to 65,535; or 1 where there are more.
+#[no_mangle]
+pub extern "C" fn tickdrizzle_copies(
+    source: &[u8],
+    m: usize,
+    target: &[u8],
+    n: usize,
+    scratch: &mut [u8],
+    answer: &mut [u64; 16],
+)
+    ensures answer { λ _. ⌜ now (answer .exit) ≡ answerWords copiesValues (copiesSays m (now (source .entry)) n (now (target .entry)) (length (now (scratch .entry)))) ⌝ }
+    ensures scratch { λ _. ⌜ now (scratch .exit) ≡ copiesScratch m (now (source .entry)) n (now (target .entry)) (now (scratch .entry)) ⌝ }
+{
+    *answer = copies_words(copies::copies(source, m, target, n, scratch));
 }

@@ -4,7 +4,7 @@ use mathlib.Core.Bool.{Bool, true, false, cond, _&&_}
 use mathlib.Core.Logic.{⊎-elim}
 use mathlib.Core.List.{List, [], _++_, flatMap, append-nil}
 use Prim.Native.Nat.{ℕ, _+_, _*_, _/_, _%_, _≤_, _<_}
-use native.Mathlib.Nat.{mul-le-mul, mul-le-mul-right}
+use native.Mathlib.Nat.{le-refl, mul-le-mul, mul-le-mul-right}
 use native.Mathlib.Omega.{arith}
 use lib.Dec.{eqb}
 use lib.ListN.{length, getD, drop, length-map, length-append, length-drop, List·getD-append, List·getD-eq-default}
@@ -56,6 +56,11 @@ size-limit m n hm hn = let pairs : m * n ≤ 120 * 120 = mul-le-mul hm hn in ome
 pub size-rows : (m n i : ℕ) → i ≤ m → scratchSize i n ≤ scratchSize m n
 unfolding scratchSize
 size-rows m n i h = let rows : i * n ≤ m * n = mul-le-mul-right n h in omega arith
+
+-- The marks of fewer target elements take no more bytes.
+pub size-columns : (m n k : ℕ) → k ≤ n → scratchSize m k ≤ scratchSize m n
+unfolding scratchSize
+size-columns m n k h = let pairs : m * k ≤ m * n = mul-le-mul (le-refl m) h in omega arith
 
 -- The byte of a pair lies within the marks.
 pub byte-below : (m n i j : ℕ) → Element m i → Element n j → cellPlace n i j / 8 < scratchSize m n

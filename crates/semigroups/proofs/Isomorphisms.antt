@@ -18,6 +18,26 @@ use Rattle.semigroups.proofs.ListOrder.{increasing-no-repeats}
 use Rattle.semigroups.proofs.Maps.{maps-increasing, mem-maps, maps-mem, one-order}
 use Rattle.semigroups.proofs.Composition.{identity-embeds, at-after, length-after, after-embeds, inverse-at, inverse-embeds, after-inverse, after-cancels}
 
+-- f done after each entry of one list gives each entry of another exactly once, if it gives nothing else, gives each, and tells any two apart.
+module _ (f : List ℕ) (own every : List (List ℕ)) (own-apart : NoRepeats own) (every-apart : NoRepeats every)
+    (made : (a : List ℕ) → List·Memᴰ a own → List·Memᴰ (after f a) every)
+    (source : (g : List ℕ) → List·Memᴰ g every → (a : List ℕ) × List·Memᴰ a own × (after f a ≡ g))
+    (cancels : (a b : List ℕ) → List·Memᴰ a own → List·Memᴰ b own → after f a ≡ after f b → a ≡ b) where
+  pub each-once-of : EachOnce f own every
+  each-once-of =
+      record {
+        as-long = le-antisymm
+            (subst (λ (k : ℕ). k ≤ length every) (length-map own (after f)) (length-inside (map (after f) own) every (map-no-repeats (after f) own own-apart cancels)
+            (λ g p. let r = Memᴰ·of-map (after f) own p in Memᴰ·cast (sym (r .2)) (made (r .0) (r .1)))))
+            (subst (λ (k : ℕ). length every ≤ k) (length-map own (after f)) (length-inside every (map (after f) own) every-apart
+            (λ g p. let r = source g p in Memᴰ·cast (sym (r .2)) (Memᴰ·map (after f) (r .1)))));
+        nothing-else = λ k h. made (getD own k []) (place-mem [] own k h);
+        at-one-place = λ g q.
+            let w = source g q in
+            let r = mem-place [] own (w .1) in
+            (r .0, r .1, ap (after f) (r .2) ∙ w .2, λ j h e. place-unique [] own own-apart j (r .0) h (r .1) (cancels (getD own j []) (getD own (r .0) []) (place-mem [] own j h) (place-mem [] own (r .0) (r .1)) (e ∙ sym (ap (after f) (r .2) ∙ w .2))));
+      }
+
 module _ (n : ℕ) (s t : Product) (c : Closed n s) where
   -- Between tables of one order every isomorphism is an embedding and the other way round.
   own : List (List ℕ)
@@ -38,17 +58,7 @@ module _ (n : ℕ) (s t : Product) (c : Closed n s) where
 
   once : (f : List ℕ) → List·Memᴰ f every → EachOnce f own every
   unfolding own every
-  once f m =
-      record {
-        as-long = le-antisymm
-            (subst (λ (k : ℕ). k ≤ length every) (length-map own (after f)) (length-inside (map (after f) own) every (map-no-repeats (after f) own own-apart cancels) into))
-            (subst (λ (k : ℕ). length every ≤ k) (length-map own (after f)) (length-inside every (map (after f) own) (increasing-no-repeats every (maps-increasing embeddings n s n t)) out));
-        nothing-else = λ k h. made (getD own k []) (place-mem [] own k h);
-        at-one-place = λ g q.
-            let w = source g q in
-            let r = mem-place [] own (w .1) in
-            (r .0, r .1, ap (after f) (r .2) ∙ w .2, λ j h e. place-unique [] own own-apart j (r .0) h (r .1) (cancels (getD own j []) (getD own (r .0) []) (place-mem [] own j h) (place-mem [] own (r .0) (r .1)) (e ∙ sym (ap (after f) (r .2) ∙ w .2))));
-      }
+  once f m = each-once-of f own every own-apart (increasing-no-repeats every (maps-increasing embeddings n s n t)) made source cancels
     where
       F : Embedding n s n t f
       F = mem-maps embeddings n s n t f m
@@ -62,16 +72,10 @@ module _ (n : ℕ) (s t : Product) (c : Closed n s) where
       made : (a : List ℕ) → List·Memᴰ a own → List·Memᴰ (after f a) every
       made a p = maps-mem embeddings n s n t (after f a) (after-embeds n s n s n t c f a F (mem-maps embeddings n s n s a p))
 
-      into : (g : List ℕ) → List·Memᴰ g (map (after f) own) → List·Memᴰ g every
-      into g p = let r = Memᴰ·of-map (after f) own p in Memᴰ·cast (sym (r .2)) (made (r .0) (r .1))
-
       source : (g : List ℕ) → List·Memᴰ g every → (a : List ℕ) × List·Memᴰ a own × (after f a ≡ g)
       source g p =
           let G = mem-maps embeddings n s n t g p in
           (after (inverse n f) g, maps-mem embeddings n s n s (after (inverse n f) g) (after-embeds n s n t n s c (inverse n f) g (inverse-embeds n s t f F c) G), after-inverse n s t f F g G)
-
-      out : (g : List ℕ) → List·Memᴰ g every → List·Memᴰ g (map (after f) own)
-      out g p = let r = source g p in Memᴰ·cast (sym (r .2)) (Memᴰ·map (after f) (r .1))
 
   empty-or : (l : List (List ℕ)) → (l ≡ []) ⊎ ((f : List ℕ) × List·Memᴰ f l)
   empty-or [] = inl refl

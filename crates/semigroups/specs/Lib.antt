@@ -17,4 +17,5 @@ pub mod Reversed
 pub mod Generated
 pub mod Light
 pub mod Subsemigroups
+pub mod Copies
 pub mod Trials

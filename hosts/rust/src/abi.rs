@@ -86,6 +86,17 @@ extern "C" {
         text_length: usize,
         answer: &mut Answer,
     );
+    fn tickdrizzle_copies(
+        source: *const u8,
+        source_length: usize,
+        source_order: usize,
+        target: *const u8,
+        target_length: usize,
+        target_order: usize,
+        scratch: *mut u8,
+        scratch_length: usize,
+        answer: &mut Answer,
+    );
 }
 
 pub fn check_table(cells: &[u8], order: usize, answer: &mut Answer) {
@@ -305,6 +316,29 @@ pub fn save_names(names: &[u8], lengths: &[u8], text: &mut [u8], answer: &mut An
             lengths.len(),
             text.as_mut_ptr(),
             text.len(),
+            answer,
+        )
+    }
+}
+
+pub fn copies(
+    source: &[u8],
+    source_order: usize,
+    target: &[u8],
+    target_order: usize,
+    scratch: &mut [u8],
+    answer: &mut Answer,
+) {
+    unsafe {
+        tickdrizzle_copies(
+            source.as_ptr(),
+            source.len(),
+            source_order,
+            target.as_ptr(),
+            target.len(),
+            target_order,
+            scratch.as_mut_ptr(),
+            scratch.len(),
             answer,
         )
     }

@@ -336,6 +336,25 @@ impl LimitedSearch {
     }
 }
 
+/// What a count of copies says.
+#[derive(Clone, Copy, Debug, PartialEq, Eq)]
+pub enum Copies {
+    /// There are so many, at most 65,535.
+    Number(usize),
+    /// There are more.
+    More,
+}
+
+impl Copies {
+    pub(crate) fn decode(answer: &Answer) -> Copies {
+        match answer[2] {
+            0 => Copies::Number(number(answer, 3)),
+            1 => Copies::More,
+            other => panic!("no outcome of a count has the number {other}"),
+        }
+    }
+}
+
 /// The size that a call gives: an order, a length or a number of names.
 pub(crate) fn size(answer: &Answer) -> usize {
     number(answer, 2)

@@ -26,7 +26,7 @@ pub mod abi;
 mod answers;
 
 use abi::Answer;
-pub use answers::{IndexPeriod, LimitedSearch, MapCheck, Profile, Question, Refusal, Search, Side};
+pub use answers::{Copies, IndexPeriod, LimitedSearch, MapCheck, Profile, Question, Refusal, Search, Side};
 
 /// The greatest order of a table.
 pub const GREATEST_ORDER: usize = 120;
@@ -224,4 +224,17 @@ pub fn load_names(text: &[u8], names: &mut [u8], lengths: &mut [u8]) -> Result<u
 /// length. Bytes of `names` past the last length are not looked at.
 pub fn save_names(names: &[u8], lengths: &[u8], text: &mut [u8]) -> Result<usize, Refusal> {
     answered(|answer| abi::save_names(names, lengths, text, answer), answers::size)
+}
+
+/// The number of different copies of the source in the target, that is of the image sets of its embeddings, up to 65,535, or that
+/// there are more. Each copy comes from as many embeddings as the source has isomorphisms onto itself. After both, `scratch` is
+/// as after [`first_embedding`].
+pub fn copies(
+    source: &[u8],
+    source_order: usize,
+    target: &[u8],
+    target_order: usize,
+    scratch: &mut [u8],
+) -> Result<Copies, Refusal> {
+    answered(|answer| abi::copies(source, source_order, target, target_order, scratch, answer), Copies::decode)
 }

@@ -14,8 +14,10 @@ use std::fmt::Debug;
 use std::hint::black_box;
 use std::time::{Duration, Instant};
 use tables::{
-    chain, cyclic_group, dihedral_group, left_zero, nilpotent, null, rectangular_band, relabelled, unions, Table,
+    chain, cyclic_group, dihedral_group, left_zero, nilpotent, null, rectangular_band, relabelled, two_group, unions,
+    Table,
 };
+use tickdrizzle::Copies;
 
 const FEWEST_SAMPLES: usize = 9;
 const MOST_SAMPLES: usize = 60;
@@ -35,6 +37,7 @@ fn main() {
     time_transformations();
     time_texts();
     println!("\n{beside_full}");
+    time_copies();
     time_families();
 }
 
@@ -286,6 +289,42 @@ fn time_texts() {
         || plain::load(black_box(&text[..length]), &mut other),
     );
     assert_eq!(cells, other);
+}
+
+/// The longest that a count of copies may take.
+const COPIES_BAR: Duration = Duration::from_secs(5);
+
+/// Counts of copies, by the library alone: plain counting of all embeddings would not end. Each is held to the bar.
+fn time_copies() {
+    println!("\n| {:<60} | copies | proved, ms |", "copies");
+    println!("|:{:-<60}-|-------:|-----------:|", "");
+    let degree_2 = {
+        let mut cells = vec![0; 16];
+        let order = tickdrizzle::transformations(2, &mut cells).expect("two is a degree");
+        Table { order, cells }
+    };
+    count_copies("null table, 60 in 120", &null(60), &null(120), Copies::More);
+    count_copies("null table, 60 onto itself", &null(60), &null(60), Copies::Number(1));
+    count_copies("null table, 59 in 60", &null(59), &null(60), Copies::Number(59));
+    count_copies("left zeros, 5 in 20", &left_zero(5), &left_zero(20), Copies::Number(15_504));
+    count_copies("chain, 10 in 20", &chain(10), &chain(20), Copies::More);
+    count_copies("chain, 5 in 20", &chain(5), &chain(20), Copies::Number(15_504));
+    count_copies("Z2 x Z2 in Z2 to the fifth", &two_group(2), &two_group(5), Copies::Number(155));
+    count_copies("degree 2 in degree 3", &degree_2, &transformations(), Copies::Number(12));
+}
+
+fn count_copies(name: &str, source: &Table, target: &Table, expected: Copies) {
+    let mut scratch = vec![0; source.order * target.order];
+    let start = Instant::now();
+    let said = tickdrizzle::copies(&source.cells, source.order, &target.cells, target.order, &mut scratch);
+    let time = start.elapsed();
+    assert_eq!(said, Ok(expected), "{name}");
+    assert!(time < COPIES_BAR, "{name}: {time:?}");
+    let number = match expected {
+        Copies::Number(number) => number.to_string(),
+        Copies::More => "more".to_string(),
+    };
+    println!("| {name:<60} | {number:>6} | {:>10.2} |", time.as_secs_f64() * 1e3);
 }
 
 /// How many trials the paper's search may make beside the library.

@@ -25,6 +25,11 @@ pub fn cyclic_group(order: usize) -> Table {
     table(order, |i, j| (i + j) % order)
 }
 
+/// The group of all lists of so many binary digits, added digit by digit without carrying.
+pub fn two_group(digits: usize) -> Table {
+    table(1 << digits, |i, j| i ^ j)
+}
+
 /// The group of a polygon: turns first, then each turn after a flip.
 pub fn dihedral_group(corners: usize) -> Table {
     table(2 * corners, |i, j| {

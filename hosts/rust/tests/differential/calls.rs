@@ -6,7 +6,7 @@ use crate::sheets;
 use std::fmt;
 use std::ops::{Deref, DerefMut};
 use tickdrizzle::abi::{self, Answer};
-use tickdrizzle::{LimitedSearch, MapCheck, Question, Refusal, Search, Side};
+use tickdrizzle::{Copies, LimitedSearch, MapCheck, Question, Refusal, Search, Side};
 
 /// Random bytes in front of a lent buffer and behind it, which no call may touch.
 const GUARD: usize = 16;
@@ -78,10 +78,11 @@ pub enum Call {
     LeastDegree { table: LentTable, positions: Lent },
     LoadNames { text: Lent, names: Lent, lengths: Lent },
     SaveNames { names: Lent, lengths: Lent, text: Lent },
+    Copies { source: LentTable, target: LentTable, scratch: Lent },
 }
 
 /// The functions' names, in the order of the header.
-pub const FUNCTIONS: [&str; 21] = [
+pub const FUNCTIONS: [&str; 22] = [
     "check_table",
     "index_period",
     "profile",
@@ -103,6 +104,7 @@ pub const FUNCTIONS: [&str; 21] = [
     "least_degree",
     "load_names",
     "save_names",
+    "copies",
 ];
 
 impl Call {
@@ -129,6 +131,7 @@ impl Call {
             Call::LeastDegree { .. } => "least_degree",
             Call::LoadNames { .. } => "load_names",
             Call::SaveNames { .. } => "save_names",
+            Call::Copies { .. } => "copies",
         }
     }
 
@@ -177,6 +180,9 @@ impl Call {
             }
             Call::LoadNames { text, names, lengths } => abi::load_names(text, names, lengths, &mut answer),
             Call::SaveNames { names, lengths, text } => abi::save_names(names, lengths, text, &mut answer),
+            Call::Copies { source, target, scratch } => {
+                abi::copies(&source.cells, source.order, &target.cells, target.order, scratch, &mut answer);
+            }
         }
         answer
     }
@@ -244,6 +250,13 @@ impl Call {
             Call::SaveNames { names, lengths, text } => {
                 encoded(tickdrizzle::save_names(names, lengths, text), |length| vec![length])
             }
+            Call::Copies { source, target, scratch } => {
+                let answer = tickdrizzle::copies(&source.cells, source.order, &target.cells, target.order, scratch);
+                encoded(answer, |answer| match answer {
+                    Copies::Number(number) => vec![0, number],
+                    Copies::More => vec![1],
+                })
+            }
         }
     }
 
@@ -274,6 +287,9 @@ impl Call {
             Call::LeastDegree { table, positions } => reference::least_degree(&table.cells, table.order, positions),
             Call::LoadNames { text, names, lengths } => sheets::load(text, names, lengths),
             Call::SaveNames { names, lengths, text } => sheets::save(names, lengths, text),
+            Call::Copies { source, target, scratch } => {
+                reference::copies(&source.cells, source.order, &target.cells, target.order, scratch)
+            }
         }
     }
 }

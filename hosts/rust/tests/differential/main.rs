@@ -101,12 +101,33 @@ impl Comparison {
             for target in &accepted {
                 self.small_maps(source, target);
                 self.around_trials(source, target, SMALL);
+                let length = scratch_size(source.order, target.order);
+                self.copies(source, target, length, SMALL);
             }
         }
         let mat5 = LentTable { cells: Lent::new(&mut self.random, &MAT5), order: 5 };
         self.short_parts(&mat5, "mat5");
         self.around_trials(&mat5, &mat5, "mat5");
         self.least_degrees(&mat5, "mat5");
+        self.copies_in_transformations(&mat5);
+    }
+
+    /// One and right in the table of all transformations of two points, mat5 in that of three.
+    fn copies_in_transformations(&mut self, mat5: &LentTable) {
+        for (cells, order, degree) in [(&[1][..], 1, 2), (&[1, 2, 1, 2][..], 2, 2), (&mat5.cells[..], 5, 3)] {
+            let mut table = vec![0; 729];
+            let size = tickdrizzle::transformations(degree, &mut table).expect("the buffer has room");
+            let source = LentTable { cells: Lent::new(&mut self.random, cells), order };
+            let target = LentTable { cells: Lent::new(&mut self.random, &table[..size * size]), order: size };
+            self.copies(&source, &target, scratch_size(order, size), "in transformations");
+        }
+    }
+
+    /// The number of copies, with so much scratch.
+    fn copies(&mut self, source: &LentTable, target: &LentTable, scratch_length: usize, family: &'static str) {
+        let scratch = Lent::random(&mut self.random, scratch_length);
+        let (source, target) = (source.clone(), target.clone());
+        self.compare(&mut Call::Copies { source, target, scratch }, family);
     }
 
     /// The check by generators, with every short list.
@@ -295,6 +316,11 @@ impl Comparison {
             8..=19 => self.easy_pair(),
             _ => self.pair(8),
         };
+        if source.table.order <= 6 {
+            let size = scratch_size(source.table.order.min(120), target.table.order.min(120));
+            let length = inputs::length(&mut self.random, size);
+            self.copies(&source.table, &target.table, length, source.family);
+        }
         let mut map = inputs::map(&mut self.random, source.table.order, target.table.order);
         for _ in 0..self.random.within(1, 4) {
             let call = self.search(source.table.clone(), target.table.clone(), map, source.family);

@@ -1,6 +1,7 @@
 //! The calls written again, from the text of the rules and from nothing of the library: questions asked one after the
 //! other, least numbers found by trying numbers from below, maps found by trying lists.
 
+use std::collections::BTreeSet;
 use tickdrizzle::abi::{Answer, ANSWERS};
 
 /// The first question that failed: its number, the side it names or 0, the values said with it.
@@ -512,6 +513,22 @@ pub fn limited_search(
             write_front(map, &found);
             vec![1, trials.into()]
         }
+    }))
+}
+
+/// The number of image sets among all embeddings, which are found one after another; at most 65,535, or more.
+pub fn copies(source: &[u8], source_order: usize, target: &[u8], target_order: usize, scratch: &mut [u8]) -> Answer {
+    answer(Pair::accepted(source, source_order, target, target_order).and_then(|pair| {
+        let candidates = pair.candidates(Kind::Embedding);
+        ask(scratch.len() >= candidates.len(), 6)?;
+        write_front(scratch, &candidates);
+        let mut sets = BTreeSet::new();
+        let mut last = None;
+        while let Some(map) = pair.earliest(Kind::Embedding, last.as_deref()) {
+            sets.insert(map.iter().copied().collect::<BTreeSet<u8>>());
+            last = Some(map);
+        }
+        Ok(if sets.len() > 65_535 { numbers(&[1]) } else { numbers(&[0, sets.len()]) })
     }))
 }
 

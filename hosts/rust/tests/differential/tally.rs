@@ -27,7 +27,9 @@ pub struct Tally {
 impl Tally {
     pub fn count(&mut self, call: &Call, family: &'static str, answer: &Answer) {
         let outcome = match (answer[0], call) {
-            (0, Call::Search { .. } | Call::LimitedSearch { .. } | Call::LeastDegree { .. }) if answer[2] == 0 => Outcome::Nothing,
+            (0, Call::Search { .. } | Call::LimitedSearch { .. } | Call::LeastDegree { .. }) if answer[2] == 0 => {
+                Outcome::Nothing
+            }
             (0, Call::LimitedSearch { .. }) if answer[2] == 2 => Outcome::Stopped,
             (0, _) => Outcome::Answered,
             (number, _) => Outcome::Refused(number),

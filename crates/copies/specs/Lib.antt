@@ -1,0 +1,4 @@
+pub mod Leaders
+pub mod Counting
+pub mod State
+pub mod Answers
