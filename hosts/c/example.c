@@ -1,22 +1,71 @@
-/* Prints the earliest embedding of one table in another: example SOURCE.csv TARGET.csv */
+/* Prints the earliest embedding of one table in another, or in words what is wrong and where: example SOURCE.csv TARGET.csv
+   Ends with 0 found, 1 none, 2 refused, 4 reading or writing failed, 64 usage. */
 #include <inttypes.h>
 #include <stdio.h>
 
 #include "tickdrizzle.h"
 
+enum { FOUND = 0, NONE = 1, REFUSED = 2, FAILED = 4, USAGE = 64 };
+
 struct table {
+    const char *name;
     uint8_t cells[TICKDRIZZLE_MOST_CELLS];
     size_t length; /* of the part of cells that is the table */
     size_t order;
 };
 
-/* Says why a call was refused. */
-static void print_refusal(const char *what, const uint64_t *answer)
+/* The product i.j, of any cells. */
+static unsigned product(const struct table *table, uint64_t i, uint64_t j)
 {
-    fprintf(stderr, "%s: refused by question %" PRIu64 "\n", what, answer[0]);
+    return table->cells[(i - 1) * table->order + (j - 1)];
 }
 
-/* Loads a table from a file; 0 where that fails. Of a longer text one byte too many is read, so that it is refused. */
+/* Says what is wrong with a table that was loaded. */
+static void explain_table(const struct table *table, const uint64_t *answer)
+{
+    uint64_t i = answer[2], j = answer[3], k = answer[4];
+    switch (answer[0]) {
+    case TICKDRIZZLE_NO_CELL_RANGE:
+        fprintf(stderr, "row %" PRIu64 ", column %" PRIu64 " is %d: expected 1 to %zu\n", (i - 1) / table->order + 1,
+                (i - 1) % table->order + 1, table->cells[i - 1], table->order);
+        break;
+    case TICKDRIZZLE_NO_ASSOCIATIVITY:
+        fprintf(stderr, "(%" PRIu64 ".%" PRIu64 ").%" PRIu64 " = %u, but %" PRIu64 ".(%" PRIu64 ".%" PRIu64 ") = %u\n", i, j, k,
+                product(table, product(table, i, j), k), i, j, k, product(table, i, product(table, j, k)));
+        break;
+    default:
+        fprintf(stderr, "question %" PRIu64 "\n", answer[0]);
+    }
+}
+
+/* Says what is wrong with a text. */
+static void explain_text(const uint64_t *answer)
+{
+    switch (answer[0]) {
+    case TICKDRIZZLE_NO_TEXT_LENGTH:
+        fprintf(stderr, "the file is empty or longer than %d bytes\n", TICKDRIZZLE_LONGEST_TEXT);
+        break;
+    case TICKDRIZZLE_NO_TEXT_BYTE:
+        fprintf(stderr, "byte %" PRIu64 " is no digit, comma or part of CR LF\n", answer[2] + 1);
+        break;
+    case TICKDRIZZLE_NO_FIELD_START:
+        fputs("a number starts with 0\n", stderr);
+        break;
+    case TICKDRIZZLE_NO_FIELD_LENGTH:
+        fputs("a cell is empty or has more than three digits\n", stderr);
+        break;
+    case TICKDRIZZLE_NO_FIELD_RANGE:
+        fprintf(stderr, "a number is above %d\n", TICKDRIZZLE_GREATEST_ORDER);
+        break;
+    case TICKDRIZZLE_NO_SQUARE:
+        fputs("the rows are not as many, or not as long, as the first row\n", stderr);
+        break;
+    default:
+        fprintf(stderr, "more than %d rows\n", TICKDRIZZLE_GREATEST_ORDER);
+    }
+}
+
+/* Loads a table from a file; how that ended. Of a longer text one byte too many is read, so that it is refused. */
 static int load(const char *name, struct table *table)
 {
     static uint8_t text[TICKDRIZZLE_LONGEST_TEXT + 1];
@@ -24,18 +73,39 @@ static int load(const char *name, struct table *table)
     FILE *file = fopen(name, "rb");
     if (file == NULL) {
         perror(name);
-        return 0;
+        return FAILED;
     }
     size_t length = fread(text, 1, sizeof text, file);
+    int failed = ferror(file);
     fclose(file);
+    if (failed) {
+        fprintf(stderr, "%s: reading failed\n", name);
+        return FAILED;
+    }
     tickdrizzle_load(text, length, table->cells, sizeof table->cells, answer);
     if (answer[0] != 0) {
-        print_refusal(name, answer);
-        return 0;
+        fprintf(stderr, "%s: refused: ", name);
+        explain_text(answer);
+        return REFUSED;
     }
+    table->name = name;
     table->order = (size_t)answer[2];
     table->length = table->order * table->order;
-    return 1;
+    return FOUND;
+}
+
+/* Prints the map, or that there is none. */
+static int print_answer(const struct table *source, const uint8_t *map, const uint64_t *answer)
+{
+    if (answer[2] == TICKDRIZZLE_NONE)
+        puts("none");
+    for (size_t i = 0; answer[2] == TICKDRIZZLE_FOUND && i < source->order; i++)
+        printf("%zu -> %d\n", i + 1, map[i]);
+    if (fflush(stdout) != 0 || ferror(stdout)) {
+        perror("writing the answer");
+        return FAILED;
+    }
+    return answer[2] == TICKDRIZZLE_FOUND ? FOUND : NONE;
 }
 
 int main(int count, char **arguments)
@@ -46,21 +116,20 @@ int main(int count, char **arguments)
     uint64_t answer[TICKDRIZZLE_ANSWERS];
     if (count != 3) {
         fprintf(stderr, "usage: %s SOURCE.csv TARGET.csv\n", arguments[0]);
-        return 2;
+        return USAGE;
     }
-    if (!load(arguments[1], &source) || !load(arguments[2], &target))
-        return 2;
+    int loaded = load(arguments[1], &source);
+    if (loaded == FOUND)
+        loaded = load(arguments[2], &target);
+    if (loaded != FOUND)
+        return loaded;
     tickdrizzle_first_embedding(source.cells, source.length, source.order, target.cells, target.length, target.order, map,
                                 source.order, scratch, sizeof scratch, answer);
     if (answer[0] != 0) {
-        print_refusal(arguments[answer[1] == TICKDRIZZLE_TARGET ? 2 : 1], answer);
-        return 2;
+        const struct table *refused = answer[1] == TICKDRIZZLE_TARGET ? &target : &source;
+        fprintf(stderr, "%s: refused: ", refused->name);
+        explain_table(refused, answer);
+        return REFUSED;
     }
-    if (answer[2] == TICKDRIZZLE_NONE) {
-        puts("none");
-        return 1;
-    }
-    for (size_t i = 0; i < source.order; i++)
-        printf("%zu -> %d\n", i + 1, map[i]);
-    return 0;
+    return print_answer(&source, map, answer);
 }

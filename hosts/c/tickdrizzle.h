@@ -9,7 +9,7 @@
  * Every buffer is a pointer and a length in bytes; any content and any length, order, element or degree is allowed.
  * What the caller must see to: no pointer is NULL, each points to as many bytes as its length says (answer: to
  * sixteen numbers), and no buffer that is written overlaps another one; source and target may be one table. The functions
- * keep no pointer and no state.
+ * keep no pointer and no state, and need no more stack than TICKDRIZZLE_STACK.
  *
  * Each call writes all sixteen numbers of answer:
  *   answer[0]      0, or where the call is refused the number of the earliest failed question (TICKDRIZZLE_NO_...)
@@ -30,7 +30,10 @@ extern "C" {
 #define TICKDRIZZLE_RESTRICT restrict
 #endif
 
+#define TICKDRIZZLE_VERSION "0.1.0"
+
 /* Sizes. */
+#define TICKDRIZZLE_STACK 1500000      /* stack bytes that are enough, as measured: searches need the most */
 #define TICKDRIZZLE_GREATEST_ORDER 120
 #define TICKDRIZZLE_GREATEST_DEGREE 3
 #define TICKDRIZZLE_MOST_CELLS 14400   /* cells of a table of order 120 */
@@ -256,6 +259,8 @@ void tickdrizzle_save_names(const uint8_t *names, size_t names_length, const uin
 void tickdrizzle_copies(const uint8_t *source, size_t source_length, size_t source_order, const uint8_t *target,
                         size_t target_length, size_t target_order, uint8_t *TICKDRIZZLE_RESTRICT scratch,
                         size_t scratch_length, uint64_t *TICKDRIZZLE_RESTRICT answer);
+
+#undef TICKDRIZZLE_RESTRICT
 
 #ifdef __cplusplus
 }

@@ -6,7 +6,7 @@
 //!
 //! Every call takes any content, any order and buffers of any length. It answers what was asked for, or a [`Refusal`]: the
 //! earliest question that failed. A refused call changes no byte of any buffer, and bytes behind the part that a call is
-//! said to write stay as they were.
+//! said to write stay as they were. [`Table`] holds cells that were checked once, and walks through maps.
 //!
 //! ```
 //! use tickdrizzle::{first_embedding, scratch_size, Search};
@@ -24,9 +24,11 @@
 #[allow(missing_docs)]
 pub mod abi;
 mod answers;
+mod table;
 
 use abi::Answer;
 pub use answers::{Copies, IndexPeriod, LimitedSearch, MapCheck, Profile, Question, Refusal, Search, Side};
+pub use table::{Maps, Part, Table};
 
 /// The greatest order of a table.
 pub const GREATEST_ORDER: usize = 120;
@@ -59,23 +61,35 @@ fn answered<T>(call: impl FnOnce(&mut Answer), decode: impl FnOnce(&Answer) -> T
 }
 
 /// Asks whether the cells are a table of this order.
+///
+/// # Errors
+/// The earliest of the questions 1 to 4 that fails.
 pub fn check_table(cells: &[u8], order: usize) -> Result<(), Refusal> {
     answered(|answer| abi::check_table(cells, order, answer), |_| ())
 }
 
 /// The least index p and period r of an element, for which power p + r equals power p, and the one power that is its
 /// own square.
+///
+/// # Errors
+/// The earliest of the questions 1 to 4 and 7 that fails.
 pub fn index_period(cells: &[u8], order: usize, element: usize) -> Result<IndexPeriod, Refusal> {
     answered(|answer| abi::index_period(cells, order, element, answer), IndexPeriod::decode)
 }
 
 /// The profile of an element: index, period, the power that is its own square, how often the element stands in the
 /// table, its diagonal, row and column, and how many elements it commutes with.
+///
+/// # Errors
+/// The earliest of the questions 1 to 4 and 7 that fails.
 pub fn profile(cells: &[u8], order: usize, element: usize) -> Result<Profile, Refusal> {
     answered(|answer| abi::profile(cells, order, element, answer), Profile::decode)
 }
 
 /// Asks whether a map is an embedding of the source in the target.
+///
+/// # Errors
+/// The earliest of the questions 1 to 4 of the source, of the target, and 5 that fails.
 pub fn check_map(
     source: &[u8],
     source_order: usize,
@@ -89,6 +103,9 @@ pub fn check_map(
 /// Asks whether the cells are a table of this order, by its generators: a list of elements of which all others are products,
 /// in any order and with repeats. Only triples with their middle on the list are looked at, and of these the first that
 /// fails is said; whether the table is accepted is what [`check_table`] says.
+///
+/// # Errors
+/// The earliest of the questions 1 to 3, 50, 51 and 4 that fails.
 pub fn check_generated(cells: &[u8], order: usize, generators: &[u8]) -> Result<(), Refusal> {
     answered(|answer| abi::check_generated(cells, order, generators, answer), |_| ())
 }
@@ -96,6 +113,9 @@ pub fn check_generated(cells: &[u8], order: usize, generators: &[u8]) -> Result<
 /// Writes the smallest part of a table that holds the chosen elements and every product of its own members: its k elements,
 /// in rising order, to the front of `elements`, and their table, renumbered 1 to k, to the front of `part`; k. The elements
 /// are then an embedding of the part in the table.
+///
+/// # Errors
+/// The earliest of the questions 1 to 4, 60, 61 and 62 that fails.
 pub fn subsemigroup(
     cells: &[u8],
     order: usize,
@@ -116,6 +136,9 @@ macro_rules! searches {
         /// power k modulo 8 of byte k / 8 is 1 where target element j has the index and period (for isomorphisms: the profile;
         /// for reversed ones: the profile with row and column counts exchanged) of source element i, else 0. Unused bits of the
         /// last byte are 0.
+        ///
+        /// # Errors
+        /// The earliest of the questions 1 to 4 of the source, of the target, 5 and 6 that fails.
         pub fn $name(
             source: &[u8],
             source_order: usize,
@@ -157,6 +180,9 @@ macro_rules! limited_searches {
         /// A trial is one candidate, unused so far, tested as the image of the next element; images are tried in rising order,
         /// elements from 1 upward. Stopped: more trials are needed, `map` is as it was, and `scratch` is filled as after
         /// none. A larger limit never changes a map or a none.
+        ///
+        /// # Errors
+        /// The earliest of the questions 1 to 4 of the source, of the target, 5 and 6 that fails.
         pub fn $name(
             source: &[u8],
             source_order: usize,
@@ -185,17 +211,26 @@ limited_searches! {
 
 /// Writes the table of all transformations of `degree` points, numbered in list order and composed from left to right,
 /// to the front of `cells`; its order.
+///
+/// # Errors
+/// The earliest of the questions 8 and 9 that fails.
 pub fn transformations(degree: usize, cells: &mut [u8]) -> Result<usize, Refusal> {
     answered(|answer| abi::transformations(degree, cells, answer), answers::size)
 }
 
 /// Writes the cells of a CSV text to the front of `cells`; their order. Cells above the order load too: ask
 /// [`check_table`].
+///
+/// # Errors
+/// The earliest of the questions 20, 21, then 24, 23 and 25 of each field, 26, 1 and 27 that fails.
 pub fn load(text: &[u8], cells: &mut [u8]) -> Result<usize, Refusal> {
     answered(|answer| abi::load(text, cells, answer), answers::size)
 }
 
 /// Writes the CSV text of the cells to the front of `text`; its length.
+///
+/// # Errors
+/// The earliest of the questions 1, 2, 3 and 28 that fails.
 pub fn save(cells: &[u8], order: usize, text: &mut [u8]) -> Result<usize, Refusal> {
     answered(|answer| abi::save(cells, order, text, answer), answers::size)
 }
@@ -210,18 +245,27 @@ pub fn save(cells: &[u8], order: usize, text: &mut [u8]) -> Result<usize, Refusa
 /// assert_eq!(tickdrizzle::least_degree(&[1, 2, 2, 1], 2, &mut positions), Ok(Some(2)));
 /// assert_eq!(positions, [1, 2, 2, 1, 0, 0]);
 /// ```
+///
+/// # Errors
+/// The earliest of the questions 1 to 4 and 80 that fails.
 pub fn least_degree(cells: &[u8], order: usize, positions: &mut [u8]) -> Result<Option<usize>, Refusal> {
     answered(|answer| abi::least_degree(cells, order, positions, answer), answers::degree)
 }
 
 /// Writes the names on a sheet, one after another, to the front of `names` and their lengths to the front of `lengths`; how
 /// many there are. A sheet has one record for each name: its number, rising by one from 1, and the name, each quoted or not.
+///
+/// # Errors
+/// The earliest of the questions 40, then 42 and 41 of each record, and 27 that fails.
 pub fn load_names(text: &[u8], names: &mut [u8], lengths: &mut [u8]) -> Result<usize, Refusal> {
     answered(|answer| abi::load_names(text, names, lengths, answer), answers::size)
 }
 
 /// Writes the sheet of the names that stand one after another in `names`, with these lengths, to the front of `text`; its
 /// length. Bytes of `names` past the last length are not looked at.
+///
+/// # Errors
+/// The earliest of the questions 42, then 41 of each name, and 28 that fails.
 pub fn save_names(names: &[u8], lengths: &[u8], text: &mut [u8]) -> Result<usize, Refusal> {
     answered(|answer| abi::save_names(names, lengths, text, answer), answers::size)
 }

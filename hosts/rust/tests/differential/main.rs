@@ -33,9 +33,10 @@ const MOST_TRIALS: u32 = 20_000;
 const MAT5: [u8; 25] = [1, 1, 1, 1, 1, 1, 2, 3, 2, 3, 1, 1, 1, 2, 3, 1, 4, 5, 4, 5, 1, 1, 1, 4, 5];
 
 fn main() -> ExitCode {
-    let mut arguments = std::env::args().skip(1).filter_map(|argument| argument.parse().ok());
-    let calls = arguments.next().unwrap_or(CALLS_BY_DEFAULT);
-    let seed = arguments.next().unwrap_or_else(seed_of_the_clock);
+    let Some((calls, seed)) = arguments() else {
+        eprintln!("usage: differential [CALLS] [SEED]");
+        return ExitCode::from(64);
+    };
     println!("seed {seed}");
     let mut comparison = Comparison { random: Random::new(seed), tally: Tally::default() };
     comparison.small_tables();
@@ -49,6 +50,17 @@ fn main() -> ExitCode {
     comparison.tally.print();
     println!("seed {seed}");
     ExitCode::from(u8::from(comparison.tally.differences > 0))
+}
+
+/// The calls and the seed; nothing where an argument is no number or there are more.
+fn arguments() -> Option<(u64, u64)> {
+    let numbers = std::env::args().skip(1).map(|argument| argument.parse().ok()).collect::<Option<Vec<u64>>>()?;
+    match numbers[..] {
+        [] => Some((CALLS_BY_DEFAULT, seed_of_the_clock())),
+        [calls] => Some((calls, seed_of_the_clock())),
+        [calls, seed] => Some((calls, seed)),
+        _ => None,
+    }
 }
 
 fn seed_of_the_clock() -> u64 {

@@ -1,0 +1,26 @@
+# Puts the programs and their manual pages under PREFIX: make install PREFIX=/usr/local
+# Builds first what is not built: rt proves and builds recue and classes, hosts/desk/build the desk.
+PREFIX ?= /usr/local
+BIN := $(DESTDIR)$(PREFIX)/bin
+MAN := $(DESTDIR)$(PREFIX)/share/man/man1
+
+PROGRAMS := target/bin/recue target/bin/classes target/desk/release/tickdrizzle
+PAGES := docs/man/recue.1 docs/man/classes.1 docs/man/tickdrizzle.1
+
+all: $(PROGRAMS)
+
+target/bin/%:
+	rt check $*
+
+target/desk/release/tickdrizzle:
+	hosts/desk/build
+
+install: all
+	install -d $(BIN) $(MAN)
+	install $(PROGRAMS) $(BIN)
+	install -m 644 $(PAGES) $(MAN)
+
+uninstall:
+	rm -f $(addprefix $(BIN)/,$(notdir $(PROGRAMS))) $(addprefix $(MAN)/,$(notdir $(PAGES)))
+
+.PHONY: all install uninstall

@@ -1,0 +1,9 @@
+//! The subcommands.
+
+pub mod check;
+pub mod classes;
+pub mod copies;
+pub mod cut;
+pub mod mend;
+pub mod moving;
+pub mod positions;

@@ -1,0 +1,101 @@
+//! The names of cues, from a name sheet that stands beside the table's: `show.names.csv` beside `show.csv`.
+
+use crate::mend_names;
+use crate::sheet::Sheet;
+use crate::status::Failure;
+use crate::words::Explanation;
+use std::path::{Path, PathBuf};
+use tickdrizzle::{load_names, Question, Refusal, LONGEST_NAME, MOST_NAMES};
+
+/// What the cues of a table are called, where that is known.
+#[derive(Debug, Default)]
+pub struct Names {
+    names: Vec<String>,
+}
+
+impl Names {
+    /// The names beside a sheet; none where there is no name sheet.
+    pub fn beside(path: &Path) -> Result<Names, Failure> {
+        let Some(path) = places(path).into_iter().find(|place| place.exists()) else {
+            return Ok(Names::default());
+        };
+        let sheet = Sheet::read(&path)?;
+        loaded(&sheet.bytes).map_err(|refusal| Failure::refused(explained(&sheet, refusal)))
+    }
+
+    /// The name of a cue.
+    pub fn name(&self, cue: usize) -> Option<&str> {
+        self.names.get(cue - 1).map(String::as_str)
+    }
+
+    pub fn is_empty(&self) -> bool {
+        self.names.is_empty()
+    }
+
+    /// A cue by number, and by name where it has one.
+    pub fn label(&self, cue: usize) -> String {
+        match self.name(cue) {
+            Some(name) => format!("{cue} \"{name}\""),
+            None => cue.to_string(),
+        }
+    }
+}
+
+/// Where the names of a sheet may stand: beside it, and for a mended sheet beside the original.
+fn places(path: &Path) -> Vec<PathBuf> {
+    let beside = |path: &Path| path.with_extension(&mend_names::ENDING[1..]);
+    let bare = path.with_extension("");
+    let is_mended = bare.extension().is_some_and(|ending| ending == "mended");
+    [Some(beside(path)), is_mended.then(|| beside(&bare))].into_iter().flatten().collect()
+}
+
+fn loaded(text: &[u8]) -> Result<Names, Refusal> {
+    let (mut bytes, mut lengths) = ([0; MOST_NAMES * LONGEST_NAME], [0; MOST_NAMES]);
+    let count = load_names(text, &mut bytes, &mut lengths)?;
+    let mut rest = &bytes[..];
+    let mut names = Vec::new();
+    for &length in &lengths[..count] {
+        let (name, behind) = rest.split_at(length.into());
+        names.push(String::from_utf8_lossy(name).into_owned());
+        rest = behind;
+    }
+    Ok(Names { names })
+}
+
+/// Whether a name sheet that does not load would load when mended.
+fn helps(bytes: &[u8]) -> bool {
+    mend_names::mend(bytes).is_ok_and(|mended| loaded(&mended.text).is_ok())
+}
+
+/// Asks whether the text is a name sheet.
+pub fn check(sheet: &Sheet) -> Result<(), Explanation> {
+    loaded(&sheet.bytes).map(|_| ()).map_err(|refusal| explained(sheet, refusal))
+}
+
+/// Why a name sheet is refused.
+fn explained(sheet: &Sheet, refusal: Refusal) -> Explanation {
+    let (place, there, expected) = match refusal.question {
+        Question::Sheet { place } => {
+            let row = 1 + sheet.bytes[..place].iter().filter(|&&byte| byte == b'\n').count();
+            let there = if place < sheet.bytes.len() { sheet.cell_at(place).text } else { "the end".into() };
+            (format!("row {row}, byte {}", place + 1), there, "a number, a comma, a name and CR LF in each row")
+        }
+        Question::Name { place } => (format!("row {place}"), String::new(), "a name of 1 to 40 plain characters"),
+        Question::NameNumber { place } => {
+            (format!("row {place}"), String::new(), "the next number, counted from 1, at most 120")
+        }
+        _ => (String::new(), refusal.to_string(), ""),
+    };
+    let to_do = if helps(&sheet.bytes) {
+        format!("run: tickdrizzle mend {}", sheet.path.display())
+    } else {
+        "correct the name sheet, or take it away".into()
+    };
+    Explanation {
+        head: format!("{}: refused (question {}).", sheet.path.display(), refusal.question.number()),
+        place,
+        there,
+        expected: expected.into(),
+        to_do,
+    }
+}

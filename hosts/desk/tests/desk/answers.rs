@@ -1,0 +1,227 @@
+//! Every subcommand on the examples.
+
+use crate::run::{answer, folder, names, put, root, run, run_in};
+use std::fs;
+use std::path::PathBuf;
+
+#[test]
+fn a_show_that_fits() {
+    let words = "The show fits: its 2 cues go to 2 of the rig's 4.\n  1  ->  2\n  2  ->  3\n";
+    assert_eq!(run(&["move", "examples/found"]), answer(words, 0));
+    assert_eq!(run(&["move", "examples/found/source.csv", "examples/found/target.csv"]), answer(words, 0));
+}
+
+#[test]
+fn a_show_that_does_not_fit() {
+    let words = "The show does not fit: there is no way to give its 2 cues partners among the rig's 4.\n";
+    assert_eq!(run(&["move", "examples/none"]), answer(words, 1));
+}
+
+#[test]
+fn records_are_those_of_recue() {
+    for (example, status) in [("found", 0), ("none", 1), ("refused", 2), ("touring", 0)] {
+        let path = format!("examples/{example}");
+        let records = fs::read_to_string(root().join(&path).join("output.csv")).expect("the example has an output");
+        assert_eq!(run(&["move", "--csv", &path]), answer(&records, status), "{example}");
+    }
+}
+
+#[test]
+fn long_numbers_stand_below_each_other() {
+    let output = run(&["move", "examples/touring"]).output;
+    let lines: Vec<_> = output.lines().collect();
+    assert_eq!(lines[..2], ["The show fits: its 31 cues go to 31 of the rig's 59.", "  1   ->  15"]);
+    assert_eq!(lines[31], "  31  ->  20");
+}
+
+#[test]
+fn tables_that_are_fine() {
+    let words = "examples/found/source.csv: a linking table of 2 cues.\n\
+                 examples/found/target.csv: a linking table of 4 cues.\n";
+    assert_eq!(run(&["check", "examples/found"]), answer(words, 0));
+    assert_eq!(run(&["check", "examples/found/source.csv", "examples/found/target.csv"]), answer(words, 0));
+}
+
+#[test]
+fn classes_of_a_folder() {
+    let records = fs::read_to_string(root().join("examples/classes/output.csv")).expect("the example has an output");
+    assert_eq!(run(&["classes", "--csv", "examples/classes"]), answer(&records, 2));
+    let words = "3 classes in 6 sheets.\n\
+                 Class 1, of 4 cues:\n  examples/classes/01.csv\n  examples/classes/03.csv\n\
+                 Class 2, of 4 cues:\n  examples/classes/02.csv\n  examples/classes/05.csv\n\
+                 Class 3, of 3 cues:\n  examples/classes/06.csv\n\
+                 examples/classes/04.csv: refused (question 3).\n  where:     row 2, column 2\n  there:     \"3\"\n  \
+                 expected:  a cue of this table, 1 to 2\n  to do:     correct the cell\n";
+    assert_eq!(run(&["classes", "examples/classes"]), answer(words, 2));
+}
+
+#[test]
+fn classes_end_at_the_first_gap() {
+    let here = folder("gap");
+    put(&here, "01.csv", "1\r\n");
+    put(&here, "03.csv", "1\r\n");
+    assert_eq!(run_in(&here, &["classes", "--csv", "."]), answer("class,1,1,1\r\ntotal,1,1\r\n", 0));
+}
+
+#[test]
+fn no_classes() {
+    let here = folder("no-classes");
+    assert_eq!(run_in(&here, &["classes", "--csv", "."]), answer("", 1));
+    let words = "There is no sheet: a folder needs 01.csv, 02.csv and so on.\n";
+    assert_eq!(run_in(&here, &["classes", "."]), answer(words, 1));
+}
+
+#[test]
+fn classes_with_a_refused_sheet() {
+    let here = folder("refused-class");
+    put(&here, "a.csv", "1\r\n");
+    put(&here, "b.csv", "2\r\n");
+    put(&here, "c.csv", "1");
+    let sheets = ["a.csv", "b.csv", "c.csv"];
+    let records = "class,1,1,1\r\nrefused,2,3\r\nclass,3,1,1\r\ntotal,1,2\r\n";
+    assert_eq!(run_in(&here, &[&["classes", "--csv"][..], &sheets].concat()), answer(records, 2));
+    let words = "1 class in 3 sheets.\nClass 1, of 1 cue:\n  a.csv\n  c.csv\nb.csv: refused (question 3).\n  \
+                 where:     row 1, column 1\n  there:     \"2\"\n  expected:  a cue of this table, 1 to 1\n  \
+                 to do:     correct the cell\n";
+    assert_eq!(run_in(&here, &[&["classes"][..], &sheets].concat()), answer(words, 2));
+}
+
+#[test]
+fn a_part() {
+    let here = folder("cut");
+    let table = root().join("examples/found/target.csv");
+    let words = "The part has 2 of the 4 cues:\n  1  is  2\n  2  is  3\nWritten: act.csv\n";
+    let arguments = ["cut", table.to_str().expect("the path is text"), "--cues", "3", "--output", "act.csv"];
+    assert_eq!(run_in(&here, &arguments), answer(words, 0));
+    assert_eq!(names(&here), ["act.csv"]);
+    assert_eq!(fs::read(here.join("act.csv")).expect("it was written"), b"1,2\r\n2,1\r\n");
+}
+
+#[test]
+fn fewest_positions() {
+    let words = "2 rest positions carry the 2 cues, and fewer do not. Where each lands from positions 1 to 2:\n  \
+                 1  lands at  1 2\n  2  lands at  2 1\n";
+    assert_eq!(run(&["positions", "examples/found"]), answer(words, 0));
+    let here = folder("positions");
+    put(&here, "one.csv", "1\r\n");
+    let one = "1 rest position carries the 1 cue, and fewer do not. Where each lands from positions 1 to 1:\n  1  lands at  1\n";
+    assert_eq!(run_in(&here, &["positions", "one.csv"]), answer(one, 0));
+    put(&here, "four.csv", "1,2,3,4\r\n2,3,4,1\r\n3,4,1,2\r\n4,1,2,3\r\n");
+    let none = "No: 3 rest positions do not carry the 4 cues, and more are not tried.\n";
+    assert_eq!(run_in(&here, &["positions", "four.csv"]), answer(none, 1));
+}
+
+#[test]
+fn pages_need_nothing_else() {
+    let here = folder("pages");
+    let example = |name: &str| root().join("examples").join(name).to_str().expect("the path is text").to_owned();
+    let target = example("found/target.csv");
+    for arguments in [
+        &["move", &example("touring"), "--html", "move.html"][..],
+        &["move", &example("none"), "--html", "none.html"],
+        &["classes", &example("classes"), "--html", "classes.html"],
+        &["cut", &target, "--cues", "3", "--html", "cut.html"],
+    ] {
+        assert!(run_in(&here, arguments).status < 3);
+        let page = fs::read_to_string(here.join(arguments[arguments.len() - 1])).expect("it was written");
+        assert!(page.starts_with("<!DOCTYPE html>") && page.ends_with("</html>\n"));
+        assert!(!page.contains("<script") && !page.contains("<link") && !page.contains("src="));
+    }
+    let page = fs::read_to_string(here.join("move.html")).expect("it was written");
+    let marked = page.matches("<td class=").count();
+    assert_eq!((page.matches("<td").count(), marked), (31 * 31 + 59 * 59, 2 * 31 * 31));
+    assert!(page.contains("<li><b class=\"c31\">31</b> → 20"));
+}
+
+#[test]
+fn a_limit() {
+    let found = "The show fits: its 2 cues go to 2 of the rig's 4. 4 trials.\n  1  ->  2\n  2  ->  3\n";
+    assert_eq!(run(&["move", "--limit", "4", "examples/found"]), answer(found, 0));
+    let stopped = "Stopped: 1 trial is not enough to tell. Give a larger --limit, or none.\n";
+    assert_eq!(run(&["move", "--limit", "1", "examples/found"]), answer(stopped, 3));
+    assert_eq!(run(&["move", "--limit", "0", "--csv", "examples/found"]), answer("stopped,2,4\r\n", 3));
+    let none = run(&["move", "--limit", "4294967295", "examples/none"]);
+    assert!(none.output.starts_with("The show does not fit: ") && none.output.ends_with(" trials.\n"));
+    assert_eq!(none.status, 1);
+}
+
+/// A folder with the example that fits and names for both tables.
+fn with_names(name: &str) -> PathBuf {
+    let here = folder(name);
+    for sheet in ["source.csv", "target.csv"] {
+        put(&here, sheet, fs::read(root().join("examples/found").join(sheet)).expect("the example is there"));
+    }
+    put(&here, "source.names.csv", "1,House to half\r\n2,\"second link, up\"\r\n");
+    put(&here, "target.names.csv", "1,dark\r\n2,T2 half\r\n3,say \\now\r\n4,<b>\r\n");
+    here
+}
+
+#[test]
+fn cues_by_name() {
+    let here = with_names("names");
+    let words = "The show fits: its 2 cues go to 2 of the rig's 4.\n  \
+                 1 \"House to half\"    ->  2 \"T2 half\"\n  2 \"second link, up\"  ->  3 \"say \\now\"\n";
+    assert_eq!(run_in(&here, &["move", "."]), answer(words, 0));
+    let part = "The part has 2 of the 4 cues:\n  1  is  2 \"T2 half\"\n  2  is  3 \"say \\now\"\n";
+    assert_eq!(run_in(&here, &["cut", "target.csv", "--cues", "3"]), answer(part, 0));
+    let lands = "2 rest positions carry the 2 cues, and fewer do not. Where each lands from positions 1 to 2:\n  \
+                 1 \"House to half\"    lands at  1 2\n  2 \"second link, up\"  lands at  2 1\n";
+    assert_eq!(run_in(&here, &["positions", "."]), answer(lands, 0));
+    assert_eq!(run_in(&here, &["move", ".", "--html", "page.html"]).status, 0);
+    let page = fs::read_to_string(here.join("page.html")).expect("it was written");
+    assert!(page.contains("<li><b class=\"c2\">2 &quot;second link, up&quot;</b> → 3 &quot;say \\now&quot;"));
+    assert!(page.contains("title=\"&lt;b&gt;\"") && !page.contains("<b>\""));
+}
+
+#[test]
+fn names_of_a_mended_sheet() {
+    let here = with_names("names-mended");
+    put(&here, "source.csv", "1;2\n2;1\n");
+    assert_eq!(run_in(&here, &["mend", "source.csv"]).status, 0);
+    let output = run_in(&here, &["move", "source.mended.csv", "target.csv"]).output;
+    assert!(output.contains("  1 \"House to half\"    ->  2 \"T2 half\"\n"));
+    put(&here, "source.mended.names.csv", "1,other\r\n");
+    let output = run_in(&here, &["move", "source.mended.csv", "target.csv"]).output;
+    assert!(output.contains("  1 \"other\"  ->  2 \"T2 half\"\n  2          ->  3 \"say \\now\"\n"));
+}
+
+#[test]
+fn names_where_links_do_not_fit() {
+    let here = with_names("names-4");
+    put(&here, "source.csv", "2,1\r\n1,1\r\n");
+    let output = run_in(&here, &["check", "source.csv"]).output;
+    assert!(output.contains("where:     cues 1 \"House to half\", 1 \"House to half\", 2 \"second link, up\"\n"));
+}
+
+#[test]
+fn a_name_sheet_that_is_refused() {
+    let here = with_names("names-refused");
+    let correct = "correct the name sheet, or take it away";
+    for (sheet, number, says, to_do) in [
+        (
+            "1,a\n",
+            40,
+            "where:     row 1, byte 4\n  there:     a line break LF without CR\n  expected:  a number, a comma, a name and CR LF in each row", "run: tickdrizzle mend ./source.names.csv",
+        ),
+        ("1,", 41, "where:     row 1\n  expected:  a name of 1 to 40 plain characters", correct),
+        ("1,a\r\n3,b\r\n", 42, "where:     row 2\n  expected:  the next number, counted from 1, at most 120", correct),
+    ] {
+        put(&here, "source.names.csv", sheet);
+        let words = format!("./source.names.csv: refused (question {number}).\n  {says}\n  to do:     {to_do}\n");
+        assert_eq!(run_in(&here, &["move", "."]), answer(&words, 2));
+        assert_eq!(run_in(&here, &["move", "--csv", "."]).status, 0);
+    }
+}
+
+#[test]
+fn copies_of_the_show() {
+    let one = "The show fits in 1 place of the rig: 2 of its 4 cues, whichever show cue goes to which.\n";
+    assert_eq!(run(&["copies", "examples/found"]), answer(one, 0));
+    let none = "The show fits in no place of the rig: its 2 cues have no partners among the rig's 4.\n";
+    assert_eq!(run(&["copies", "examples/none"]), answer(none, 1));
+    let here = folder("copies");
+    put(&here, "one.csv", "1\r\n");
+    put(&here, "three.csv", "1,1,1\r\n2,2,2\r\n3,3,3\r\n");
+    let three = "The show fits in 3 places of the rig: 1 of its 3 cues, whichever show cue goes to which.\n";
+    assert_eq!(run_in(&here, &["copies", "one.csv", "three.csv"]), answer(three, 0));
+}

@@ -1,0 +1,75 @@
+//! How the program ends where something fails.
+
+use crate::run::{answer, failure, folder, names, program, put, root, run, run_in};
+use std::fs::File;
+
+#[test]
+fn help_has_an_example() {
+    for command in ["move", "check", "classes", "cut", "copies", "positions", "mend"] {
+        let help = run(&[command, "--help"]);
+        assert_eq!((help.errors.as_str(), help.status), ("", 0));
+        assert!(help.output.contains("\nExample") && help.output.contains(&format!("$ tickdrizzle {command} ")));
+    }
+    assert_eq!(run(&["--version"]), answer("tickdrizzle 0.1.0\n", 0));
+}
+
+#[test]
+fn examples_in_the_help_are_what_is_printed() {
+    for command in ["move", "check", "classes", "copies", "positions"] {
+        let help = run(&[command, "--help"]).output;
+        let lines: Vec<_> = help.lines().skip_while(|line| !line.starts_with("  $ ")).map(|line| &line[2..]).collect();
+        let arguments: Vec<_> = lines[0].split(' ').skip(2).collect();
+        assert_eq!(run(&arguments), answer(&(lines[1..].join("\n") + "\n"), 0));
+    }
+}
+
+#[test]
+fn arguments_that_are_not_understood() {
+    for arguments in [
+        &[][..],
+        &["fly"],
+        &["move"],
+        &["move", "a", "b", "c"],
+        &["move", "--fast", "."],
+        &["cut", "sheet.csv"],
+        &["cut", "sheet.csv", "--cues", "x"],
+    ] {
+        let outcome = run(arguments);
+        assert_eq!((outcome.output.as_str(), outcome.status), ("", 64), "{arguments:?}");
+        assert!(!outcome.errors.is_empty());
+    }
+    let one = "tickdrizzle: examples/found/source.csv: this is one sheet; give its folder, or both sheets\n";
+    assert_eq!(run(&["move", "examples/found/source.csv"]), failure(one, 64));
+}
+
+#[test]
+fn what_cannot_be_read() {
+    let here = folder("unread");
+    let missing = "tickdrizzle: ./source.csv: reading failed: No such file or directory (os error 2)\n";
+    assert_eq!(run_in(&here, &["move", "."]), failure(missing, 4));
+    assert_eq!(run_in(&here, &["move", "--csv", "."]), answer("refused,1,20\r\n", 2));
+    let no_folder = "tickdrizzle: nowhere: reading failed: No such file or directory (os error 2)\n";
+    for command in ["move", "check", "classes", "copies", "positions", "mend"] {
+        assert_eq!(run_in(&here, &[command, "nowhere"]), failure(no_folder, 4));
+    }
+}
+
+#[test]
+fn an_answer_that_cannot_be_written() {
+    let full = File::options().write(true).open("/dev/full").expect("the device is there");
+    let done = program(&root(), &["move", "examples/found"]).stdout(full).output().expect("the program runs");
+    let message = "tickdrizzle: writing the answer failed: No space left on device (os error 28)\n";
+    assert_eq!(String::from_utf8_lossy(&done.stderr), message);
+    assert_eq!(done.status.code(), Some(4));
+    let page = "tickdrizzle: /dev/full: writing failed: No space left on device (os error 28)\n";
+    assert_eq!(run(&["move", "examples/found", "--html", "/dev/full"]), failure(page, 4));
+}
+
+#[test]
+fn a_file_is_written_whole_or_not_at_all() {
+    let here = folder("whole");
+    put(&here, "table.csv", "1\r\n");
+    let message = "tickdrizzle: nowhere/part.csv: writing failed: No such file or directory (os error 2)\n";
+    assert_eq!(run_in(&here, &["cut", "table.csv", "--cues", "1", "-o", "nowhere/part.csv"]), failure(message, 4));
+    assert_eq!(names(&here), ["table.csv"]);
+}

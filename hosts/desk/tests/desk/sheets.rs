@@ -1,0 +1,151 @@
+//! What spreadsheets write, mended. `tests/sheets/README.md` tells how each sheet was made.
+
+use crate::run::{answer, folder, names, put, root, run_in};
+use std::fs;
+use std::path::PathBuf;
+
+const LF: &str = "Rows ended in LF; now in CR LF.";
+const SEMICOLONS: &str = "The cells were parted by semicolons; now by commas.";
+const TABS: &str = "The cells were parted by tabs; now by commas.";
+const QUOTES: &str = "16 quoted cells now without quote marks.";
+const ZEROS: &str = "16 cells now without zeros that say nothing (\"1.0\" and \"01\" are 1).";
+
+fn sheets() -> PathBuf {
+    root().join("hosts/desk/tests/sheets")
+}
+
+/// A sheet that is mended to the table that it was made from.
+fn mended(sheet: &str, changes: &[&str]) {
+    let here = folder(&format!("mend-{sheet}"));
+    put(&here, sheet, fs::read(sheets().join(sheet)).expect("the sheet is there"));
+    let beside = format!("{}.mended.csv", sheet.rsplit_once('.').expect("the name has an ending").0);
+    let changes: String = changes.iter().map(|change| format!("  {change}\n")).collect();
+    let says = format!("{sheet}: 4 rows of 4 cells.\n{changes}");
+    let dry = run_in(&here, &["mend", "--dry-run", sheet]);
+    assert_eq!(dry, answer(&format!("{says}Would be written: {beside}\n"), 0));
+    assert_eq!(names(&here), [sheet]);
+    assert_eq!(run_in(&here, &["mend", sheet]), answer(&format!("{says}Written: {beside}\n"), 0));
+    let table = fs::read(root().join("examples/found/target.csv")).expect("the example is there");
+    assert_eq!(fs::read(here.join(&beside)).expect("it was written"), table);
+    let original = fs::read(sheets().join(sheet)).expect("the sheet is there");
+    assert_eq!(fs::read(here.join(sheet)).expect("it is still there"), original);
+    assert_eq!(run_in(&here, &["mend", &beside]), answer(&format!("{beside}: loads as it is; nothing to mend.\n"), 0));
+}
+
+#[test]
+fn of_libreoffice() {
+    mended("libreoffice-ods.csv", &[LF]);
+    mended("libreoffice-xlsx.csv", &[LF]);
+    mended("libreoffice-semicolon.csv", &[LF, SEMICOLONS]);
+}
+
+#[test]
+fn of_python() {
+    mended("python-excel-all.csv", &[QUOTES]);
+    mended("python-excel-floats.csv", &[ZEROS]);
+    for quoting in ["minimal", "nonnumeric", "none"] {
+        mended(&format!("python-excel-tab-{quoting}.csv"), &[TABS]);
+    }
+    mended("python-excel-tab-all.csv", &[TABS, QUOTES]);
+    mended("python-excel-tab-floats.csv", &[TABS, ZEROS]);
+    for quoting in ["minimal", "nonnumeric", "none"] {
+        mended(&format!("python-unix-{quoting}.csv"), &[LF]);
+    }
+    mended("python-unix-all.csv", &[LF, QUOTES]);
+    mended("python-unix-floats.csv", &[LF, QUOTES, ZEROS]);
+}
+
+#[test]
+fn of_python_that_load_as_they_are() {
+    for quoting in ["minimal", "nonnumeric", "none"] {
+        let sheet = format!("python-excel-{quoting}.csv");
+        let words = format!("{sheet}: loads as it is; nothing to mend.\n");
+        assert_eq!(run_in(&sheets(), &["mend", &sheet]), answer(&words, 0));
+    }
+}
+
+#[test]
+fn of_excel() {
+    mended("excel-utf8.csv", &["A byte order mark stood at the front; it is taken away."]);
+    mended("excel-semicolon.csv", &[SEMICOLONS]);
+    mended("excel-decimals.csv", &[SEMICOLONS, ZEROS]);
+    mended("excel-unicode.txt", &["The text was UTF-16; now it is plain digits.", TABS]);
+    mended("excel-tabs.txt", &[TABS]);
+    mended("excel-macintosh.csv", &["Rows ended in CR; now in CR LF."]);
+    mended("excel-blanks.csv", &["1 blank row taken away at the end.", "1 blank column taken away at the end."]);
+}
+
+/// A sheet that is not mended, and why.
+fn refused(sheet: &str, place: &str, there: &str, expected: &str) {
+    let here = folder(&format!("refuse-{sheet}"));
+    put(&here, sheet, fs::read(sheets().join(sheet)).expect("the sheet is there"));
+    let words = format!(
+        "{sheet}: cannot be mended.\n  where:     {place}\n  there:     {there}\n  expected:  {expected}\n  to do:     \
+         correct this in the spreadsheet and save it again\n"
+    );
+    assert_eq!(run_in(&here, &["mend", sheet]), answer(&words, 2));
+    assert_eq!(names(&here), [sheet]);
+}
+
+#[test]
+fn that_are_not_mended() {
+    refused("excel-names.csv", "row 1, column 1", "\"go\"", "a whole number");
+    refused("excel-half.csv", "row 1, column 2", "\"1,5\"", "a whole number");
+    refused("excel-thousand.csv", "row 1, column 2", "\"1.000\", which has two readings", "1 or 1000");
+    let there = "two readings, \"1 0\" and \"1\"";
+    refused("excel-two-readings.csv", "row 1", there, "cells with one reading: no decimal commas");
+}
+
+#[test]
+fn that_would_not_load() {
+    let here = folder("mend-large");
+    put(&here, "sheet.csv", "1;121\n2;1\n");
+    let words =
+        "sheet.csv: refused (question 25).\n  where:     row 1, column 2\n  there:     \"121\"\n  expected:  a cue \
+                 number from 1 to 120\n  to do:     correct the cell\n";
+    assert_eq!(run_in(&here, &["mend", "sheet.csv"]), answer(words, 2));
+    assert_eq!(names(&here), ["sheet.csv"]);
+}
+
+#[test]
+fn that_are_no_linking_tables_yet() {
+    let here = folder("mend-wrong");
+    put(&here, "sheet.csv", "1;3\n2;1\n");
+    let words = format!(
+        "sheet.csv: 2 rows of 2 cells.\n  {LF}\n  {SEMICOLONS}\nWritten: sheet.mended.csv\nIt is no linking table yet. \
+         sheet.mended.csv: refused (question 3).\n  where:     row 1, column 2\n  there:     \"3\"\n  expected:  a cue of this \
+         table, 1 to 2\n  to do:     correct the cell\n"
+    );
+    assert_eq!(run_in(&here, &["mend", "sheet.csv"]), answer(&words, 0));
+}
+
+#[test]
+fn beside_one_that_is_already_there() {
+    let here = folder("mend-again");
+    put(&here, "sheet.csv", "1\n");
+    put(&here, "sheet.mended.csv", "mine");
+    let outcome = run_in(&here, &["mend", "sheet.csv"]);
+    let message =
+        "tickdrizzle: sheet.mended.csv: writing failed: it is already there; take it away, or use --replace\n";
+    assert_eq!((outcome.errors.as_str(), outcome.status), (message, 4));
+    assert_eq!(fs::read(here.join("sheet.mended.csv")).expect("it is there"), b"mine");
+    assert_eq!(run_in(&here, &["mend", "--replace", "sheet.csv"]).status, 0);
+    assert_eq!(fs::read(here.join("sheet.mended.csv")).expect("it is there"), b"1\r\n");
+}
+
+#[test]
+fn of_names() {
+    let here = folder("mend-names");
+    put(&here, "show.names.csv", "1;House to half\n2;\"say \"\"go\"\"\"\n");
+    let words = format!("show.names.csv: 2 rows of 2 cells.\n  {LF}\n  {SEMICOLONS}\nWritten: show.mended.names.csv\n");
+    assert_eq!(run_in(&here, &["mend", "show.names.csv"]), answer(&words, 0));
+    let mended = fs::read(here.join("show.mended.names.csv")).expect("it was written");
+    assert_eq!(mended, b"1,House to half\r\n2,\"say \"\"go\"\"\"\r\n");
+    let again = "show.mended.names.csv: loads as it is; nothing to mend.\n";
+    assert_eq!(run_in(&here, &["mend", "show.mended.names.csv"]), answer(again, 0));
+    put(&here, "bad.names.csv", "go,1\n");
+    let refused =
+        "bad.names.csv: cannot be mended.\n  where:     row 1, column 1\n  there:     \"go,1\"\n  expected:  a \
+                   number and a name\n  to do:     correct this in the spreadsheet and save it again\n";
+    assert_eq!(run_in(&here, &["mend", "bad.names.csv"]), answer(refused, 2));
+}

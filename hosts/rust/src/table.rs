@@ -1,0 +1,179 @@
+//! A table that is checked once, and the walks through its embeddings and isomorphisms.
+
+use crate::{
+    check_table, copies, first_embedding, first_embedding_within, first_isomorphism, least_degree, load,
+    next_embedding, next_isomorphism, save, scratch_size, subsemigroup, transformations, Copies, LimitedSearch,
+    Refusal, Search, GREATEST_DEGREE, GREATEST_ORDER, LONGEST_TEXT, MOST_CELLS,
+};
+
+/// The cells and the order of an accepted table.
+///
+/// ```
+/// use tickdrizzle::Table;
+///
+/// let swap = Table::new(vec![1, 2, 2, 1], 2)?;
+/// let all = Table::transformations(2)?;
+/// assert_eq!(swap.embeddings(&all).collect::<Vec<_>>(), [[2, 3]]);
+/// # Ok::<(), tickdrizzle::Refusal>(())
+/// ```
+#[derive(Clone, Debug, PartialEq, Eq)]
+pub struct Table {
+    cells: Vec<u8>,
+    order: usize,
+}
+
+/// A part of a table that holds every product of its own members, as a table of its own.
+#[derive(Clone, Debug, PartialEq, Eq)]
+pub struct Part {
+    /// The part, renumbered from 1.
+    pub table: Table,
+    /// Its elements in the whole table, in rising order: an embedding of the part.
+    pub elements: Vec<u8>,
+}
+
+impl Table {
+    /// Takes cells that are a table of this order.
+    ///
+    /// # Errors
+    /// The earliest of the questions 1 to 4 that fails.
+    pub fn new(cells: Vec<u8>, order: usize) -> Result<Table, Refusal> {
+        check_table(&cells, order)?;
+        Ok(Table { cells, order })
+    }
+
+    /// Loads a table from CSV text.
+    ///
+    /// # Errors
+    /// The earliest question that [`load`] asks of the text, or [`check_table`] of its cells, and that fails.
+    pub fn load(text: &[u8]) -> Result<Table, Refusal> {
+        let mut cells = vec![0; MOST_CELLS];
+        let order = load(text, &mut cells)?;
+        cells.truncate(order * order);
+        Table::new(cells, order)
+    }
+
+    /// The table of all transformations of so many points.
+    ///
+    /// # Errors
+    /// Question 8, where the degree is not 1 to 3.
+    pub fn transformations(degree: usize) -> Result<Table, Refusal> {
+        let mut cells = vec![0; MOST_CELLS];
+        let order = transformations(degree, &mut cells)?;
+        cells.truncate(order * order);
+        Ok(Table { cells, order })
+    }
+
+    /// The number of elements.
+    pub fn order(&self) -> usize {
+        self.order
+    }
+
+    /// The cells, row after row.
+    pub fn cells(&self) -> &[u8] {
+        &self.cells
+    }
+
+    /// The product i·j.
+    ///
+    /// # Panics
+    /// Where i or j is no element.
+    pub fn product(&self, i: usize, j: usize) -> usize {
+        assert!((1..=self.order).contains(&i) && (1..=self.order).contains(&j), "{i} or {j} is no element");
+        usize::from(self.cells[(i - 1) * self.order + (j - 1)])
+    }
+
+    /// The CSV text of the table.
+    pub fn text(&self) -> Vec<u8> {
+        let mut text = vec![0; LONGEST_TEXT];
+        let length = save(&self.cells, self.order, &mut text).expect("an accepted table has a text");
+        text.truncate(length);
+        text
+    }
+
+    /// The smallest part that holds the chosen elements and every product of its own members.
+    ///
+    /// # Errors
+    /// Question 60, where nothing is chosen or an entry is no element.
+    pub fn part(&self, chosen: &[u8]) -> Result<Part, Refusal> {
+        let (mut cells, mut elements) = (vec![0; MOST_CELLS], vec![0; GREATEST_ORDER]);
+        let order = subsemigroup(&self.cells, self.order, chosen, &mut cells, &mut elements)?;
+        cells.truncate(order * order);
+        elements.truncate(order);
+        Ok(Part { table: Table { cells, order }, elements })
+    }
+
+    /// The fewest rest positions, 1 to 3: for each element in turn where it takes each of them, under the first embedding in a
+    /// table of transformations; nothing where three are not enough.
+    pub fn positions(&self) -> Option<Vec<Vec<u8>>> {
+        let mut positions = vec![0; self.order * GREATEST_DEGREE];
+        let degree =
+            least_degree(&self.cells, self.order, &mut positions).expect("an accepted table is not refused")?;
+        Some(positions.chunks(degree).take(self.order).map(<[u8]>::to_vec).collect())
+    }
+
+    /// Every embedding of this table in the target, earliest first.
+    pub fn embeddings<'a>(&'a self, target: &'a Table) -> Maps<'a> {
+        Maps::new(self, target, first_embedding, next_embedding)
+    }
+
+    /// The earliest embedding of this table in the target within so many trials: what the search says, and the map where it
+    /// is found.
+    pub fn embedding_within(&self, target: &Table, limit: u32) -> (LimitedSearch, Option<Vec<u8>>) {
+        let (mut map, mut scratch) = (vec![0; self.order], vec![0; scratch_size(self.order, target.order)]);
+        let (source, order) = (&self.cells, self.order);
+        let search = first_embedding_within(source, order, &target.cells, target.order, &mut map, &mut scratch, limit);
+        let search = search.expect("accepted tables are not refused");
+        (search, matches!(search, LimitedSearch::Found { .. }).then_some(map))
+    }
+
+    /// The number of different copies of this table in the target: of the image sets of its embeddings.
+    pub fn copies(&self, target: &Table) -> Copies {
+        let mut scratch = vec![0; scratch_size(self.order, target.order)];
+        let counted = copies(&self.cells, self.order, &target.cells, target.order, &mut scratch);
+        counted.expect("accepted tables are not refused")
+    }
+
+    /// Every isomorphism of this table onto the target, earliest first.
+    pub fn isomorphisms<'a>(&'a self, target: &'a Table) -> Maps<'a> {
+        Maps::new(self, target, first_isomorphism, next_isomorphism)
+    }
+}
+
+type Searching = fn(&[u8], usize, &[u8], usize, &mut [u8], &mut [u8]) -> Result<Search, Refusal>;
+
+/// A walk through all maps of one kind between two tables, earliest first. Each map has one byte for each source element.
+#[derive(Clone, Debug)]
+pub struct Maps<'a> {
+    source: &'a Table,
+    target: &'a Table,
+    /// The search for the map that comes now, and the one for those behind it.
+    searches: [Searching; 2],
+    map: Vec<u8>,
+    scratch: Vec<u8>,
+    ended: bool,
+}
+
+impl<'a> Maps<'a> {
+    fn new(source: &'a Table, target: &'a Table, first: Searching, next: Searching) -> Maps<'a> {
+        let scratch = vec![0; scratch_size(source.order, target.order)];
+        Maps { source, target, searches: [first, next], map: vec![0; source.order], scratch, ended: false }
+    }
+}
+
+impl Iterator for Maps<'_> {
+    type Item = Vec<u8>;
+
+    fn next(&mut self) -> Option<Vec<u8>> {
+        if self.ended {
+            return None;
+        }
+        let [now, then] = self.searches;
+        self.searches = [then, then];
+        let (source, target) = (self.source, self.target);
+        let search = now(&source.cells, source.order, &target.cells, target.order, &mut self.map, &mut self.scratch);
+        self.ended = search.expect("accepted tables are not refused") == Search::None;
+        (!self.ended).then(|| self.map.clone())
+    }
+}
+
+impl std::iter::FusedIterator for Maps<'_> {}
