@@ -33,8 +33,8 @@ use invariants::IndexPeriodAnswer;
 use invariants::ProfileAnswer;
 use limited::LimitedAnswer;
 use maps::MapAnswer;
-use planning::DegreeAnswer;
 use names::NamesAnswer;
+use planning::DegreeAnswer;
 use search::SearchAnswer;
 use tables::Refusal;
 use tables::Verdict;
@@ -478,7 +478,13 @@ pub extern "C" fn tickdrizzle_first_embedding_within(
     ensures scratch { λ _. ⌜ now (scratch .exit) ≡ limitedCall embeddings limit (lend (now (source .entry)) m (now (target .entry)) n (now (map .entry)) (now (scratch .entry))) .scratch ⌝ }
 {
     *answer = limited_words(limited::first_embedding_within(
-        source, m, target, n, map, scratch, limit,
+        source,
+        m,
+        target,
+        n,
+        map,
+        scratch,
+        limit,
     ));
 }
 
@@ -498,7 +504,13 @@ pub extern "C" fn tickdrizzle_first_isomorphism_within(
     ensures scratch { λ _. ⌜ now (scratch .exit) ≡ limitedCall isomorphisms limit (lend (now (source .entry)) m (now (target .entry)) n (now (map .entry)) (now (scratch .entry))) .scratch ⌝ }
 {
     *answer = limited_words(limited::first_isomorphism_within(
-        source, m, target, n, map, scratch, limit,
+        source,
+        m,
+        target,
+        n,
+        map,
+        scratch,
+        limit,
     ));
 }
 
@@ -536,7 +548,13 @@ pub extern "C" fn tickdrizzle_first_reversed_isomorphism_within(
     ensures scratch { λ _. ⌜ now (scratch .exit) ≡ limitedCall reversed limit (lend (now (source .entry)) m (now (target .entry)) n (now (map .entry)) (now (scratch .entry))) .scratch ⌝ }
 {
     *answer = limited_words(limited::first_reversed_isomorphism_within(
-        source, m, target, n, map, scratch, limit,
+        source,
+        m,
+        target,
+        n,
+        map,
+        scratch,
+        limit,
     ));
 }
 

@@ -67,8 +67,26 @@ fn find(
     ensures answer { λ r. ⌜ r ≡ outcomeOf (within true limit (counted (product m (now (source .entry))) (facing (kindOf kind) n (now (target .entry))) (marked n (now (scratch .entry))) first n m [])) ⌝ }
 {
     match kind {
-        Kind::Embeddings => backtrack::find_within(source, m, target, n, scratch, map, false, limit),
-        Kind::Isomorphisms => backtrack::find_within(source, m, target, n, scratch, map, false, limit),
+        Kind::Embeddings => backtrack::find_within(
+            source,
+            m,
+            target,
+            n,
+            scratch,
+            map,
+            false,
+            limit,
+        ),
+        Kind::Isomorphisms => backtrack::find_within(
+            source,
+            m,
+            target,
+            n,
+            scratch,
+            map,
+            false,
+            limit,
+        ),
         Kind::Reversed => find_turned(source, m, target, n, scratch, map, limit),
     }
 }
@@ -167,7 +185,16 @@ pub fn first_isomorphism_within(
     ensures map { λ _. ⌜ now (map .exit) ≡ limitedCall isomorphisms limit (lend (now (source .entry)) m (now (target .entry)) n (now (map .entry)) (now (scratch .entry))) .map ⌝ }
     ensures scratch { λ _. ⌜ now (scratch .exit) ≡ limitedCall isomorphisms limit (lend (now (source .entry)) m (now (target .entry)) n (now (map .entry)) (now (scratch .entry))) .scratch ⌝ }
 {
-    first_within(Kind::Isomorphisms, source, m, target, n, map, scratch, limit)
+    first_within(
+        Kind::Isomorphisms,
+        source,
+        m,
+        target,
+        n,
+        map,
+        scratch,
+        limit,
+    )
 }
 
 // The earliest reversed isomorphism of the source onto the target within `limit` trials, written to `map`; or nothing; or stopped; or the earliest question
