@@ -5,18 +5,22 @@ use mathlib.Core.Bool.{true, false}
 use mathlib.Core.List.{[], _∷_, flatMap, flatten}
 use mathlib.Core.Option.{orElse}
 use lib.ListN.{replicate}
+use borrow.Author.Tests.{leb-true}
 use Rattle.semigroups.specs.Lists.{all, firstOf}
 use Rattle.semigroups.specs.Tables.{isElement}
 use Rattle.semigroups.specs.Questions.{no}
 use Rattle.semigroups.specs.Calls.{gives, refused}
 use Rattle.csv.specs.Decimals.{isDigit, valueFrom, value, numeral, numeralWithin}
 use Rattle.sheets.specs.Grammar.{isPrintable, isTextData, isQuotable, single, twice, non-escaped, escaped, itemText, fieldText, entryText, entriesText, sheetText, Passes, itemValue, itemsValue, fieldValue, entryRow, entriesRows, sheetRows}
-use Rattle.sheets.specs.Readings.{Offending, passes, rowsNames}
+use Rattle.sheets.specs.Readings.{Offending, passes, rowsNames, Reading}
 use Rattle.sheets.specs.Names.{isName, isNumber, needsQuotes, doubled, nameText, namesTextFrom, namesText, namesAt}
 use Rattle.sheets.specs.Questions.{rowsQuestions, loadNamesRefusal, namesQuestions, saveNamesRefusal}
 use Rattle.sheets.specs.Calls.{loadNamesAnswer, namesAfter, lengthsAfter, saveNamesAnswer, sheetAfter}
 use Rattle.sheets.specs.Automaton.{step, openingStep, bareStep, afterField, isDead, placeFrom, place}
+use Rattle.sheets.specs.Rounds.{SavedNamesLoad, LoadsClosed}
 use Rattle.sheets.proofs.Places.{place-offending}
+use Rattle.sheets.proofs.Readings.{same-reading}
+use Rattle.sheets.proofs.RoundTrips.{saved-names-load, loads-closed}
 
 -- ---- bytes
 
@@ -93,3 +97,22 @@ saved = (refl, refl)
 refused-names : (saveNamesAnswer [] [] [] ≡ refused (no 42 [])) × (saveNamesAnswer (97 ∷ []) (1 ∷ 0 ∷ []) [] ≡ refused (no 41 (2 ∷ [])))
 unfolding saveNamesAnswer saveNamesRefusal namesQuestions firstOf orElse isName isElement all isPrintable
 refused-names = (refl, refl)
+
+-- ---- there and back
+
+-- The names saved above load again as the same names.
+saved-back : SavedNamesLoad (97 ∷ 34 ∷ 98 ∷ 44 ∷ 92 ∷ 7 ∷ []) (4 ∷ 1 ∷ []) (replicate 17 7) (replicate 6 7) (replicate 3 7)
+unfolding saveNamesRefusal namesQuestions firstOf orElse isName isElement all isPrintable namesAt namesText namesTextFrom nameText needsQuotes doubled flatMap numeral numeralWithin flatten
+saved-back = saved-names-load (97 ∷ 34 ∷ 98 ∷ 44 ∷ 92 ∷ 7 ∷ []) (4 ∷ 1 ∷ []) (replicate 17 7) (replicate 6 7) (replicate 3 7) refl (leb-true 5 6 refl) (leb-true 2 3 refl)
+
+-- The sheet above has no last line break, and loads as if it were there.
+sheet-closed : LoadsClosed (34 ∷ 49 ∷ 34 ∷ 44 ∷ 34 ∷ 97 ∷ 34 ∷ 34 ∷ 98 ∷ 44 ∷ 34 ∷ 13 ∷ 10 ∷ 50 ∷ 44 ∷ 92 ∷ []) (replicate 6 7) (replicate 3 7)
+unfolding sheet
+sheet-closed = loads-closed (34 ∷ 49 ∷ 34 ∷ 44 ∷ 34 ∷ 97 ∷ 34 ∷ 34 ∷ 98 ∷ 44 ∷ 34 ∷ 13 ∷ 10 ∷ 50 ∷ 44 ∷ 92 ∷ []) sheet refl (replicate 6 7) (replicate 3 7)
+
+-- Whatever reads it, it loads, so that rounds of loading and saving settle.
+sheet-loads : (w : Reading (34 ∷ 49 ∷ 34 ∷ 44 ∷ 34 ∷ 97 ∷ 34 ∷ 34 ∷ 98 ∷ 44 ∷ 34 ∷ 13 ∷ 10 ∷ 50 ∷ 44 ∷ 92 ∷ [])) → loadNamesAnswer w (replicate 6 7) (replicate 3 7) ≡ gives 2
+unfolding loadNamesAnswer loadNamesRefusal
+sheet-loads w =
+    let same = same-reading (34 ∷ 49 ∷ 34 ∷ 44 ∷ 34 ∷ 97 ∷ 34 ∷ 34 ∷ 98 ∷ 44 ∷ 34 ∷ 13 ∷ 10 ∷ 50 ∷ 44 ∷ 92 ∷ []) w (passes sheet) in
+    rw (same .0, same .1) (loaded .0)
