@@ -14,7 +14,7 @@ use Rattle.semigroups.specs.Questions.{Question, Refusal, firstNo, numbers, tab
 use Rattle.semigroups.specs.Light.{generatorsQuestions, generatorsRefusal}
 use Rattle.semigroups.specs.Generated.{generated}
 use Rattle.semigroups.specs.Subsemigroups.{subsemigroupQuestions, subsemigroupRefusal}
-use Rattle.semigroups.specs.Copies.{copiesLimited, copiesQuestions, copiesRefusal}
+use Rattle.semigroups.specs.Copies.{copiesCapped, copiesQuestions, copiesRefusal}
 use Rattle.semigroups.specs.Transformations.{transformationOrder, transformationQuestions, transformationRefusal}
 use Rattle.semigroups.specs.Calls.{givenUnless}
 use Rattle.semigroups.specs.Maps.{Kind, sought}
@@ -146,4 +146,4 @@ save-names-told names lengths text =
 
 pub copies-told : (m : ℕ) (source : List ℕ) (n : ℕ) (target : List ℕ) (l : ℕ) → Tells (answerWords copiesValues (copiesSays m source n target l)) (copiesRefusal m source n target l)
 unfolding copiesSays copiesRefusal member
-copies-told m source n target l = answer-told copiesValues (copiesLimited m (product m source) n (product n target)) (numbered (copiesQuestions m source n target l) refl)
+copies-told m source n target l = answer-told copiesValues (copiesCapped m (product m source) n (product n target)) (numbered (copiesQuestions m source n target l) refl)

@@ -82,6 +82,6 @@ degreeValues (some d) = d ∷ []
 degreeValues none = 0 ∷ []
 
 -- 0 and the number; 1 for more.
-abbrev pub copiesValues : copies.Limited → List ℕ
+abbrev pub copiesValues : copies.Capped → List ℕ
 copiesValues (copies.number k) = 0 ∷ k ∷ []
 copiesValues copies.more = 1 ∷ []
