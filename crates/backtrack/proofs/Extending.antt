@@ -70,16 +70,16 @@ module _ (s : Product) (m : ℕ) (t : Product) (n : ℕ) (scratch after : List �
       ap (λ (c : Bool). work (cond (not c) (some (prefix p)) none) 0) (sym f)
       ∙ whole s t (marked n scratch) n after (prefix p) tight same (omega arith) ∙ ap (λ (d : ℕ). counted s t (marked n scratch) (bounded tight after) n d (prefix p)) e
 
-  module _ (counting : Bool) (limit : ℕ) where
-    pub done-bound : m ≤ p .len → tight ≡ true → record { stopped = false; left = limit; ok = false; image = replicate 120 0 } ≡ outcomeOf (within counting limit Whole)
+  module _ (limit : ℕ) where
+    pub done-bound : m ≤ p .len → tight ≡ true → record { stopped = false; left = limit; ok = false; image = replicate 120 0 } ≡ outcomeOf (within limit Whole)
     unfolding outcomeOf foundIn
-    done-bound h e = ap outcomeOf (sym (within-nothing counting limit none) ∙ ap (within counting limit) (done h true e))
+    done-bound h e = ap outcomeOf (sym (within-nothing limit none) ∙ ap (within limit) (done h true e))
 
-    pub done-found : m ≤ p .len → tight ≡ false → record { stopped = false; left = limit; ok = true; image = p .image } ≡ outcomeOf (within counting limit Whole)
+    pub done-found : m ≤ p .len → tight ≡ false → record { stopped = false; left = limit; ok = true; image = p .image } ≡ outcomeOf (within limit Whole)
     unfolding outcomeOf foundIn
     done-found h e =
         ap {B = Outcome} (λ (l : List ℕ). record { stopped = false; left = limit; ok = true; image = l }) (image-padded n (p .image) (p .used) (p .len) (Q .holds .placing))
-        ∙ ap outcomeOf (sym (within-nothing counting limit (some (prefix p))) ∙ ap (within counting limit) (done h false e))
+        ∙ ap outcomeOf (sym (within-nothing limit (some (prefix p))) ∙ ap (within limit) (done h false e))
 
   module _ (room : p .len < m) where
     short : length (prefix p) < length after
@@ -93,25 +93,25 @@ module _ (s : Product) (m : ℕ) (t : Product) (n : ℕ) (scratch after : List �
         ap (λ (d : ℕ). counted s t (marked n scratch) (bounded tight after) n d (prefix p)) (let e : m - p .len ≡ suc (m - (p .len + 1)) = omega arith in e)
         ∙ begin s t (marked n scratch) n after (prefix p) tight same (m - (p .len + 1)) short
 
-    pub ends : (counting : Bool) (limit left x : ℕ) → n < x → within counting limit Whole ≡ within counting left (Left x)
-        → record { stopped = false; left = left; ok = false; image = replicate 120 0 } ≡ outcomeOf (within counting limit Whole)
+    pub ends : (limit left x : ℕ) → n < x → within limit Whole ≡ within left (Left x)
+        → record { stopped = false; left = left; ok = false; image = replicate 120 0 } ≡ outcomeOf (within limit Whole)
     unfolding outcomeOf foundIn
-    ends counting limit left x h e =
-        ap outcomeOf (sym (e ∙ ap (within counting left) (end s t (marked n scratch) n after (prefix p) tight same (m - (p .len + 1)) short x h) ∙ within-nothing counting left none))
+    ends limit left x h e =
+        ap outcomeOf (sym (e ∙ ap (within left) (end s t (marked n scratch) n after (prefix p) tight same (m - (p .len + 1)) short x h) ∙ within-nothing left none))
 
     -- The row of marks that is read lies in scratch.
     pub row-marked : scratchSize (p .len + 1) n ≤ length scratch
     row-marked = let rows = size-rows m n (p .len + 1) (omega arith) in let space = Q .space in omega arith
 
 -- One turn of the loop: x is looked at with so many trials left, and o says whether it is open.
-pub record Turn (s : Product) (m : ℕ) (t : Product) (n : ℕ) (scratch after : List ℕ) (tight counting : Bool) (limit : ℕ) (p : Partial) (low left x : ℕ) (o : Bool) : Type 0 where
+pub record Turn (s : Product) (m : ℕ) (t : Product) (n : ℕ) (scratch after : List ℕ) (tight : Bool) (limit : ℕ) (p : Partial) (low left x : ℕ) (o : Bool) : Type 0 where
   pub ready : Ready s m t n scratch after tight p
   pub closed : Closed m s
   pub orders : (m ≤ 120) × (n ≤ 120)
   pub room : p .len < m
   pub bound : low ≡ lowest tight after (p .len)
   pub element : Element n x
-  pub so-far : within counting limit (Called s m t n scratch after tight p) ≡ within counting left (Rest s m t n scratch after tight p x)
+  pub so-far : within limit (Called s m t n scratch after tight p) ≡ within left (Rest s m t n scratch after tight p x)
   pub opened : o ≡ (leb low x && (eqb (getD (p .used) x 0) 0 && marked n scratch (p .len + 1) x))
 
 -- What is told of x placed, which gives r, and tested, which gives b and hands q back.
@@ -129,7 +129,7 @@ handed-passes s t p q el ep e = let k : q .len - 1 ≡ p .len = omega arith in r
 pub verdict : {s t : Product} {p : Partial} {x : ℕ} {r q : Partial} {b : Bool} → Verdict s t p x r q b → b ≡ passes s t (prefix p ++ x ∷ [])
 verdict {s} {t} v = v .says ∙ ap (passes s t) (v .longer)
 
-module _ {s : Product} {m : ℕ} {t : Product} {n : ℕ} {scratch after : List ℕ} {tight counting : Bool} {limit : ℕ} {p : Partial} {low left x : ℕ} {o : Bool} (T : Turn s m t n scratch after tight counting limit p low left x o) where
+module _ {s : Product} {m : ℕ} {t : Product} {n : ℕ} {scratch after : List ℕ} {tight : Bool} {limit : ℕ} {p : Partial} {low left x : ℕ} {o : Bool} (T : Turn s m t n scratch after tight limit p low left x o) where
   abbrev longer : List ℕ
   longer = prefix p ++ x ∷ []
 
@@ -158,16 +158,16 @@ module _ {s : Product} {m : ℕ} {t : Product} {n : ℕ} {scratch after : List �
 
   -- The answer so far, and what is left of it behind x.
   abbrev Answer : Remainder
-  Answer = within counting limit (Called s m t n scratch after tight p)
+  Answer = within limit (Called s m t n scratch after tight p)
 
   abbrev Behind : Work
   Behind = Rest s m t n scratch after tight p (x + 1)
 
-  pub skip : o ≡ false → Answer ≡ within counting left Behind
+  pub skip : o ≡ false → Answer ≡ within left Behind
   skip h =
       T .so-far
-      ∙ ap (within counting left) (shut s t (marked n scratch) n after (prefix p) tight kept d shorter x (T .element .0) (sym open-is ∙ h) (T .element .1))
-      ∙ within-skip counting left Behind
+      ∙ ap (within left) (shut s t (marked n scratch) n after (prefix p) tight kept d shorter x (T .element .0) (sym open-is ∙ h) (T .element .1))
+      ∙ within-skip left Behind
 
   -- x is open: it is a trial.
   module _ (h : o ≡ true) where
@@ -178,21 +178,21 @@ module _ {s : Product} {m : ℕ} {t : Product} {n : ℕ} {scratch after : List �
         not-true (member x (prefix p)) (sym used-here ∙ and-left test mark (and-right (leb low x) (test && mark) (sym (T .opened) ∙ h)))
 
     -- No trial is left for it.
-    pub stop : exhausted ≡ within counting left (work none 1) → record { stopped = true; left = 0; ok = false; image = replicate 120 0 } ≡ outcomeOf Answer
+    pub stop : exhausted ≡ within left (work none 1) → record { stopped = true; left = 0; ok = false; image = replicate 120 0 } ≡ outcomeOf Answer
     unfolding outcomeOf
     stop e =
         ap outcomeOf (sym (T .so-far
-        ∙ ap (within counting left) (opened s t (marked n scratch) n after (prefix p) tight kept d shorter x (T .element .0) (sym open-is ∙ h) (T .element .1))
-        ∙ within-unpaid counting left (tested s t (marked n scratch) n after (prefix p) tight kept d shorter x (T .element .0)) Behind e))
+        ∙ ap (within left) (opened s t (marked n scratch) n after (prefix p) tight kept d shorter x (T .element .0) (sym open-is ∙ h) (T .element .1))
+        ∙ within-unpaid left (tested s t (marked n scratch) n after (prefix p) tight kept d shorter x (T .element .0)) Behind e))
 
     -- It is paid for, and `rest` trials are left.
-    module _ (rest : ℕ) (paid : remaining rest none ≡ within counting left (work none 1)) where
-      pub refuse : passes s t longer ≡ false → Answer ≡ within counting rest Behind
+    module _ (rest : ℕ) (paid : remaining rest none ≡ within left (work none 1)) where
+      pub refuse : passes s t longer ≡ false → Answer ≡ within rest Behind
       refuse f =
           T .so-far
-          ∙ ap (within counting left) (fails s t (marked n scratch) n after (prefix p) tight kept d shorter x (T .element .0) (sym open-is ∙ h) f (T .element .1))
-          ∙ within-paid counting left (work none 0) Behind rest paid
-          ∙ ap (λ (r : Remainder). resumed r (λ i. within counting i Behind)) (within-nothing counting rest none)
+          ∙ ap (within left) (fails s t (marked n scratch) n after (prefix p) tight kept d shorter x (T .element .0) (sym open-is ∙ h) f (T .element .1))
+          ∙ within-paid left (work none 0) Behind rest paid
+          ∙ ap (λ (r : Remainder). resumed r (λ i. within i Behind)) (within-nothing rest none)
 
       -- The test said whether the list passes, and it did.
       module _ (r q : Partial) (b : Bool) (v : Verdict s t p x r q b) (passed : b ≡ true) where
@@ -221,25 +221,25 @@ module _ {s : Product} {m : ℕ} {t : Product} {n : ℕ} {scratch after : List �
 
         -- What the call for the next element leaves.
         abbrev Inner : Remainder
-        Inner = within counting rest (Called s m t n scratch after (eqb x low) q)
+        Inner = within rest (Called s m t n scratch after (eqb x low) q)
 
         inner : Called s m t n scratch after (eqb x low) q ≡ counted s t (marked n scratch) (bounded (eqb x (lowest tight after (length (prefix p)))) after) n d longer
         inner =
             ap (λ (k : ℕ). counted s t (marked n scratch) (bounded (eqb x k) after) n (m - q .len) (prefix q)) low-here
             ∙ ap₂ (λ (i : ℕ) (l : List ℕ). counted s t (marked n scratch) (bounded (eqb x (lowest tight after (length (prefix p)))) after) n i l) (let e : m - q .len ≡ d = omega arith in e) eq
 
-        resumes : Answer ≡ resumed Inner (λ i. within counting i Behind)
+        resumes : Answer ≡ resumed Inner (λ i. within i Behind)
         resumes =
             T .so-far
-            ∙ ap (within counting left) (goes s t (marked n scratch) n after (prefix p) tight kept d shorter x (T .element .0) (sym open-is ∙ h) pass (T .element .1))
-            ∙ within-paid counting left (counted s t (marked n scratch) (bounded (eqb x (lowest tight after (length (prefix p)))) after) n d longer) Behind rest paid
-            ∙ ap (λ (w : Work). resumed (within counting rest w) (λ i. within counting i Behind)) (sym inner)
+            ∙ ap (within left) (goes s t (marked n scratch) n after (prefix p) tight kept d shorter x (T .element .0) (sym open-is ∙ h) pass (T .element .1))
+            ∙ within-paid left (counted s t (marked n scratch) (bounded (eqb x (lowest tight after (length (prefix p)))) after) n d longer) Behind rest paid
+            ∙ ap (λ (w : Work). resumed (within rest w) (λ i. within i Behind)) (sym inner)
 
         pub halt : outcomeOf Inner .stopped ≡ true → outcomeOf Inner ≡ outcomeOf Answer
-        halt e = ap outcomeOf (sym (resumes ∙ over-stopped (λ i. within counting i Behind) Inner e))
+        halt e = ap outcomeOf (sym (resumes ∙ over-stopped (λ i. within i Behind) Inner e))
 
         pub found : outcomeOf Inner .ok ≡ true → outcomeOf Inner ≡ outcomeOf Answer
-        found e = ap outcomeOf (sym (resumes ∙ over-found (λ i. within counting i Behind) Inner e))
+        found e = ap outcomeOf (sym (resumes ∙ over-found (λ i. within i Behind) Inner e))
 
-        pub fail : outcomeOf Inner .stopped ≡ false → outcomeOf Inner .ok ≡ false → Answer ≡ within counting (outcomeOf Inner .left) Behind
-        fail e f = resumes ∙ not-over (λ i. within counting i Behind) Inner e f
+        pub fail : outcomeOf Inner .stopped ≡ false → outcomeOf Inner .ok ≡ false → Answer ≡ within (outcomeOf Inner .left) Behind
+        fail e f = resumes ∙ not-over (λ i. within i Behind) Inner e f

@@ -9,8 +9,6 @@ use borrow.Author.Tests.{leb-true, leb-false, le-leb, lt-leb}
 use lib.Dec.{leb}
 use Rattle.semigroups.specs.Trials.{Work, work, followed, andThen}
 use Rattle.semigroups.proofs.Booleans.{same-truth}
-use Rattle.backtrack.specs.declared.Found.{Found}
-use Rattle.backtrack.specs.declared.Outcome.{Outcome}
 use Rattle.backtrack.specs.State.{foundIn, Remainder, exhausted, remaining, within, outcomeOf}
 
 -- ---- one work after another
@@ -21,21 +19,14 @@ resumed exhausted go = exhausted
 resumed (remaining left none) go = go left
 resumed (remaining left (some f)) go = remaining left (some f)
 
-module _ (counting : Bool) (limit : ℕ) where
-  pub within-nothing : (o : Option (List ℕ)) → within counting limit (work o 0) ≡ remaining limit o
-  unfolding within
-  within-nothing o =
-      elim counting as (λ b. cond b (cond (leb 0 limit) (remaining (limit - 0) o) exhausted) (remaining limit o) ≡ remaining limit o) [
-        | true ↦ rw (le-leb 0 limit (omega arith)) (ap (λ (i : ℕ). remaining i o) (let z : limit - 0 ≡ limit = omega arith in z))
-        | false ↦ refl
-      ]
-
-within-followed : (counting : Bool) (limit : ℕ) (o : Option (List ℕ)) (k : ℕ) (w : Work) → within counting limit (followed o k w) ≡ resumed (within counting limit (work o k)) (λ left. within counting left w)
+pub within-nothing : (limit : ℕ) (o : Option (List ℕ)) → within limit (work o 0) ≡ remaining limit o
 unfolding within
-within-followed false limit none k w = refl
-within-followed false limit (some f) k w = refl
-within-followed true limit (some f) k w = elim (leb k limit) as (λ b. cond b (remaining (limit - k) (some f)) exhausted ≡ resumed (cond b (remaining (limit - k) (some f)) exhausted) (λ left. within true left w)) [ true ↦ refl | false ↦ refl ]
-within-followed true limit none k w = go (leb k limit) refl
+within-nothing limit o = rw (le-leb 0 limit (omega arith)) (ap (λ (i : ℕ). remaining i o) (let z : limit - 0 ≡ limit = omega arith in z))
+
+within-followed : (limit : ℕ) (o : Option (List ℕ)) (k : ℕ) (w : Work) → within limit (followed o k w) ≡ resumed (within limit (work o k)) (λ left. within left w)
+unfolding within
+within-followed limit (some f) k w = elim (leb k limit) as (λ b. cond b (remaining (limit - k) (some f)) exhausted ≡ resumed (cond b (remaining (limit - k) (some f)) exhausted) (λ left. within left w)) [ true ↦ refl | false ↦ refl ]
+within-followed limit none k w = go (leb k limit) refl
   where
     same : k ≤ limit → leb (k + w .trials) limit ≡ leb (w .trials) (limit - k)
     same h =
@@ -50,31 +41,27 @@ within-followed true limit none k w = go (leb k limit) refl
     go false e = let h = leb-false k limit e in rw (lt-leb (k + w .trials) limit (omega arith))
 
 -- Without a trial nothing is taken.
-pub within-skip : (counting : Bool) (limit : ℕ) (w : Work) → within counting limit (andThen (work none 0) w) ≡ within counting limit w
-within-skip counting limit w = within-followed counting limit none 0 w ∙ ap (λ (r : Remainder). resumed r (λ left. within counting left w)) (within-nothing counting limit none)
+pub within-skip : (limit : ℕ) (w : Work) → within limit (andThen (work none 0) w) ≡ within limit w
+within-skip limit w = within-followed limit none 0 w ∙ ap (λ (r : Remainder). resumed r (λ left. within left w)) (within-nothing limit none)
 
-module _ (counting : Bool) (limit : ℕ) (v w : Work) where
+module _ (limit : ℕ) (v w : Work) where
   -- A trial is paid for first.
-  within-trial : within counting limit (andThen (andThen (work none 1) v) w) ≡ resumed (resumed (within counting limit (work none 1)) (λ left. within counting left v)) (λ left. within counting left w)
-  within-trial = within-followed counting limit (v .found) (1 + v .trials) w ∙ ap (λ (r : Remainder). resumed r (λ left. within counting left w)) (within-followed counting limit none 1 v)
+  within-trial : within limit (andThen (andThen (work none 1) v) w) ≡ resumed (resumed (within limit (work none 1)) (λ left. within left v)) (λ left. within left w)
+  within-trial = within-followed limit (v .found) (1 + v .trials) w ∙ ap (λ (r : Remainder). resumed r (λ left. within left w)) (within-followed limit none 1 v)
 
-  pub within-unpaid : exhausted ≡ within counting limit (work none 1) → within counting limit (andThen (andThen (work none 1) v) w) ≡ exhausted
-  within-unpaid e = within-trial ∙ ap (λ (r : Remainder). resumed (resumed r (λ left. within counting left v)) (λ left. within counting left w)) (sym e)
+  pub within-unpaid : exhausted ≡ within limit (work none 1) → within limit (andThen (andThen (work none 1) v) w) ≡ exhausted
+  within-unpaid e = within-trial ∙ ap (λ (r : Remainder). resumed (resumed r (λ left. within left v)) (λ left. within left w)) (sym e)
 
-  pub within-paid : (left : ℕ) → remaining left none ≡ within counting limit (work none 1) → within counting limit (andThen (andThen (work none 1) v) w) ≡ resumed (within counting left v) (λ i. within counting i w)
-  within-paid left e = within-trial ∙ ap (λ (r : Remainder). resumed (resumed r (λ i. within counting i v)) (λ i. within counting i w)) (sym e)
+  pub within-paid : (left : ℕ) → remaining left none ≡ within limit (work none 1) → within limit (andThen (andThen (work none 1) v) w) ≡ resumed (within left v) (λ i. within i w)
+  within-paid left e = within-trial ∙ ap (λ (r : Remainder). resumed (resumed r (λ i. within i v)) (λ i. within i w)) (sym e)
 
 -- ---- paying
 
-pub pay-free : (left : ℕ) → remaining left none ≡ within false left (work none 1)
-unfolding within
-pay-free left = refl
-
-pub pay-none : (left : ℕ) → left ≡ 0 → exhausted ≡ within true left (work none 1)
+pub pay-none : (left : ℕ) → left ≡ 0 → exhausted ≡ within left (work none 1)
 unfolding within
 pay-none left e = rw (lt-leb 1 left (omega arith))
 
-pub pay-one : (left : ℕ) → (left ≡ 0 → ⊥) → remaining (left - 1) none ≡ within true left (work none 1)
+pub pay-one : (left : ℕ) → (left ≡ 0 → ⊥) → remaining (left - 1) none ≡ within left (work none 1)
 unfolding within
 pay-one left e = rw (le-leb 1 left (omega arith))
 
@@ -100,14 +87,9 @@ module _ (go : ℕ → Remainder) where
   not-over (remaining left none) e f = refl
   not-over (remaining left (some l)) e f = absurd (false≢true (sym f))
 
--- Where trials are not counted, it answers what is found.
-pub uncounted : (limit : ℕ) (w : Work) (r : Outcome) → r ≡ outcomeOf (within false limit w) → record { ok = r .ok; image = r .image } ≡ foundIn (w .found)
-unfolding outcomeOf within
-uncounted limit w r e = ap {B = Found} (λ (q : Outcome). record { ok = q .ok; image = q .image }) e
-
--- Where they are counted, it is stopped exactly if more are needed, and else says what is found and what is left.
+-- It is stopped exactly if more trials are needed, and else says what is found and what is left.
 module _ (limit : ℕ) (w : Work) where
-  pub within-stopped : outcomeOf (within true limit w) .stopped ≡ true → limit < w .trials
+  pub within-stopped : outcomeOf (within limit w) .stopped ≡ true → limit < w .trials
   unfolding within outcomeOf
   within-stopped = go (leb (w .trials) limit) refl
     where
@@ -115,7 +97,7 @@ module _ (limit : ℕ) (w : Work) where
       go true e h = absurd (false≢true h)
       go false e h = leb-false (w .trials) limit e
 
-  pub within-ended : outcomeOf (within true limit w) .stopped ≡ false → (w .trials ≤ limit) × (within true limit w ≡ remaining (limit - w .trials) (w .found))
+  pub within-ended : outcomeOf (within limit w) .stopped ≡ false → (w .trials ≤ limit) × (within limit w ≡ remaining (limit - w .trials) (w .found))
   unfolding within outcomeOf
   within-ended = go (leb (w .trials) limit) refl
     where

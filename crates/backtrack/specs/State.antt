@@ -62,11 +62,9 @@ pub data Remainder : Type 0 where
   exhausted : Remainder
   remaining : ℕ → Option (List ℕ) → Remainder
 
--- A search that may take so many trials, where they are counted; else it takes none of them.
-unfoldable pub within : Bool → ℕ → Work → Remainder
-within counting limit w =
-    let limited = cond (leb (w .trials) limit) (remaining (limit - w .trials) (w .found)) exhausted in
-    cond counting limited (remaining limit (w .found))
+-- A search that may take so many trials.
+unfoldable pub within : ℕ → Work → Remainder
+within limit w = cond (leb (w .trials) limit) (remaining (limit - w .trials) (w .found)) exhausted
 
 -- What a search with a limit answers; zeros where it is stopped.
 unfoldable pub outcomeOf : Remainder → Outcome

@@ -11,10 +11,10 @@ ghost use lib.ListN.{length, getD, take, replicate};
 ghost use Rattle.semigroups.specs.Lists.{at, member};
 ghost use Rattle.semigroups.specs.Tables.{Product, product, Element, Filled};
 ghost use Rattle.semigroups.specs.Scratch.{scratchSize, marked};
-ghost use Rattle.semigroups.specs.Search.{fits, passes, search};
+ghost use Rattle.semigroups.specs.Search.{fits, passes};
 ghost use Rattle.semigroups.specs.Trials.{work, counted};
 ghost use Rattle.backtrack.specs.Constraints.{allows, noted, imageProduct, newFits};
-ghost use Rattle.backtrack.specs.State.{prefix, Placing, Trial, Tracks, Holds, Ready, foundIn, bounded, exhausted, remaining, within, outcomeOf};
+ghost use Rattle.backtrack.specs.State.{prefix, Placing, Trial, Tracks, Holds, Ready, bounded, exhausted, remaining, within, outcomeOf};
 
 // The map placed so far. Element i's image is image[i - 1]; used[y] is 1 where y is an image. The constraints: forced[c] is the target product that the
 // pairs placed ask of source element c, owner[y] the source element that they reserve target element y for.
@@ -29,7 +29,7 @@ pub struct Partial {
 // Whether the list placed passes, and the map handed back.
 pub struct Tested {
     pub ok: bool,
-    pub map: Partial,
+    pub partial: Partial,
 }
 
 // Whether a search found a map, and its images, zeros behind them; zeros alone where there is none.
@@ -284,8 +284,8 @@ impl Partial {
         requires { ⌜ Placing n (self .image) (self .used) (self .len) × Element m (self .len) ⌝ }
         requires { ⌜ Tracks (product m (now source)) (product n (now target)) (take (self .len - 1) (self .image)) (self .len - 1) 0 (self .forced) (self .owner) × (passes (product m (now source)) (product n (now target)) (take (self .len - 1) (self .image)) ≡ true) ⌝ }
         ensures answer { λ r. ⌜ r .ok ≡ passes (product m (now (source .entry))) (product n (now (target .entry))) (prefix self) ⌝ }
-        ensures holds { λ r. ⌜ Holds (product m (now (source .entry))) n (product n (now (target .entry))) (r .map) ⌝ }
-        ensures same { λ r. ⌜ (r .map .image ≡ self .image) × (r .map .len ≡ self .len) ⌝ }
+        ensures holds { λ r. ⌜ Holds (product m (now (source .entry))) n (product n (now (target .entry))) (r .partial) ⌝ }
+        ensures same { λ r. ⌜ (r .partial .image ≡ self .image) × (r .partial .len ≡ self .len) ⌝ }
     {
         let len = self.len;
         let image = self.image;
@@ -307,14 +307,14 @@ impl Partial {
             x,
         );
         note_newest(source, m, target, n, &image, &mut forced, &mut owner, len);
-        let map = Partial {
+        let partial = Partial {
             image,
             used,
             forced,
             owner,
             len,
         };
-        Tested { ok, map }
+        Tested { ok, partial }
     }
 }
 
@@ -330,13 +330,10 @@ fn no_map(stopped: bool, left: u32) -> Outcome
     }
 }
 
-// One trial more is paid for, where trials are counted.
-fn pay(counting: bool, left: u32) -> Paid
-    ensures answer { λ r. ⌜ cond (r .enough) (remaining (r .left) none) exhausted ≡ within counting left (work none 1) ⌝ }
+// One trial more is paid for.
+fn pay(left: u32) -> Paid
+    ensures answer { λ r. ⌜ cond (r .enough) (remaining (r .left) none) exhausted ≡ within left (work none 1) ⌝ }
 {
-    if !counting {
-        return Paid { enough: true, left };
-    }
     if left == 0 {
         return Paid {
             enough: false,
@@ -349,8 +346,8 @@ fn pay(counting: bool, left: u32) -> Paid
     }
 }
 
-// The earliest map asked for that begins with what is placed, within `limit` trials where they are counted. `tight`: what is placed equals the beginning
-// of `after`, so the rest must be later.
+// The earliest map asked for that begins with what is placed, within `limit` trials. `tight`: what is placed equals the beginning of `after`, so the
+// rest must be later.
 fn extend(
     source: &[u8],
     m: usize,
@@ -359,13 +356,12 @@ fn extend(
     scratch: &[u8],
     after: &[u8],
     tight: bool,
-    counting: bool,
     limit: u32,
     p: Partial,
 ) -> Outcome
     requires { ⌜ Filled m (now source) × Filled n (now target) ⌝ }
     requires { ⌜ Ready (product m (now source)) m (product n (now target)) n (now scratch) (now after) tight p ⌝ }
-    ensures answer { λ r. ⌜ r ≡ outcomeOf (within counting limit (counted (product m (now (source .entry))) (product n (now (target .entry))) (marked n (now (scratch .entry))) (bounded tight (now (after .entry))) n (m - p .len) (prefix p))) ⌝ }
+    ensures answer { λ r. ⌜ r ≡ outcomeOf (within limit (counted (product m (now (source .entry))) (product n (now (target .entry))) (marked n (now (scratch .entry))) (bounded tight (now (after .entry))) n (m - p .len) (prefix p))) ⌝ }
 {
     let at = p.len;
     if m <= at {
@@ -385,7 +381,7 @@ fn extend(
     let mut x: usize = 1;
     while x <= n {
         if open(&p.used, scratch, n, at + 1, low, x) {
-            let paid = pay(counting, left);
+            let paid = pay(left);
             if !paid.enough {
                 return no_map(true, 0);
             }
@@ -413,9 +409,8 @@ fn extend(
                         scratch,
                         after,
                         x == low,
-                        counting,
                         left,
-                        q.map,
+                        q.partial,
                     );
                     if r.stopped {
                         return r;
@@ -432,37 +427,7 @@ fn extend(
     no_map(false, left)
 }
 
-// The earliest map of the marked candidates, or with `next` the earliest that is later than `after`.
-pub fn find(
-    source: &[u8],
-    m: usize,
-    target: &[u8],
-    n: usize,
-    scratch: &[u8],
-    after: &[u8],
-    next: bool,
-) -> Found
-    requires { ⌜ Filled m (now source) × Filled n (now target) ⌝ }
-    requires { ⌜ (scratchSize m n ≤ length (now scratch)) × (length (now after) ≡ m) ⌝ }
-    ensures answer { λ r. ⌜ r ≡ foundIn (search (product m (now (source .entry))) (product n (now (target .entry))) (marked n (now (scratch .entry))) (bounded next (now (after .entry))) n m []) ⌝ }
-{
-    let r = extend(
-        source,
-        m,
-        target,
-        n,
-        scratch,
-        after,
-        next,
-        false,
-        0,
-        Partial::new(),
-    );
-    let image = r.image;
-    Found { ok: r.ok, image }
-}
-
-// The same within `limit` trials, counted; stopped where it needs more.
+// The earliest map of the marked candidates, or with `next` the earliest that is later than `after`, within `limit` trials; stopped where it needs more.
 pub fn find_within(
     source: &[u8],
     m: usize,
@@ -475,7 +440,7 @@ pub fn find_within(
 ) -> Outcome
     requires { ⌜ Filled m (now source) × Filled n (now target) ⌝ }
     requires { ⌜ (scratchSize m n ≤ length (now scratch)) × (length (now after) ≡ m) ⌝ }
-    ensures answer { λ r. ⌜ r ≡ outcomeOf (within true limit (counted (product m (now (source .entry))) (product n (now (target .entry))) (marked n (now (scratch .entry))) (bounded next (now (after .entry))) n m [])) ⌝ }
+    ensures answer { λ r. ⌜ r ≡ outcomeOf (within limit (counted (product m (now (source .entry))) (product n (now (target .entry))) (marked n (now (scratch .entry))) (bounded next (now (after .entry))) n m [])) ⌝ }
 {
     extend(
         source,
@@ -485,7 +450,6 @@ pub fn find_within(
         scratch,
         after,
         next,
-        true,
         limit,
         Partial::new(),
     )

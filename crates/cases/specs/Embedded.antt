@@ -27,6 +27,6 @@ embeddedCall size = call embeddings theFirst (lend swapCells 2 twoCells 4 (0 ∷
 
 -- What is said, the map buffer, and the scratch buffer with the bytes behind it.
 abbrev pub embeddedTally : ℕ → ℕ → List ℕ → List ℕ → Tally → Tally
-embeddedTally size said map scratch t =
+embeddedTally size said bytes scratch t =
     let c = embeddedCall size in
-    counted (counted (counted t (eqb (saidNumber (c .says)) said)) (sameBytes (c .map) map)) (sameBytes (c .scratch ++ drop size (replicate 3 255)) scratch)
+    counted (counted (counted t (eqb (saidNumber (c .says)) said)) (sameBytes (c .mapBytes) bytes)) (sameBytes (c .scratch ++ drop size (replicate 3 255)) scratch)

@@ -96,7 +96,7 @@ module _ (isomorphisms later : Bool) (source : List ℕ) (m : ℕ) (target : Lis
   module _ (a : Accepted m source) (b : Accepted n target) (hm : m ≤ 5) (hn : n ≤ 27) (size : length before ≡ 5) where
     -- None of the questions fails.
     called-answer : called isomorphisms later source m target n before
-        ≡ record { says = gives (sought the-answer); map = mapUnless none the-answer (take m before); scratch = overwritten the-marks (replicate 140 7) }
+        ≡ record { says = gives (sought the-answer); mapBytes = mapUnless none the-answer (take m before); scratch = overwritten the-marks (replicate 140 7) }
     called-answer =
         not-refused (kindOf isomorphisms) (lend source m target n (take m before) (replicate 140 7)) (requestOf later)
         (none-refused m source n target (length (take m before)) 140 (both-pass m source n target (no-refusal m source a) (no-refusal n target b))
@@ -107,8 +107,8 @@ module _ (isomorphisms later : Bool) (source : List ℕ) (m : ℕ) (target : Lis
     pub called-says : saidNumber (called isomorphisms later source m target n before .says) ≡ cond (isFound the-answer) 100 0
     called-says = ap (λ (c : Called). saidNumber (c .says)) called-answer ∙ said-answered the-answer
 
-    pub called-map : called isomorphisms later source m target n before .map ≡ Option·getD the-answer (take m before)
-    called-map = ap (λ (c : Called). c .map) called-answer ∙ map-answered (take m before) the-answer
+    pub called-map : called isomorphisms later source m target n before .mapBytes ≡ Option·getD the-answer (take m before)
+    called-map = ap (λ (c : Called). c .mapBytes) called-answer ∙ map-answered (take m before) the-answer
 
     module _ (after : List ℕ) (ea : after ≡ behind later before) where
       second-answer : earliest (next (take m after)) the-maps ≡ the-answer
@@ -119,7 +119,7 @@ module _ (isomorphisms later : Bool) (source : List ℕ) (m : ℕ) (target : Lis
       second-says found e = called-says ∙ ap (λ (x : Bool). cond x 100 0) (sym (e ∙ ap isFound second-answer))
 
       pub second-map : (f : List ℕ) → f ≡ Option·getD (earliest (next (take m after)) the-maps) (take m before)
-          → f ++ drop m before ≡ called isomorphisms later source m target n before .map ++ drop m before
+          → f ++ drop m before ≡ called isomorphisms later source m target n before .mapBytes ++ drop m before
       second-map f e = ap (λ (l : List ℕ). l ++ drop m before) (e ∙ ap (λ (o : Option (List ℕ)). Option·getD o (take m before)) second-answer ∙ sym called-map)
 
 -- What is said and the map buffer agree.
@@ -179,11 +179,11 @@ module _ (isomorphisms : Bool) (source : List ℕ) (m : ℕ) (target : List ℕ)
       go (some f) = refl
 
   -- A map is found: one less is left.
-  pub left-found : eqb (saidNumber (next-call .says)) 100 ≡ true → laterMaps isomorphisms source m target n map ≡ suc (laterMaps isomorphisms source m target n (next-call .map ++ drop m map))
+  pub left-found : eqb (saidNumber (next-call .says)) 100 ≡ true → laterMaps isomorphisms source m target n map ≡ suc (laterMaps isomorphisms source m target n (next-call .mapBytes ++ drop m map))
   unfolding laterMaps earliest
   left-found h = go next-answer refl
     where
-      go : (o : Option (List ℕ)) → next-answer ≡ o → count (earlier (take m map)) (fullList isomorphisms source m target n) ≡ suc (count (earlier (take m (next-call .map ++ drop m map))) (fullList isomorphisms source m target n))
+      go : (o : Option (List ℕ)) → next-answer ≡ o → count (earlier (take m map)) (fullList isomorphisms source m target n) ≡ suc (count (earlier (take m (next-call .mapBytes ++ drop m map))) (fullList isomorphisms source m target n))
       go none e = let f : true ≡ false = sym h ∙ said-next none e in let z : _≡_ {A = ℕ} 0 1 = cc in let w : ⊥ = omega arith in absurd w
       go (some f) e =
           let s = product m source in
@@ -191,8 +191,8 @@ module _ (isomorphisms : Bool) (source : List ℕ) (m : ℕ) (target : List ℕ)
           let kind = kindOf isomorphisms in
           let inside = find-some (earlier (take m map)) (maps kind m s n t) f e .0 in
           let whole = map-list m s n t f kind (mem-maps kind m s n t f inside) .size in
-          let left : next-call .map ≡ f = called-map isomorphisms true source m target n map a b hm hn size ∙ ap (λ (x : Option (List ℕ)). Option·getD x (take m map)) e in
-          let front : take m (next-call .map ++ drop m map) ≡ f = ap (λ (x : List ℕ). take m (x ++ drop m map)) left ∙ take-at f (drop m map) m whole in
+          let left : next-call .mapBytes ≡ f = called-map isomorphisms true source m target n map a b hm hn size ∙ ap (λ (x : Option (List ℕ)). Option·getD x (take m map)) e in
+          let front : take m (next-call .mapBytes ++ drop m map) ≡ f = ap (λ (x : List ℕ). take m (x ++ drop m map)) left ∙ take-at f (drop m map) m whole in
           one-less (take m map) f (maps kind m s n t) (maps-increasing kind m s n t) e ∙ ap (λ (x : List ℕ). suc (count (earlier x) (maps kind m s n t))) (sym front)
 
   -- None is found: none is left.
@@ -246,6 +246,6 @@ pub cells-few : (n : ℕ) → Element 3 n → n * n ≤ 9
 cells-few n h = mul-le-mul (h .1) (h .1)
 
 -- A call by its kind, however the kind is written.
-pub kind-kept : {kind other : Kind} (request : Request) (l : Lent) → kind ≡ other → {says : Answer Sought} {map : List ℕ} → says ≡ call kind request l .says → map ≡ call kind request l .map
-    → (says ≡ call other request l .says) × (map ≡ call other request l .map)
-kind-kept request l e s m = (s ∙ ap (λ (k : Kind). call k request l .says) e, m ∙ ap (λ (k : Kind). call k request l .map) e)
+pub kind-kept : {kind other : Kind} (request : Request) (l : Lent) → kind ≡ other → {says : Answer Sought} {map : List ℕ} → says ≡ call kind request l .says → map ≡ call kind request l .mapBytes
+    → (says ≡ call other request l .says) × (map ≡ call other request l .mapBytes)
+kind-kept request l e s m = (s ∙ ap (λ (k : Kind). call k request l .says) e, m ∙ ap (λ (k : Kind). call k request l .mapBytes) e)

@@ -31,7 +31,7 @@ fn kind_of(isomorphisms: bool) -> Kind
 // What the second search has a call say, and the map buffer with the bytes behind it.
 struct Outcome {
     number: usize,
-    map: [u8; 5],
+    buffer: [u8; 5],
 }
 
 // The call's answer by the second search. Every list of elements is later than zeros, so the first map is the next one after them.
@@ -46,13 +46,13 @@ fn expected(
 ) -> Outcome
     requires { ⌜ Accepted m (now source) ⌝ ∗ ⌜ Accepted n (now target) ⌝ ∗ ⌜ (m ≤ 5) × (n ≤ 27) ⌝ }
     ensures number { λ r. ⌜ r .number ≡ saidNumber (called isomorphisms next (now (source .entry)) m (now (target .entry)) n before .says) ⌝ }
-    ensures map { λ r. ⌜ r .map ≡ called isomorphisms next (now (source .entry)) m (now (target .entry)) n before .map ++ drop m before ⌝ }
+    ensures buffer { λ r. ⌜ r .buffer ≡ called isomorphisms next (now (source .entry)) m (now (target .entry)) n before .mapBytes ++ drop m before ⌝ }
 {
     let mut after = [0u8; 5];
     if next {
         after = before;
     }
-    let mut map = before;
+    let mut buffer = before;
     if next_map(
         isomorphisms,
         source,
@@ -60,18 +60,21 @@ fn expected(
         target,
         n,
         &after[..m],
-        &mut map[..m],
+        &mut buffer[..m],
     ) {
-        return Outcome { number: 100, map };
+        return Outcome {
+            number: 100,
+            buffer,
+        };
     }
-    Outcome { number: 0, map }
+    Outcome { number: 0, buffer }
 }
 
 // A call compared: whether both agree, whether the library found a map, and the map buffer afterwards.
 struct Compared {
     same: bool,
     found: bool,
-    map: [u8; 5],
+    buffer: [u8; 5],
 }
 
 // One call on a map buffer of m bytes, the start of `before`, and a scratch buffer longer than needed.
@@ -87,10 +90,10 @@ fn step(
     requires { ⌜ Accepted m (now source) ⌝ ∗ ⌜ Accepted n (now target) ⌝ ∗ ⌜ (m ≤ 5) × (n ≤ 27) ⌝ }
     ensures same { λ r. ⌜ r .same ≡ true ⌝ }
     ensures found { λ r. ⌜ r .found ≡ eqb (saidNumber (called isomorphisms next (now (source .entry)) m (now (target .entry)) n before .says)) 100 ⌝ }
-    ensures map { λ r. ⌜ r .map ≡ called isomorphisms next (now (source .entry)) m (now (target .entry)) n before .map ++ drop m before ⌝ }
-    ensures long { λ r. ⌜ length (r .map) ≡ 5 ⌝ }
+    ensures buffer { λ r. ⌜ r .buffer ≡ called isomorphisms next (now (source .entry)) m (now (target .entry)) n before .mapBytes ++ drop m before ⌝ }
+    ensures long { λ r. ⌜ length (r .buffer) ≡ 5 ⌝ }
 {
-    let mut map = before;
+    let mut buffer = before;
     let mut scratch = [7u8; 140];
     let answer = search(
         kind_of(isomorphisms),
@@ -99,17 +102,17 @@ fn step(
         m,
         target,
         n,
-        &mut map[..m],
+        &mut buffer[..m],
         &mut scratch,
     );
     let said = said_number(answer);
     let second = expected(isomorphisms, next, source, m, target, n, before);
-    let second_map = second.map;
-    let same_map = check::same(&map, &second_map);
+    let second_buffer = second.buffer;
+    let same_bytes = check::same(&buffer, &second_buffer);
     Compared {
-        same: (said == second.number) & same_map,
+        same: (said == second.number) & same_bytes,
         found: said == 100,
-        map,
+        buffer,
     }
 }
 
@@ -128,13 +131,13 @@ pub fn walk(
 {
     let first = step(isomorphisms, false, source, m, target, n, before);
     let mut tally = counted(tally, first.same);
-    let mut map = before;
+    let mut buffer = before;
     loop {
-        let next = step(isomorphisms, true, source, m, target, n, map);
+        let next = step(isomorphisms, true, source, m, target, n, buffer);
         tally = counted(tally, next.same);
         if !next.found {
             return tally;
         }
-        map = next.map;
+        buffer = next.buffer;
     }
 }

@@ -42,14 +42,14 @@ demand-1 =
       profile-of = λ n cells a. answers (elementQuestions n cells a) (element-passes n cells a) (profile n (product n cells) a);
       map-check = λ m source n target f. answers (checkQuestions m source n target (length f)) (check-passes m source n target (length f)) (checkMap m (product m source) n (product n target) f);
       search = λ kind request l.
-          answers (searchQuestions (l .m) (l .source) (l .n) (l .target) (length (l .map)) (length (l .scratch)))
-          (search-passes (l .m) (l .source) (l .n) (l .target) (length (l .map)) (length (l .scratch))) (sought (answerOf kind request l));
+          answers (searchQuestions (l .m) (l .source) (l .n) (l .target) (length (l .mapBytes)) (length (l .scratch)))
+          (search-passes (l .m) (l .source) (l .n) (l .target) (length (l .mapBytes)) (length (l .scratch))) (sought (answerOf kind request l));
       transformation-table = λ d room. answers (transformationQuestions d room) (transformations-pass d room) (transformationOrder d);
       load = λ t cells. answers (loadQuestions t (length cells)) (load-passes t (length cells)) (orderOf t);
       save = λ n cells text. answers (saveQuestions n cells (length text)) (save-passes n cells (length text)) (length (tableText n cells));
       search-refused = λ kind request l r e.
           let u = refused-unchanged kind l request r (refused-exactly kind l request r .0 e) in
-          (ap (λ (c : Called). c .map) u, ap (λ (c : Called). c .scratch) u);
+          (ap (λ (c : Called). c .mapBytes) u, ap (λ (c : Called). c .scratch) u);
       transformations-refused = λ d before r e. refused-keeps (transformationOrder d) (transformationRefusal d (length before)) r e (transformationCells d) before;
       load-refused = λ t cells r e. refused-keeps (orderOf t) (loadRefusal t (length cells)) r e (cellsOf t) cells;
       save-refused = λ n cells text r e. refused-keeps (length (tableText n cells)) (saveRefusal n cells (length text)) r e (tableText n cells) text;
@@ -79,7 +79,7 @@ enough-given : call embeddings theFirst (lent 1) .says ≡ gives (sought (answer
 enough-given = demand-1 .search embeddings theFirst (lent 1) .given-exactly .1 (enough 1 (omega arith))
 
 -- The scratch buffer makes no difference to what is said and found.
-enough-apart : (call embeddings theFirst (lent 1) .says ≡ call embeddings theFirst (lent 9) .says) × (call embeddings theFirst (lent 1) .map ≡ call embeddings theFirst (lent 9) .map)
+enough-apart : (call embeddings theFirst (lent 1) .says ≡ call embeddings theFirst (lent 9) .says) × (call embeddings theFirst (lent 1) .mapBytes ≡ call embeddings theFirst (lent 9) .mapBytes)
 enough-apart = unfold lent in scratch-apart embeddings theFirst (swap .cells) (swap .order) (two .cells) (two .order) (0 ∷ 0 ∷ []) (replicate 1 9) (replicate 9 9) (enough 1 (omega arith)) (enough 9 (omega arith))
 
 -- None is not: question 6 is the earliest that fails, and both buffers stay as they are.
@@ -94,6 +94,6 @@ short-earliest : EarliestNo (searchQuestions (swap .order) (swap .cells) (two .o
 unfolding lent
 short-earliest = demand-1 .search embeddings theFirst (lent 0) .refused-exactly (no 6 []) .0 short-refused
 
-short-unchanged : (call embeddings theFirst (lent 0) .map ≡ 0 ∷ 0 ∷ []) × (call embeddings theFirst (lent 0) .scratch ≡ replicate 0 9)
+short-unchanged : (call embeddings theFirst (lent 0) .mapBytes ≡ 0 ∷ 0 ∷ []) × (call embeddings theFirst (lent 0) .scratch ≡ replicate 0 9)
 unfolding lent
 short-unchanged = demand-1 .search-refused embeddings theFirst (lent 0) (no 6 []) short-refused

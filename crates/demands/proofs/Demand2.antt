@@ -70,8 +70,8 @@ swap-wanted = is-embedding (swap .order) (product (swap .order) (swap .cells)) (
 swap-found : call embeddings theFirst (lent 1) .says ≡ gives found
 swap-found = demand-2 .wanted-found embeddings theFirst (lent 1) (enough 1 (omega arith)) (2 ∷ 3 ∷ []) swap-wanted
 
-swap-earliest : Earliest (Wanted embeddings (lent 1) theFirst) (call embeddings theFirst (lent 1) .map)
-swap-earliest = demand-2 .found-exactly embeddings theFirst (lent 1) (enough 1 (omega arith)) (call embeddings theFirst (lent 1) .map) .0 (swap-found, refl)
+swap-earliest : Earliest (Wanted embeddings (lent 1) theFirst) (call embeddings theFirst (lent 1) .mapBytes)
+swap-earliest = demand-2 .found-exactly embeddings theFirst (lent 1) (enough 1 (omega arith)) (call embeddings theFirst (lent 1) .mapBytes) .0 (swap-found, refl)
 
 -- Case 4: element 3 of mat5 has index 2 and period 1.
 third : ElementPasses (mat5 .order) (mat5 .cells) 3

@@ -38,16 +38,16 @@ pub record Demand1 : Type 0 where
   pub map-check : (m : ℕ) (source : List ℕ) (n : ℕ) (target f : List ℕ)
       → Answers (mapCheck m source n target f) (checkQuestions m source n target (length f)) (CheckPasses m source n target (length f)) (checkMap m (product m source) n (product n target) f)
   pub search : (kind : Kind) (request : Request) (l : Lent)
-      → Answers (call kind request l .says) (searchQuestions (l .m) (l .source) (l .n) (l .target) (length (l .map)) (length (l .scratch))) (Passes l) (sought (answerOf kind request l))
+      → Answers (call kind request l .says) (searchQuestions (l .m) (l .source) (l .n) (l .target) (length (l .mapBytes)) (length (l .scratch))) (Passes l) (sought (answerOf kind request l))
   pub transformation-table : (d room : ℕ)
       → Answers (transformations.transformationSays d room) (transformationQuestions d room) (TransformationsPass d room) (transformationOrder d)
   pub load : (t cells : List ℕ) → Answers (loadAnswer t cells) (loadQuestions t (length cells)) (LoadPasses t (length cells)) (orderOf t)
   pub save : (n : ℕ) (cells text : List ℕ) → Answers (saveAnswer n cells text) (saveQuestions n cells (length text)) (SavePasses n cells (length text)) (length (tableText n cells))
   -- A refusal changes no lent byte;
   pub search-refused : (kind : Kind) (request : Request) (l : Lent) (r : Refusal) → call kind request l .says ≡ refused r
-      → (call kind request l .map ≡ l .map) × (call kind request l .scratch ≡ l .scratch)
+      → (call kind request l .mapBytes ≡ l .mapBytes) × (call kind request l .scratch ≡ l .scratch)
   pub transformations-refused : (d : ℕ) (before : List ℕ) (r : Refusal) → transformations.transformationSays d (length before) ≡ refused r → transformations.transformationCellsAfter d before ≡ before
   pub load-refused : (t cells : List ℕ) (r : Refusal) → loadAnswer t cells ≡ refused r → cellsAfter t cells ≡ cells
   pub save-refused : (n : ℕ) (cells text : List ℕ) (r : Refusal) → saveAnswer n cells text ≡ refused r → textAfter n cells text ≡ text
   -- "none" changes no byte of the map.
-  pub none-keeps-map : (kind : Kind) (request : Request) (l : Lent) → call kind request l .says ≡ gives nothing → call kind request l .map ≡ l .map
+  pub none-keeps-map : (kind : Kind) (request : Request) (l : Lent) → call kind request l .says ≡ gives nothing → call kind request l .mapBytes ≡ l .mapBytes

@@ -23,7 +23,7 @@ pub record Demand2 : Type 0 where
   -- By the definitions of arXiv 1603.06204, for two accepted tables the map given is the earliest embedding. The same holds for isomorphisms, and for
   -- the earliest one later than a list handed in: a call finds a map exactly if it is the earliest of its kind that is wanted.
   pub found-exactly : (kind : Kind) (request : Request) (l : Lent) → Passes l → (f : List ℕ)
-      → ((call kind request l .says ≡ gives found) × (call kind request l .map ≡ f)) ↔ Earliest (Wanted kind l request) f
+      → ((call kind request l .says ≡ gives found) × (call kind request l .mapBytes ≡ f)) ↔ Earliest (Wanted kind l request) f
   -- Lists are compared entry by entry from the front.
   pub list-order : (a b : List ℕ) → (earlier a b ≡ true) ↔ Earlier a b
   -- "None" means that no embedding exists, and the same of the others: a call says it exactly if no map is wanted;

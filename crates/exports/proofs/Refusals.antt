@@ -100,12 +100,12 @@ map-told m source n target f = answer-told checkedValues (checkMap m (product m 
 pub search-told : (kind : Kind) (request : Request) (l : Lent) → Tells (answerWords soughtValues (call kind request l .says)) (refusalOf kind request l)
 unfolding call searchRefusal member
 search-told kind request l =
-    answer-told soughtValues (sought (answerOf kind request l)) (numbered (searchQuestions (l .m) (l .source) (l .n) (l .target) (length (l .map)) (length (l .scratch))) refl)
+    answer-told soughtValues (sought (answerOf kind request l)) (numbered (searchQuestions (l .m) (l .source) (l .n) (l .target) (length (l .mapBytes)) (length (l .scratch))) refl)
 
 pub limited-told : (kind : Kind) (limit : ℕ) (l : Lent) → Tells (answerWords limitedValues (limitedCall kind limit l .says)) (refusalOf kind theFirst l)
 unfolding limitedCall searchRefusal member
 limited-told kind limit l =
-    answer-told limitedValues (limited limit (firstWork kind l)) (numbered (searchQuestions (l .m) (l .source) (l .n) (l .target) (length (l .map)) (length (l .scratch))) refl)
+    answer-told limitedValues (limited limit (firstWork kind l)) (numbered (searchQuestions (l .m) (l .source) (l .n) (l .target) (length (l .mapBytes)) (length (l .scratch))) refl)
 
 pub generators-told : (n : ℕ) (cells l : List ℕ) → Tells (questionWords (generatorsRefusal n cells l)) (generatorsRefusal n cells l)
 unfolding generatorsRefusal member

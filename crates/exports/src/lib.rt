@@ -293,7 +293,7 @@ pub extern "C" fn tickdrizzle_first_embedding(
     answer: &mut [u64; 16],
 )
     ensures answer { λ _. ⌜ now (answer .exit) ≡ answerWords soughtValues (call embeddings theFirst (lend (now (source .entry)) m (now (target .entry)) n (now (map .entry)) (now (scratch .entry))) .says) ⌝ }
-    ensures map { λ _. ⌜ now (map .exit) ≡ call embeddings theFirst (lend (now (source .entry)) m (now (target .entry)) n (now (map .entry)) (now (scratch .entry))) .map ⌝ }
+    ensures map { λ _. ⌜ now (map .exit) ≡ call embeddings theFirst (lend (now (source .entry)) m (now (target .entry)) n (now (map .entry)) (now (scratch .entry))) .mapBytes ⌝ }
     ensures scratch { λ _. ⌜ now (scratch .exit) ≡ call embeddings theFirst (lend (now (source .entry)) m (now (target .entry)) n (now (map .entry)) (now (scratch .entry))) .scratch ⌝ }
 {
     *answer = search_words(search::first_embedding(source, m, target, n, map, scratch));
@@ -311,7 +311,7 @@ pub extern "C" fn tickdrizzle_next_embedding(
     answer: &mut [u64; 16],
 )
     ensures answer { λ _. ⌜ now (answer .exit) ≡ answerWords soughtValues (call embeddings theNext (lend (now (source .entry)) m (now (target .entry)) n (now (map .entry)) (now (scratch .entry))) .says) ⌝ }
-    ensures map { λ _. ⌜ now (map .exit) ≡ call embeddings theNext (lend (now (source .entry)) m (now (target .entry)) n (now (map .entry)) (now (scratch .entry))) .map ⌝ }
+    ensures map { λ _. ⌜ now (map .exit) ≡ call embeddings theNext (lend (now (source .entry)) m (now (target .entry)) n (now (map .entry)) (now (scratch .entry))) .mapBytes ⌝ }
     ensures scratch { λ _. ⌜ now (scratch .exit) ≡ call embeddings theNext (lend (now (source .entry)) m (now (target .entry)) n (now (map .entry)) (now (scratch .entry))) .scratch ⌝ }
 {
     *answer = search_words(search::next_embedding(source, m, target, n, map, scratch));
@@ -329,7 +329,7 @@ pub extern "C" fn tickdrizzle_first_isomorphism(
     answer: &mut [u64; 16],
 )
     ensures answer { λ _. ⌜ now (answer .exit) ≡ answerWords soughtValues (call isomorphisms theFirst (lend (now (source .entry)) m (now (target .entry)) n (now (map .entry)) (now (scratch .entry))) .says) ⌝ }
-    ensures map { λ _. ⌜ now (map .exit) ≡ call isomorphisms theFirst (lend (now (source .entry)) m (now (target .entry)) n (now (map .entry)) (now (scratch .entry))) .map ⌝ }
+    ensures map { λ _. ⌜ now (map .exit) ≡ call isomorphisms theFirst (lend (now (source .entry)) m (now (target .entry)) n (now (map .entry)) (now (scratch .entry))) .mapBytes ⌝ }
     ensures scratch { λ _. ⌜ now (scratch .exit) ≡ call isomorphisms theFirst (lend (now (source .entry)) m (now (target .entry)) n (now (map .entry)) (now (scratch .entry))) .scratch ⌝ }
 {
     *answer = search_words(search::first_isomorphism(source, m, target, n, map, scratch));
@@ -347,7 +347,7 @@ pub extern "C" fn tickdrizzle_next_isomorphism(
     answer: &mut [u64; 16],
 )
     ensures answer { λ _. ⌜ now (answer .exit) ≡ answerWords soughtValues (call isomorphisms theNext (lend (now (source .entry)) m (now (target .entry)) n (now (map .entry)) (now (scratch .entry))) .says) ⌝ }
-    ensures map { λ _. ⌜ now (map .exit) ≡ call isomorphisms theNext (lend (now (source .entry)) m (now (target .entry)) n (now (map .entry)) (now (scratch .entry))) .map ⌝ }
+    ensures map { λ _. ⌜ now (map .exit) ≡ call isomorphisms theNext (lend (now (source .entry)) m (now (target .entry)) n (now (map .entry)) (now (scratch .entry))) .mapBytes ⌝ }
     ensures scratch { λ _. ⌜ now (scratch .exit) ≡ call isomorphisms theNext (lend (now (source .entry)) m (now (target .entry)) n (now (map .entry)) (now (scratch .entry))) .scratch ⌝ }
 {
     *answer = search_words(search::next_isomorphism(source, m, target, n, map, scratch));
@@ -365,7 +365,7 @@ pub extern "C" fn tickdrizzle_first_reversed_isomorphism(
     answer: &mut [u64; 16],
 )
     ensures answer { λ _. ⌜ now (answer .exit) ≡ answerWords soughtValues (call reversed theFirst (lend (now (source .entry)) m (now (target .entry)) n (now (map .entry)) (now (scratch .entry))) .says) ⌝ }
-    ensures map { λ _. ⌜ now (map .exit) ≡ call reversed theFirst (lend (now (source .entry)) m (now (target .entry)) n (now (map .entry)) (now (scratch .entry))) .map ⌝ }
+    ensures map { λ _. ⌜ now (map .exit) ≡ call reversed theFirst (lend (now (source .entry)) m (now (target .entry)) n (now (map .entry)) (now (scratch .entry))) .mapBytes ⌝ }
     ensures scratch { λ _. ⌜ now (scratch .exit) ≡ call reversed theFirst (lend (now (source .entry)) m (now (target .entry)) n (now (map .entry)) (now (scratch .entry))) .scratch ⌝ }
 {
     *answer = search_words(search::first_reversed_isomorphism(source, m, target, n, map, scratch));
@@ -383,7 +383,7 @@ pub extern "C" fn tickdrizzle_next_reversed_isomorphism(
     answer: &mut [u64; 16],
 )
     ensures answer { λ _. ⌜ now (answer .exit) ≡ answerWords soughtValues (call reversed theNext (lend (now (source .entry)) m (now (target .entry)) n (now (map .entry)) (now (scratch .entry))) .says) ⌝ }
-    ensures map { λ _. ⌜ now (map .exit) ≡ call reversed theNext (lend (now (source .entry)) m (now (target .entry)) n (now (map .entry)) (now (scratch .entry))) .map ⌝ }
+    ensures map { λ _. ⌜ now (map .exit) ≡ call reversed theNext (lend (now (source .entry)) m (now (target .entry)) n (now (map .entry)) (now (scratch .entry))) .mapBytes ⌝ }
     ensures scratch { λ _. ⌜ now (scratch .exit) ≡ call reversed theNext (lend (now (source .entry)) m (now (target .entry)) n (now (map .entry)) (now (scratch .entry))) .scratch ⌝ }
 {
     *answer = search_words(search::next_reversed_isomorphism(source, m, target, n, map, scratch));
@@ -474,7 +474,7 @@ pub extern "C" fn tickdrizzle_first_embedding_within(
     answer: &mut [u64; 16],
 )
     ensures answer { λ _. ⌜ now (answer .exit) ≡ answerWords limitedValues (limitedCall embeddings limit (lend (now (source .entry)) m (now (target .entry)) n (now (map .entry)) (now (scratch .entry))) .says) ⌝ }
-    ensures map { λ _. ⌜ now (map .exit) ≡ limitedCall embeddings limit (lend (now (source .entry)) m (now (target .entry)) n (now (map .entry)) (now (scratch .entry))) .map ⌝ }
+    ensures map { λ _. ⌜ now (map .exit) ≡ limitedCall embeddings limit (lend (now (source .entry)) m (now (target .entry)) n (now (map .entry)) (now (scratch .entry))) .mapBytes ⌝ }
     ensures scratch { λ _. ⌜ now (scratch .exit) ≡ limitedCall embeddings limit (lend (now (source .entry)) m (now (target .entry)) n (now (map .entry)) (now (scratch .entry))) .scratch ⌝ }
 {
     *answer = limited_words(limited::first_embedding_within(
@@ -500,7 +500,7 @@ pub extern "C" fn tickdrizzle_first_isomorphism_within(
     answer: &mut [u64; 16],
 )
     ensures answer { λ _. ⌜ now (answer .exit) ≡ answerWords limitedValues (limitedCall isomorphisms limit (lend (now (source .entry)) m (now (target .entry)) n (now (map .entry)) (now (scratch .entry))) .says) ⌝ }
-    ensures map { λ _. ⌜ now (map .exit) ≡ limitedCall isomorphisms limit (lend (now (source .entry)) m (now (target .entry)) n (now (map .entry)) (now (scratch .entry))) .map ⌝ }
+    ensures map { λ _. ⌜ now (map .exit) ≡ limitedCall isomorphisms limit (lend (now (source .entry)) m (now (target .entry)) n (now (map .entry)) (now (scratch .entry))) .mapBytes ⌝ }
     ensures scratch { λ _. ⌜ now (scratch .exit) ≡ limitedCall isomorphisms limit (lend (now (source .entry)) m (now (target .entry)) n (now (map .entry)) (now (scratch .entry))) .scratch ⌝ }
 {
     *answer = limited_words(limited::first_isomorphism_within(
@@ -544,7 +544,7 @@ pub extern "C" fn tickdrizzle_first_reversed_isomorphism_within(
     answer: &mut [u64; 16],
 )
     ensures answer { λ _. ⌜ now (answer .exit) ≡ answerWords limitedValues (limitedCall reversed limit (lend (now (source .entry)) m (now (target .entry)) n (now (map .entry)) (now (scratch .entry))) .says) ⌝ }
-    ensures map { λ _. ⌜ now (map .exit) ≡ limitedCall reversed limit (lend (now (source .entry)) m (now (target .entry)) n (now (map .entry)) (now (scratch .entry))) .map ⌝ }
+    ensures map { λ _. ⌜ now (map .exit) ≡ limitedCall reversed limit (lend (now (source .entry)) m (now (target .entry)) n (now (map .entry)) (now (scratch .entry))) .mapBytes ⌝ }
     ensures scratch { λ _. ⌜ now (scratch .exit) ≡ limitedCall reversed limit (lend (now (source .entry)) m (now (target .entry)) n (now (map .entry)) (now (scratch .entry))) .scratch ⌝ }
 {
     *answer = limited_words(limited::first_reversed_isomorphism_within(

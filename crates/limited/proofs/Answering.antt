@@ -32,16 +32,16 @@ use Rattle.limited.proofs.Works.{work-fit, work-unfit, work-finds}
 -- What a call says and leaves where no question fails: a, and the map o if any.
 pub record Left (kind : Kind) (limit : ℕ) (l : Lent) (a : Limited) (o : Option (List ℕ)) : Type 0 where
   pub says : gives a ≡ limitedCall kind limit l .says
-  pub map : mapUnless none o (l .map) ≡ limitedCall kind limit l .map
+  pub mapBytes : mapUnless none o (l .mapBytes) ≡ limitedCall kind limit l .mapBytes
   pub scratch : scratchAfter (l .m) (l .n) (candidate kind (l .m) (product (l .m) (l .source)) (l .n) (product (l .n) (l .target))) (l .scratch) ≡ limitedCall kind limit l .scratch
 
-left : (kind : Kind) (limit : ℕ) (l : Lent) (a : Limited) (o : Option (List ℕ)) → limitedCall kind limit l ≡ record { says = gives a; map = mapUnless none o (l .map); scratch = overwritten (marksOf kind theFirst l) (l .scratch) }
+left : (kind : Kind) (limit : ℕ) (l : Lent) (a : Limited) (o : Option (List ℕ)) → limitedCall kind limit l ≡ record { says = gives a; mapBytes = mapUnless none o (l .mapBytes); scratch = overwritten (marksOf kind theFirst l) (l .scratch) }
     → Left kind limit l a o
 unfolding scratchAfter
 left kind limit l a o e =
     record {
       says = ap (λ (c : Called). c .says) (sym e);
-      map = ap (λ (c : Called). c .map) (sym e);
+      mapBytes = ap (λ (c : Called). c .mapBytes) (sym e);
       scratch = ap (λ (c : Called). c .scratch) (sym e);
     }
 
@@ -50,7 +50,7 @@ module _ (kind : Kind) (limit : ℕ) (l : Lent) (p : Passes l) where
   left-ended : (k : ℕ) (o : Option (List ℕ)) → firstWork kind l .trials ≡ k → firstWork kind l .found ≡ o → k ≤ limit → Left kind limit l (ended (sought o) k) o
   left-ended k o e f h =
       left kind limit l (ended (sought o) k) o (ends kind limit l (passed kind l theFirst p) (omega arith)
-      ∙ ap {B = Called} (λ (w : Work). record { says = gives (ended (sought (w .found)) (w .trials)); map = mapUnless none (w .found) (l .map); scratch = overwritten (marksOf kind theFirst l) (l .scratch) }) whole)
+      ∙ ap {B = Called} (λ (w : Work). record { says = gives (ended (sought (w .found)) (w .trials)); mapBytes = mapUnless none (w .found) (l .mapBytes); scratch = overwritten (marksOf kind theFirst l) (l .scratch) }) whole)
     where
       whole : firstWork kind l ≡ work o k
       whole = ap {B = Work} (λ (q : Option (List ℕ)). work q (firstWork kind l .trials)) f ∙ ap (work o) e
@@ -72,7 +72,7 @@ module _ (kind : Kind) (limit : ℕ) (l : Lent) (p : Passes l) where
 
   -- Else what the marked search answers says it.
   module _ (fits : orderFits kind (l .m) (l .n) ≡ true) (scratch : List ℕ) (filled : scratch ≡ scratchAfter (l .m) (l .n) (candidate kind (l .m) s (l .n) t) (l .scratch)) (r : Outcome)
-      (finding : r ≡ outcomeOf (within true limit (counted s u (marked (l .n) scratch) first (l .n) (l .m) []))) where
+      (finding : r ≡ outcomeOf (within limit (counted s u (marked (l .n) scratch) first (l .n) (l .m) []))) where
     abbrev w : Work
     w = counted s u (marked (l .n) scratch) first (l .n) (l .m) []
 
@@ -89,7 +89,7 @@ module _ (kind : Kind) (limit : ℕ) (l : Lent) (p : Passes l) where
         left kind limit l stopped none (stops kind limit l (passed kind l theFirst p) (omega arith))
 
     module _ (e : r .stopped ≡ false) where
-      ended-here : (w .trials ≤ limit) × (within true limit w ≡ remaining (limit - w .trials) (w .found))
+      ended-here : (w .trials ≤ limit) × (within limit w ≡ remaining (limit - w .trials) (w .found))
       ended-here = within-ended limit w (ap (λ (q : Outcome). q .stopped) (sym finding) ∙ e)
 
       told : r ≡ outcomeOf (remaining (limit - w .trials) (w .found))

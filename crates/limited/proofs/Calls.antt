@@ -13,21 +13,21 @@ use Rattle.limited.specs.Calls.{Called, firstWork, limitedCall}
 
 module _ (kind : Kind) (limit : ℕ) (l : Lent) where
   abbrev left : Option Refusal → Limited → Option (List ℕ) → Called
-  left q a o = record { says = givenUnless q a; map = mapUnless q o (l .map); scratch = writtenUnless q (marksOf kind theFirst l) (l .scratch) }
+  left q a o = record { says = givenUnless q a; mapBytes = mapUnless q o (l .mapBytes); scratch = writtenUnless q (marksOf kind theFirst l) (l .scratch) }
 
   -- A refused call says its refusal, and not one lent byte is changed.
-  pub refused-unchanged : (r : Refusal) → refusalOf kind theFirst l ≡ some r → limitedCall kind limit l ≡ record { says = refused r; map = l .map; scratch = l .scratch }
+  pub refused-unchanged : (r : Refusal) → refusalOf kind theFirst l ≡ some r → limitedCall kind limit l ≡ record { says = refused r; mapBytes = l .mapBytes; scratch = l .scratch }
   unfolding limitedCall
   refused-unchanged r e = ap (λ (q : Option Refusal). left q (limited limit (firstWork kind l)) (foundWithin limit (firstWork kind l))) e
 
   module _ (p : refusalOf kind theFirst l ≡ none) where
     -- A call that is stopped, or ends, by its work.
-    pub stops : limit < firstWork kind l .trials → limitedCall kind limit l ≡ record { says = gives stopped; map = l .map; scratch = overwritten (marksOf kind theFirst l) (l .scratch) }
+    pub stops : limit < firstWork kind l .trials → limitedCall kind limit l ≡ record { says = gives stopped; mapBytes = l .mapBytes; scratch = overwritten (marksOf kind theFirst l) (l .scratch) }
     unfolding limitedCall
     stops h = let e = limited-stops (firstWork kind l) limit h in ap₂ (λ (q : Option Refusal) (a : Limited). left q a (foundWithin limit (firstWork kind l))) p (e .0) ∙ ap (left none stopped) (e .1)
 
     pub ends : firstWork kind l .trials ≤ limit
-        → limitedCall kind limit l ≡ record { says = gives (ended (sought (firstWork kind l .found)) (firstWork kind l .trials)); map = mapUnless none (firstWork kind l .found) (l .map); scratch = overwritten (marksOf kind theFirst l) (l .scratch) }
+        → limitedCall kind limit l ≡ record { says = gives (ended (sought (firstWork kind l .found)) (firstWork kind l .trials)); mapBytes = mapUnless none (firstWork kind l .found) (l .mapBytes); scratch = overwritten (marksOf kind theFirst l) (l .scratch) }
     unfolding limitedCall
     ends h =
         let e = limited-ends (firstWork kind l) limit h in

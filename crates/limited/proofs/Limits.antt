@@ -40,18 +40,18 @@ module _ (kind : Kind) (l : Lent) (p : Passes l) where
   unlimited = call kind theFirst l
 
   -- The search without a limit, by what the work finds.
-  same : unlimited ≡ record { says = gives (sought (w .found)); map = mapUnless none (w .found) (l .map); scratch = overwritten (marksOf kind theFirst l) (l .scratch) }
+  same : unlimited ≡ record { says = gives (sought (w .found)); mapBytes = mapUnless none (w .found) (l .mapBytes); scratch = overwritten (marksOf kind theFirst l) (l .scratch) }
   same = search-laws.not-refused kind l theFirst (search-laws.passed kind l theFirst p) (w .found) (sym (work-finds kind l p))
 
-  stopped-keeps : (limit : ℕ) → limit < w .trials → limitedCall kind limit l ≡ record { says = gives stopped; map = l .map; scratch = unlimited .scratch }
+  stopped-keeps : (limit : ℕ) → limit < w .trials → limitedCall kind limit l ≡ record { says = gives stopped; mapBytes = l .mapBytes; scratch = unlimited .scratch }
   stopped-keeps limit h =
       stops kind limit l (search-laws.passed kind l theFirst p) h
-      ∙ ap {B = Called} (λ (c : searches.Called). record { says = gives stopped; map = l .map; scratch = c .scratch }) (sym same)
+      ∙ ap {B = Called} (λ (c : searches.Called). record { says = gives stopped; mapBytes = l .mapBytes; scratch = c .scratch }) (sym same)
 
-  ended-exactly : (limit : ℕ) → w .trials ≤ limit → limitedCall kind limit l ≡ record { says = afterTrials (w .trials) (unlimited .says); map = unlimited .map; scratch = unlimited .scratch }
+  ended-exactly : (limit : ℕ) → w .trials ≤ limit → limitedCall kind limit l ≡ record { says = afterTrials (w .trials) (unlimited .says); mapBytes = unlimited .mapBytes; scratch = unlimited .scratch }
   ended-exactly limit h =
       ends kind limit l (search-laws.passed kind l theFirst p) h
-      ∙ ap {B = Called} (λ (c : searches.Called). record { says = afterTrials (w .trials) (c .says); map = c .map; scratch = c .scratch }) (sym same)
+      ∙ ap {B = Called} (λ (c : searches.Called). record { says = afterTrials (w .trials) (c .says); mapBytes = c .mapBytes; scratch = c .scratch }) (sym same)
 
   ended-says : (limit : ℕ) → w .trials ≤ limit → limitedCall kind limit l .says ≡ gives (ended (sought (w .found)) (w .trials))
   ended-says limit h = ap (λ (c : Called). c .says) (ends kind limit l (search-laws.passed kind l theFirst p) h)
@@ -116,7 +116,7 @@ limits-examples =
     let ended-at = ends embeddings 4 swapInTwo (search-laws.passed embeddings swapInTwo theFirst swap-passes) (omega arith) in (
       limits embeddings swapInTwo swap-passes .stopped-exactly 3 .1 (omega arith),
       ended-says embeddings swapInTwo swap-passes 4 (omega arith) ∙ ap (λ (v : Work). gives (ended (sought (v .found)) (v .trials))) swap-work,
-      ap (λ (c : Called). c .map) ended-at ∙ ap (λ (v : Work). mapUnless none (v .found) (swapInTwo .map)) swap-work,
+      ap (λ (c : Called). c .mapBytes) ended-at ∙ ap (λ (v : Work). mapUnless none (v .found) (swapInTwo .mapBytes)) swap-work,
       limits embeddings twoInSwap two-passes .unfit refl .1 0,
       limits isomorphisms swapInTwo swap-passes .unfit refl .1 0,
     )

@@ -15,7 +15,7 @@ use Rattle.search.specs.Answers.{orderFits}
 -- What a call says, and the two buffers as it leaves them.
 pub record Called : Type 0 where
   pub says : Answer Limited
-  pub map : List ℕ
+  pub mapBytes : List ℕ
   pub scratch : List ℕ
 
 -- The target's product as a search of the kind tests it: for reversed maps each product's image in the reversed order (02, (ix)).
@@ -37,4 +37,4 @@ unfoldable pub limitedCall : Kind → ℕ → Lent → Called
 limitedCall kind limit l =
     let refusal = refusalOf kind theFirst l in
     let w = firstWork kind l in
-    record { says = givenUnless refusal (limited limit w); map = mapUnless refusal (foundWithin limit w) (l .map); scratch = writtenUnless refusal (marksOf kind theFirst l) (l .scratch) }
+    record { says = givenUnless refusal (limited limit w); mapBytes = mapUnless refusal (foundWithin limit w) (l .mapBytes); scratch = writtenUnless refusal (marksOf kind theFirst l) (l .scratch) }

@@ -27,10 +27,10 @@ pub record Limits (kind : Kind) (l : Lent) (trials : ℕ) : Type 0 where
   -- It is stopped exactly if the limit is below that.
   pub stopped-exactly : (limit : ℕ) → (limitedCall kind limit l .says ≡ gives stopped) ↔ (limit < trials)
   -- Stopped, it keeps the map's bytes and fills scratch as "none" does.
-  pub stopped-keeps : (limit : ℕ) → limit < trials → limitedCall kind limit l ≡ record { says = gives stopped; map = l .map; scratch = call kind theFirst l .scratch }
+  pub stopped-keeps : (limit : ℕ) → limit < trials → limitedCall kind limit l ≡ record { says = gives stopped; mapBytes = l .mapBytes; scratch = call kind theFirst l .scratch }
   -- Otherwise it says and leaves what the search without a limit does, with the exact number of trials.
   pub ended-exactly : (limit : ℕ) → trials ≤ limit
-      → limitedCall kind limit l ≡ record { says = afterTrials trials (call kind theFirst l .says); map = call kind theFirst l .map; scratch = call kind theFirst l .scratch }
+      → limitedCall kind limit l ≡ record { says = afterTrials trials (call kind theFirst l .says); mapBytes = call kind theFirst l .mapBytes; scratch = call kind theFirst l .scratch }
   -- A larger limit may turn "stopped" into an answer and never changes a map or a "none".
   pub larger : (a b : ℕ) → a ≤ b → (limitedCall kind a l .says ≡ gives stopped → ⊥) → limitedCall kind b l ≡ limitedCall kind a l
   -- Where the orders rule a map out there is none, with 0 trials.
@@ -40,7 +40,7 @@ pub record Limits (kind : Kind) (l : Lent) (trials : ℕ) : Type 0 where
 pub record LimitsTheorem : Type 0 where
   pub answered : (kind : Kind) (l : Lent) → Passes l → Limits kind l (firstWork kind l .trials)
   pub refused-unchanged : (kind : Kind) (limit : ℕ) (l : Lent) (r : Refusal) → refusalOf kind theFirst l ≡ some r
-      → limitedCall kind limit l ≡ record { says = refused r; map = l .map; scratch = l .scratch }
+      → limitedCall kind limit l ≡ record { says = refused r; mapBytes = l .mapBytes; scratch = l .scratch }
 
 -- ---- an example
 
@@ -54,7 +54,7 @@ twoInSwap = lend (two .cells) 4 (swap .cells) 2 (replicate 4 0) (replicate 8 0)
 abbrev pub LimitsExamples : Type 0
 LimitsExamples =
     (limitedCall embeddings 3 swapInTwo .says ≡ gives stopped)
-    × (limitedCall embeddings 4 swapInTwo .says ≡ gives (ended found 4)) × (limitedCall embeddings 4 swapInTwo .map ≡ 2 ∷ 3 ∷ [])
+    × (limitedCall embeddings 4 swapInTwo .says ≡ gives (ended found 4)) × (limitedCall embeddings 4 swapInTwo .mapBytes ≡ 2 ∷ 3 ∷ [])
     × (limitedCall embeddings 0 twoInSwap .says ≡ gives (ended nothing 0)) × (limitedCall isomorphisms 0 swapInTwo .says ≡ gives (ended nothing 0))
 
 -- Left onto right has a reversed map after two trials, and no candidate for a plain one; between two orders no reversed map is tried.

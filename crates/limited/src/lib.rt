@@ -2,7 +2,6 @@
 // trial is one candidate, unused so far, tested as the image of the next element. Stopped, a call changes no byte of the map, and a refusal changes no
 // lent byte.
 ghost use mathlib.Core.Path.{_≡_};
-ghost use mathlib.Core.Bool.{true};
 ghost use mathlib.Core.List.{[]};
 ghost use Prim.Native.Nat.{_≤_};
 ghost use lib.ListN.{length};
@@ -43,7 +42,7 @@ fn find_turned(
 ) -> Outcome
     requires { ⌜ Accepted m (now source) × Accepted n (now target) ⌝ }
     requires { ⌜ (scratchSize m n ≤ length (now scratch)) × (length (now map) ≡ m) ⌝ }
-    ensures answer { λ r. ⌜ r ≡ outcomeOf (within true limit (counted (product m (now (source .entry))) (facing reversed n (now (target .entry))) (marked n (now (scratch .entry))) first n m [])) ⌝ }
+    ensures answer { λ r. ⌜ r ≡ outcomeOf (within limit (counted (product m (now (source .entry))) (facing reversed n (now (target .entry))) (marked n (now (scratch .entry))) first n m [])) ⌝ }
 {
     let mut turned = [0u8; 14400];
     let size = n * n;
@@ -64,7 +63,7 @@ fn find(
 ) -> Outcome
     requires { ⌜ Accepted m (now source) × Accepted n (now target) ⌝ }
     requires { ⌜ (scratchSize m n ≤ length (now scratch)) × (length (now map) ≡ m) ⌝ }
-    ensures answer { λ r. ⌜ r ≡ outcomeOf (within true limit (counted (product m (now (source .entry))) (facing (kindOf kind) n (now (target .entry))) (marked n (now (scratch .entry))) first n m [])) ⌝ }
+    ensures answer { λ r. ⌜ r ≡ outcomeOf (within limit (counted (product m (now (source .entry))) (facing (kindOf kind) n (now (target .entry))) (marked n (now (scratch .entry))) first n m [])) ⌝ }
 {
     match kind {
         Kind::Embeddings => backtrack::find_within(
@@ -105,7 +104,7 @@ fn answer(
     requires { ⌜ Accepted m (now source) × Accepted n (now target) ⌝ }
     requires { ⌜ (length (now map) ≡ m) × (scratchSize m n ≤ length (now scratch)) ⌝ }
     ensures answer { λ r. ⌜ limitedAnswerSays r ≡ limitedCall (kindOf kind) limit (lend (now (source .entry)) m (now (target .entry)) n (now (map .entry)) (now (scratch .entry))) .says ⌝ }
-    ensures map { λ _. ⌜ now (map .exit) ≡ limitedCall (kindOf kind) limit (lend (now (source .entry)) m (now (target .entry)) n (now (map .entry)) (now (scratch .entry))) .map ⌝ }
+    ensures map { λ _. ⌜ now (map .exit) ≡ limitedCall (kindOf kind) limit (lend (now (source .entry)) m (now (target .entry)) n (now (map .entry)) (now (scratch .entry))) .mapBytes ⌝ }
     ensures scratch { λ _. ⌜ now (scratch .exit) ≡ limitedCall (kindOf kind) limit (lend (now (source .entry)) m (now (target .entry)) n (now (map .entry)) (now (scratch .entry))) .scratch ⌝ }
 {
     search::fill(kind, source, m, target, n, scratch);
@@ -137,7 +136,7 @@ pub fn first_within(
     limit: u32,
 ) -> LimitedAnswer
     ensures answer { λ r. ⌜ limitedAnswerSays r ≡ limitedCall (kindOf kind) limit (lend (now (source .entry)) m (now (target .entry)) n (now (map .entry)) (now (scratch .entry))) .says ⌝ }
-    ensures map { λ _. ⌜ now (map .exit) ≡ limitedCall (kindOf kind) limit (lend (now (source .entry)) m (now (target .entry)) n (now (map .entry)) (now (scratch .entry))) .map ⌝ }
+    ensures map { λ _. ⌜ now (map .exit) ≡ limitedCall (kindOf kind) limit (lend (now (source .entry)) m (now (target .entry)) n (now (map .entry)) (now (scratch .entry))) .mapBytes ⌝ }
     ensures scratch { λ _. ⌜ now (scratch .exit) ≡ limitedCall (kindOf kind) limit (lend (now (source .entry)) m (now (target .entry)) n (now (map .entry)) (now (scratch .entry))) .scratch ⌝ }
 {
     let verdict = tables::check_pair(source, m, target, n);
@@ -164,7 +163,7 @@ pub fn first_embedding_within(
     limit: u32,
 ) -> LimitedAnswer
     ensures answer { λ r. ⌜ limitedAnswerSays r ≡ limitedCall embeddings limit (lend (now (source .entry)) m (now (target .entry)) n (now (map .entry)) (now (scratch .entry))) .says ⌝ }
-    ensures map { λ _. ⌜ now (map .exit) ≡ limitedCall embeddings limit (lend (now (source .entry)) m (now (target .entry)) n (now (map .entry)) (now (scratch .entry))) .map ⌝ }
+    ensures map { λ _. ⌜ now (map .exit) ≡ limitedCall embeddings limit (lend (now (source .entry)) m (now (target .entry)) n (now (map .entry)) (now (scratch .entry))) .mapBytes ⌝ }
     ensures scratch { λ _. ⌜ now (scratch .exit) ≡ limitedCall embeddings limit (lend (now (source .entry)) m (now (target .entry)) n (now (map .entry)) (now (scratch .entry))) .scratch ⌝ }
 {
     first_within(Kind::Embeddings, source, m, target, n, map, scratch, limit)
@@ -182,7 +181,7 @@ pub fn first_isomorphism_within(
     limit: u32,
 ) -> LimitedAnswer
     ensures answer { λ r. ⌜ limitedAnswerSays r ≡ limitedCall isomorphisms limit (lend (now (source .entry)) m (now (target .entry)) n (now (map .entry)) (now (scratch .entry))) .says ⌝ }
-    ensures map { λ _. ⌜ now (map .exit) ≡ limitedCall isomorphisms limit (lend (now (source .entry)) m (now (target .entry)) n (now (map .entry)) (now (scratch .entry))) .map ⌝ }
+    ensures map { λ _. ⌜ now (map .exit) ≡ limitedCall isomorphisms limit (lend (now (source .entry)) m (now (target .entry)) n (now (map .entry)) (now (scratch .entry))) .mapBytes ⌝ }
     ensures scratch { λ _. ⌜ now (scratch .exit) ≡ limitedCall isomorphisms limit (lend (now (source .entry)) m (now (target .entry)) n (now (map .entry)) (now (scratch .entry))) .scratch ⌝ }
 {
     first_within(
@@ -209,7 +208,7 @@ pub fn first_reversed_isomorphism_within(
     limit: u32,
 ) -> LimitedAnswer
     ensures answer { λ r. ⌜ limitedAnswerSays r ≡ limitedCall reversed limit (lend (now (source .entry)) m (now (target .entry)) n (now (map .entry)) (now (scratch .entry))) .says ⌝ }
-    ensures map { λ _. ⌜ now (map .exit) ≡ limitedCall reversed limit (lend (now (source .entry)) m (now (target .entry)) n (now (map .entry)) (now (scratch .entry))) .map ⌝ }
+    ensures map { λ _. ⌜ now (map .exit) ≡ limitedCall reversed limit (lend (now (source .entry)) m (now (target .entry)) n (now (map .entry)) (now (scratch .entry))) .mapBytes ⌝ }
     ensures scratch { λ _. ⌜ now (scratch .exit) ≡ limitedCall reversed limit (lend (now (source .entry)) m (now (target .entry)) n (now (map .entry)) (now (scratch .entry))) .scratch ⌝ }
 {
     first_within(Kind::Reversed, source, m, target, n, map, scratch, limit)

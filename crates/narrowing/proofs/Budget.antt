@@ -7,7 +7,7 @@ use Rattle.semigroups.specs.Trials.{Work}
 use Rattle.backtrack.specs.declared.Outcome.{Outcome}
 use Rattle.backtrack.specs.State.{foundIn, exhausted, remaining, within, outcomeOf}
 
-pub not-stopped : (limit : ℕ) (w : Work) (r : Outcome) → r ≡ outcomeOf (within true limit w) → r .stopped ≡ false → record { ok = r .ok; image = r .image } ≡ foundIn (w .found)
+pub not-stopped : (limit : ℕ) (w : Work) (r : Outcome) → r ≡ outcomeOf (within limit w) → r .stopped ≡ false → record { ok = r .ok; image = r .image } ≡ foundIn (w .found)
 unfolding within outcomeOf
 not-stopped limit w r e stop = go (leb (w .trials) limit) refl
   where

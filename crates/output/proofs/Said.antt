@@ -50,14 +50,14 @@ module _ (source : List ℕ) (m : ℕ) (target : List ℕ) (n : ℕ) (map scratc
   answers : c
       ≡ record {
         says = gives (sought earliest-map);
-        map = mapUnless none earliest-map map;
+        mapBytes = mapUnless none earliest-map map;
         scratch = overwritten (marksOf embeddings theFirst (lend source m target n map scratch)) scratch;
       }
   answers =
       let pass = both-pass m source n target (no-refusal m source a) (no-refusal n target b) in
       not-refused embeddings (lend source m target n map scratch) theFirst (none-refused m source n target (length map) (length scratch) pass size marks) earliest-map refl
 
-  found-records : gives found ≡ c .says → answerRecords m source n target ≡ foundRecords m n (c .map)
+  found-records : gives found ≡ c .says → answerRecords m source n target ≡ foundRecords m n (c .mapBytes)
   unfolding answerRecords
   found-records = rw answers (found-map m n map earliest-map)
 
@@ -68,7 +68,7 @@ module _ (source : List ℕ) (m : ℕ) (target : List ℕ) (n : ℕ) (map scratc
   -- ---- once the records are written
 
   module _ (before : List ℕ) {p : ℕ} {out : List ℕ} where
-    pub found-answer : (f : List ℕ) → gives found ≡ c .says → f ≡ c .map → length f ≡ m
+    pub found-answer : (f : List ℕ) → gives found ≡ c .says → f ≡ c .mapBytes → length f ≡ m
         → p ≡ length (rowsText (foundRecords (length f) n f)) → out ≡ overwritten (rowsText (foundRecords (length f) n f)) before
         → Written before (answerRecords m source n target) p out
     found-answer f e same whole q w = rw (found-records e, ← same, ← whole) (record { size = q; text = w })

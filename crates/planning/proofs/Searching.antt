@@ -90,7 +90,7 @@ module _ (m : ℕ) (cells : List ℕ) (table : Accepted m cells) (few : m ≤ 27
   answers : call embeddings theFirst (lend cells m target n image scratch)
       ≡ record {
         says = gives (sought (firstAt m (product m cells) d));
-        map = mapUnless none (firstAt m (product m cells) d) image;
+        mapBytes = mapUnless none (firstAt m (product m cells) d) image;
         scratch = overwritten (marksOf embeddings theFirst lent) scratch;
       }
   unfolding firstAt degreeProduct
@@ -112,9 +112,9 @@ module _ (m : ℕ) (cells : List ℕ) (table : Accepted m cells) (few : m ≤ 27
 
   -- Found: what is left in the map buffer is the first embedding.
   pub found-first : (said : SearchAnswer) → said ≡ Found → searchAnswerSays said ≡ call embeddings theFirst (lend cells m target n image scratch) .says
-      → (left : List ℕ) → left ≡ call embeddings theFirst (lend cells m target n image scratch) .map → some left ≡ firstAt m (product m cells) d
+      → (left : List ℕ) → left ≡ call embeddings theFirst (lend cells m target n image scratch) .mapBytes → some left ≡ firstAt m (product m cells) d
   found-first said w e left q =
-      found-map (firstAt m (product m cells) d) left (sym (ap searchAnswerSays w) ∙ e ∙ ap (λ (c : Called). c .says) answers) (q ∙ ap (λ (c : Called). c .map) answers)
+      found-map (firstAt m (product m cells) d) left (sym (ap searchAnswerSays w) ∙ e ∙ ap (λ (c : Called). c .says) answers) (q ∙ ap (λ (c : Called). c .mapBytes) answers)
 
   -- Anything else is said where there is none.
   pub nothing-first : (said : SearchAnswer) → (said ≡ Found → ⊥) → searchAnswerSays said ≡ call embeddings theFirst (lend cells m target n image scratch) .says

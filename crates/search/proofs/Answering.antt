@@ -128,16 +128,16 @@ module _ (kind : Kind) (later : Bool) (l : Lent) (source : Closed (l .m) (produc
 
   -- Where the orders do not fit, there is none.
   pub answer-unfit : orderFits kind (l .m) (l .n) ≡ false → answerOf kind request l ≡ none
-  answer-unfit e = unfit kind (l .m) (product (l .m) (l .source)) (l .n) (product (l .n) (l .target)) e (askOf request (l .map))
+  answer-unfit e = unfit kind (l .m) (product (l .m) (l .source)) (l .n) (product (l .n) (l .target)) e (askOf request (l .mapBytes))
 
   -- Else the map that the marked search finds is the map asked for.
   module _ (fits : orderFits kind (l .m) (l .n) ≡ true) (scratch : List ℕ) (filled : scratch ≡ scratchAfter (l .m) (l .n) (candidate kind (l .m) (product (l .m) (l .source)) (l .n) (product (l .n) (l .target))) (l .scratch)) (r : Found)
-      (finding : r ≡ foundIn (searched (product (l .m) (l .source)) (facing kind (l .n) (l .target)) (marked (l .n) scratch) (bounded later (l .map)) (l .n) (l .m) [])) where
+      (finding : r ≡ foundIn (searched (product (l .m) (l .source)) (facing kind (l .n) (l .target)) (marked (l .n) scratch) (bounded later (l .mapBytes)) (l .n) (l .m) [])) where
     answer-found : r ≡ foundIn (answerOf kind request l)
     answer-found =
         finding
-        ∙ ap foundIn (ap₂ (λ (b : List ℕ) (q : Ask). searched (product (l .m) (l .source)) (facing kind (l .n) (l .target)) (marked (l .n) b) q (l .n) (l .m) []) filled (bounded-request later (l .map))
-        ∙ finds kind (l .m) (product (l .m) (l .source)) (l .n) (l .target) source target (l .scratch) fits (askOf request (l .map)))
+        ∙ ap foundIn (ap₂ (λ (b : List ℕ) (q : Ask). searched (product (l .m) (l .source)) (facing kind (l .n) (l .target)) (marked (l .n) b) q (l .n) (l .m) []) filled (bounded-request later (l .mapBytes))
+        ∙ finds kind (l .m) (product (l .m) (l .source)) (l .n) (l .target) source target (l .scratch) fits (askOf request (l .mapBytes)))
 
     pub answer-none : r .ok ≡ false → answerOf kind request l ≡ none
     answer-none e = none-found (answerOf kind request l) (ap (λ (f : Found). f .ok) (sym answer-found) ∙ e)
@@ -151,7 +151,7 @@ module _ (kind : Kind) (later : Bool) (l : Lent) (source : Closed (l .m) (produc
         go (some f) q =
             let s = product (l .m) (l .source) in
             let t = product (l .n) (l .target) in
-            let long = map-list (l .m) s (l .n) t f kind (earliest-found kind (l .m) s (l .n) t (askOf request (l .map)) f q .has .0) .size in
+            let long = map-list (l .m) s (l .n) t f kind (earliest-found kind (l .m) s (l .n) t (askOf request (l .mapBytes)) f q .has .0) .size in
             ap some (sym (ap (λ (h : Found). take (l .m) (h .image)) (answer-found ∙ ap foundIn q) ∙ take-at f (replicate (120 - length f) 0) (l .m) long))
 
 -- ---- what is said and left
@@ -159,7 +159,7 @@ module _ (kind : Kind) (later : Bool) (l : Lent) (source : Closed (l .m) (produc
 -- What a call says and leaves where no question fails, from the map asked for.
 pub record Left (kind : Kind) (request : Request) (l : Lent) (o : Option (List ℕ)) : Type 0 where
   pub says : gives (sought o) ≡ call kind request l .says
-  pub map : mapUnless none o (l .map) ≡ call kind request l .map
+  pub mapBytes : mapUnless none o (l .mapBytes) ≡ call kind request l .mapBytes
   pub scratch : scratchAfter (l .m) (l .n) (candidate kind (l .m) (product (l .m) (l .source)) (l .n) (product (l .n) (l .target))) (l .scratch) ≡ call kind request l .scratch
 
 pub left : (kind : Kind) (request : Request) (l : Lent) → Passes l → (o : Option (List ℕ)) → answerOf kind request l ≡ o → Left kind request l o
@@ -168,6 +168,6 @@ left kind request l p o e =
     let w = sym (not-refused kind l request (passed kind l request p) o e) in
     record {
       says = ap (λ (c : Called). c .says) w;
-      map = ap (λ (c : Called). c .map) w;
+      mapBytes = ap (λ (c : Called). c .mapBytes) w;
       scratch = ap (λ (c : Called). c .scratch) w;
     }

@@ -17,16 +17,16 @@ pub record Lent : Type 0 where
   pub m : ℕ
   pub target : List ℕ
   pub n : ℕ
-  pub map : List ℕ
+  pub mapBytes : List ℕ
   pub scratch : List ℕ
 
 abbrev pub lend : List ℕ → ℕ → List ℕ → ℕ → List ℕ → List ℕ → Lent
-lend source m target n map scratch = record { source = source; m = m; target = target; n = n; map = map; scratch = scratch }
+lend source m target n mapBytes scratch = record { source = source; m = m; target = target; n = n; mapBytes = mapBytes; scratch = scratch }
 
 -- What a call says, and the two buffers as it leaves them.
 pub record Called : Type 0 where
   pub says : Answer Sought
-  pub map : List ℕ
+  pub mapBytes : List ℕ
   pub scratch : List ℕ
 
 -- What is asked for: the first map, or the next one after the bytes of the map buffer.
@@ -41,11 +41,11 @@ askOf theNext bytes = next bytes
 module _ (kind : Kind) (request : Request) (l : Lent) where
   -- The earliest failed question.
   abbrev pub refusalOf : Option Refusal
-  refusalOf = searchRefusal (l .m) (l .source) (l .n) (l .target) (length (l .map)) (length (l .scratch))
+  refusalOf = searchRefusal (l .m) (l .source) (l .n) (l .target) (length (l .mapBytes)) (length (l .scratch))
 
   -- The map asked for.
   abbrev pub answerOf : Option (List ℕ)
-  answerOf = earliest (askOf request (l .map)) (maps kind (l .m) (product (l .m) (l .source)) (l .n) (product (l .n) (l .target)))
+  answerOf = earliest (askOf request (l .mapBytes)) (maps kind (l .m) (product (l .m) (l .source)) (l .n) (product (l .n) (l .target)))
 
   -- The marks of the candidates of this kind.
   abbrev pub marksOf : List ℕ
@@ -56,4 +56,4 @@ unfoldable pub call : Kind → Request → Lent → Called
 call kind request l =
     let refusal = refusalOf kind request l in
     let answer = answerOf kind request l in
-    record { says = givenUnless refusal (sought answer); map = mapUnless refusal answer (l .map); scratch = writtenUnless refusal (marksOf kind request l) (l .scratch) }
+    record { says = givenUnless refusal (sought answer); mapBytes = mapUnless refusal answer (l .mapBytes); scratch = writtenUnless refusal (marksOf kind request l) (l .scratch) }

@@ -26,11 +26,11 @@ pub record Beside : Type 0 where
 
 -- The call on the map buffer as the last one left it.
 abbrev pub lentOn : Beside → List ℕ → Lent
-lentOn c bytes = record { source = c .source; m = c .m; target = c .target; n = c .n; map = bytes; scratch = c .scratch }
+lentOn c bytes = record { source = c .source; m = c .m; target = c .target; n = c .n; mapBytes = bytes; scratch = c .scratch }
 
 -- What a "next" call for isomorphisms says, and the map buffer as it leaves it.
 unfoldable pub nextIsomorphism : Beside → List ℕ → Outcome
-nextIsomorphism c bytes = let r = call isomorphisms theNext (lentOn c bytes) in record { says = r .says; buffer = r .map }
+nextIsomorphism c bytes = let r = call isomorphisms theNext (lentOn c bytes) in record { says = r .says; buffer = r .mapBytes }
 
 -- The earliest failed question of a call on a map buffer of k bytes.
 unfoldable pub refusal : ℕ → Beside → Option Refusal
@@ -70,7 +70,7 @@ pub record Demand3 (m : ℕ) (source target : List ℕ) : Type 0 where
   pub refused-exactly : (c : Beside) (bytes : List ℕ) → length bytes ≡ m → (r : Refusal) → (nextIsomorphism c bytes .says ≡ refused r) ↔ (refusal m c ≡ some r)
   -- A refused call changes no byte of the map buffer or of scratch.
   pub refused-unchanged : (c : Beside) (bytes : List ℕ) → length bytes ≡ m → (r : Refusal) → refusal m c ≡ some r
-      → call isomorphisms theNext (lentOn c bytes) ≡ record { says = refused r; map = bytes; scratch = c .scratch }
+      → call isomorphisms theNext (lentOn c bytes) ≡ record { says = refused r; mapBytes = bytes; scratch = c .scratch }
   -- Only a failed question refuses: a call is not refused exactly if both tables that it lends are accepted, the map buffer has a byte for each
   -- element of the source, and scratch has at least the bytes that its marks take.
   pub answered-exactly : (c : Beside) (bytes : List ℕ) → ((r : Refusal) → nextIsomorphism c bytes .says ≡ refused r → ⊥) ↔ Passes (lentOn c bytes)

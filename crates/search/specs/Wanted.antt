@@ -13,17 +13,17 @@ use Rattle.search.specs.Calls.{Lent, Request, theFirst, theNext, lend, c
 
 -- Two accepted tables, a map buffer of m bytes and a scratch buffer that is long enough.
 abbrev pub Passes : Lent → Type 0
-Passes l = SearchPasses (l .m) (l .source) (l .n) (l .target) (length (l .map)) (length (l .scratch))
+Passes l = SearchPasses (l .m) (l .source) (l .n) (l .target) (length (l .mapBytes)) (length (l .scratch))
 
 -- First: a map of the kind asked for between the two tables. Next: one that is later than the bytes of the map buffer.
 abbrev pub Wanted : Kind → Lent → Request → List ℕ → Type 0
 Wanted kind l theFirst f = IsMap kind (l .m) (product (l .m) (l .source)) (l .n) (product (l .n) (l .target)) f
-Wanted kind l theNext f = IsMap kind (l .m) (product (l .m) (l .source)) (l .n) (product (l .n) (l .target)) f × (earlier (l .map) f ≡ true)
+Wanted kind l theNext f = IsMap kind (l .m) (product (l .m) (l .source)) (l .n) (product (l .n) (l .target)) f × (earlier (l .mapBytes) f ≡ true)
 
 -- What is said and the map that is left go by the tables and the map buffer alone (02, (v): all maps and answers of "none" are what they were): two
 -- calls that lend different scratch buffers, both long enough, say the same and leave the same map.
 abbrev pub ScratchApart : Type 0
 ScratchApart =
-    (kind : Kind) (request : Request) (source : List ℕ) (m : ℕ) (target : List ℕ) (n : ℕ) (map one other : List ℕ) → Passes (lend source m target n map one) → Passes (lend source m target n map other)
-    → (call kind request (lend source m target n map one) .says ≡ call kind request (lend source m target n map other) .says)
-    × (call kind request (lend source m target n map one) .map ≡ call kind request (lend source m target n map other) .map)
+    (kind : Kind) (request : Request) (source : List ℕ) (m : ℕ) (target : List ℕ) (n : ℕ) (bytes one other : List ℕ) → Passes (lend source m target n bytes one) → Passes (lend source m target n bytes other)
+    → (call kind request (lend source m target n bytes one) .says ≡ call kind request (lend source m target n bytes other) .says)
+    × (call kind request (lend source m target n bytes one) .mapBytes ≡ call kind request (lend source m target n bytes other) .mapBytes)

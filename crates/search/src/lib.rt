@@ -139,7 +139,7 @@ fn answer(
     requires { ⌜ Accepted m (now source) × Accepted n (now target) ⌝ }
     requires { ⌜ (length (now map) ≡ m) × (scratchSize m n ≤ length (now scratch)) ⌝ }
     ensures answer { λ r. ⌜ searchAnswerSays r ≡ call (kindOf kind) (requestOf next) (lend (now (source .entry)) m (now (target .entry)) n (now (map .entry)) (now (scratch .entry))) .says ⌝ }
-    ensures map { λ _. ⌜ now (map .exit) ≡ call (kindOf kind) (requestOf next) (lend (now (source .entry)) m (now (target .entry)) n (now (map .entry)) (now (scratch .entry))) .map ⌝ }
+    ensures map { λ _. ⌜ now (map .exit) ≡ call (kindOf kind) (requestOf next) (lend (now (source .entry)) m (now (target .entry)) n (now (map .entry)) (now (scratch .entry))) .mapBytes ⌝ }
     ensures scratch { λ _. ⌜ now (scratch .exit) ≡ call (kindOf kind) (requestOf next) (lend (now (source .entry)) m (now (target .entry)) n (now (map .entry)) (now (scratch .entry))) .scratch ⌝ }
 {
     fill(kind, source, m, target, n, scratch);
@@ -167,7 +167,7 @@ pub fn search(
     scratch: &mut [u8],
 ) -> SearchAnswer
     ensures answer { λ r. ⌜ searchAnswerSays r ≡ call (kindOf kind) (requestOf next) (lend (now (source .entry)) m (now (target .entry)) n (now (map .entry)) (now (scratch .entry))) .says ⌝ }
-    ensures map { λ _. ⌜ now (map .exit) ≡ call (kindOf kind) (requestOf next) (lend (now (source .entry)) m (now (target .entry)) n (now (map .entry)) (now (scratch .entry))) .map ⌝ }
+    ensures map { λ _. ⌜ now (map .exit) ≡ call (kindOf kind) (requestOf next) (lend (now (source .entry)) m (now (target .entry)) n (now (map .entry)) (now (scratch .entry))) .mapBytes ⌝ }
     ensures scratch { λ _. ⌜ now (scratch .exit) ≡ call (kindOf kind) (requestOf next) (lend (now (source .entry)) m (now (target .entry)) n (now (map .entry)) (now (scratch .entry))) .scratch ⌝ }
 {
     let verdict = tables::check_pair(source, m, target, n);
@@ -193,7 +193,7 @@ pub fn first_embedding(
     scratch: &mut [u8],
 ) -> SearchAnswer
     ensures answer { λ r. ⌜ searchAnswerSays r ≡ call embeddings theFirst (lend (now (source .entry)) m (now (target .entry)) n (now (map .entry)) (now (scratch .entry))) .says ⌝ }
-    ensures map { λ _. ⌜ now (map .exit) ≡ call embeddings theFirst (lend (now (source .entry)) m (now (target .entry)) n (now (map .entry)) (now (scratch .entry))) .map ⌝ }
+    ensures map { λ _. ⌜ now (map .exit) ≡ call embeddings theFirst (lend (now (source .entry)) m (now (target .entry)) n (now (map .entry)) (now (scratch .entry))) .mapBytes ⌝ }
     ensures scratch { λ _. ⌜ now (scratch .exit) ≡ call embeddings theFirst (lend (now (source .entry)) m (now (target .entry)) n (now (map .entry)) (now (scratch .entry))) .scratch ⌝ }
 {
     search(Kind::Embeddings, false, source, m, target, n, map, scratch)
@@ -209,7 +209,7 @@ pub fn next_embedding(
     scratch: &mut [u8],
 ) -> SearchAnswer
     ensures answer { λ r. ⌜ searchAnswerSays r ≡ call embeddings theNext (lend (now (source .entry)) m (now (target .entry)) n (now (map .entry)) (now (scratch .entry))) .says ⌝ }
-    ensures map { λ _. ⌜ now (map .exit) ≡ call embeddings theNext (lend (now (source .entry)) m (now (target .entry)) n (now (map .entry)) (now (scratch .entry))) .map ⌝ }
+    ensures map { λ _. ⌜ now (map .exit) ≡ call embeddings theNext (lend (now (source .entry)) m (now (target .entry)) n (now (map .entry)) (now (scratch .entry))) .mapBytes ⌝ }
     ensures scratch { λ _. ⌜ now (scratch .exit) ≡ call embeddings theNext (lend (now (source .entry)) m (now (target .entry)) n (now (map .entry)) (now (scratch .entry))) .scratch ⌝ }
 {
     search(Kind::Embeddings, true, source, m, target, n, map, scratch)
@@ -225,7 +225,7 @@ pub fn first_isomorphism(
     scratch: &mut [u8],
 ) -> SearchAnswer
     ensures answer { λ r. ⌜ searchAnswerSays r ≡ call isomorphisms theFirst (lend (now (source .entry)) m (now (target .entry)) n (now (map .entry)) (now (scratch .entry))) .says ⌝ }
-    ensures map { λ _. ⌜ now (map .exit) ≡ call isomorphisms theFirst (lend (now (source .entry)) m (now (target .entry)) n (now (map .entry)) (now (scratch .entry))) .map ⌝ }
+    ensures map { λ _. ⌜ now (map .exit) ≡ call isomorphisms theFirst (lend (now (source .entry)) m (now (target .entry)) n (now (map .entry)) (now (scratch .entry))) .mapBytes ⌝ }
     ensures scratch { λ _. ⌜ now (scratch .exit) ≡ call isomorphisms theFirst (lend (now (source .entry)) m (now (target .entry)) n (now (map .entry)) (now (scratch .entry))) .scratch ⌝ }
 {
     search(
@@ -250,7 +250,7 @@ pub fn next_isomorphism(
     scratch: &mut [u8],
 ) -> SearchAnswer
     ensures answer { λ r. ⌜ searchAnswerSays r ≡ call isomorphisms theNext (lend (now (source .entry)) m (now (target .entry)) n (now (map .entry)) (now (scratch .entry))) .says ⌝ }
-    ensures map { λ _. ⌜ now (map .exit) ≡ call isomorphisms theNext (lend (now (source .entry)) m (now (target .entry)) n (now (map .entry)) (now (scratch .entry))) .map ⌝ }
+    ensures map { λ _. ⌜ now (map .exit) ≡ call isomorphisms theNext (lend (now (source .entry)) m (now (target .entry)) n (now (map .entry)) (now (scratch .entry))) .mapBytes ⌝ }
     ensures scratch { λ _. ⌜ now (scratch .exit) ≡ call isomorphisms theNext (lend (now (source .entry)) m (now (target .entry)) n (now (map .entry)) (now (scratch .entry))) .scratch ⌝ }
 {
     search(Kind::Isomorphisms, true, source, m, target, n, map, scratch)
@@ -266,7 +266,7 @@ pub fn first_reversed_isomorphism(
     scratch: &mut [u8],
 ) -> SearchAnswer
     ensures answer { λ r. ⌜ searchAnswerSays r ≡ call reversed theFirst (lend (now (source .entry)) m (now (target .entry)) n (now (map .entry)) (now (scratch .entry))) .says ⌝ }
-    ensures map { λ _. ⌜ now (map .exit) ≡ call reversed theFirst (lend (now (source .entry)) m (now (target .entry)) n (now (map .entry)) (now (scratch .entry))) .map ⌝ }
+    ensures map { λ _. ⌜ now (map .exit) ≡ call reversed theFirst (lend (now (source .entry)) m (now (target .entry)) n (now (map .entry)) (now (scratch .entry))) .mapBytes ⌝ }
     ensures scratch { λ _. ⌜ now (scratch .exit) ≡ call reversed theFirst (lend (now (source .entry)) m (now (target .entry)) n (now (map .entry)) (now (scratch .entry))) .scratch ⌝ }
 {
     search(Kind::Reversed, false, source, m, target, n, map, scratch)
@@ -282,7 +282,7 @@ pub fn next_reversed_isomorphism(
     scratch: &mut [u8],
 ) -> SearchAnswer
     ensures answer { λ r. ⌜ searchAnswerSays r ≡ call reversed theNext (lend (now (source .entry)) m (now (target .entry)) n (now (map .entry)) (now (scratch .entry))) .says ⌝ }
-    ensures map { λ _. ⌜ now (map .exit) ≡ call reversed theNext (lend (now (source .entry)) m (now (target .entry)) n (now (map .entry)) (now (scratch .entry))) .map ⌝ }
+    ensures map { λ _. ⌜ now (map .exit) ≡ call reversed theNext (lend (now (source .entry)) m (now (target .entry)) n (now (map .entry)) (now (scratch .entry))) .mapBytes ⌝ }
     ensures scratch { λ _. ⌜ now (scratch .exit) ≡ call reversed theNext (lend (now (source .entry)) m (now (target .entry)) n (now (map .entry)) (now (scratch .entry))) .scratch ⌝ }
 {
     search(Kind::Reversed, true, source, m, target, n, map, scratch)

@@ -9,15 +9,7 @@ use lib.ListN.{getD}
 use lib.Pow.{pow-pos, pow-add, high}
 use Rattle.semigroups.specs.Lists.{range, sum}
 use Rattle.semigroups.specs.Scratch.{packedByte, bit}
-use Rattle.semigroups.proofs.Lists.{range-snoc}
-use Rattle.semigroups.proofs.Sums.{sum-append}
-
--- One number more.
-sum-next : (w : ℕ → ℕ) (k : ℕ) → sum w (range 0 (suc k)) ≡ sum w (range 0 k) + w k
-unfolding sum
-sum-next w k =
-    ap (sum w) (range-snoc 0 k) ∙ sum-append w (range 0 k) _
-    ∙ ap (λ (x : ℕ). sum w (range 0 k) + x) (let z : w (0 + k) + 0 ≡ w (0 + k) = omega arith in z ∙ ap w (let z : 0 + k ≡ k = omega arith in z))
+use Rattle.semigroups.proofs.Sums.{sum-more}
 
 -- A higher digit changes no lower bit.
 higher : (x c j k : ℕ) → j < k → (x + c * 2 ^ k) / 2 ^ j % 2 ≡ x / 2 ^ j % 2
@@ -46,7 +38,10 @@ module _ (l : List ℕ) (b : ℕ) where
 
   pub worth-next : (r : ℕ) → worthOf (suc r) ≡ worthOf r + getD l (8 * b + r) 0 * 2 ^ r
   unfolding worthOf
-  worth-next r = sum-next (λ r. getD l (8 * b + r) 0 * 2 ^ r) r
+  worth-next r = sum-more worth 0 r ∙ ap (λ (k : ℕ). sum worth (range 0 r) + worth k) (let z : 0 + r ≡ r = omega arith in z)
+    where
+      worth : ℕ → ℕ
+      worth r = getD l (8 * b + r) 0 * 2 ^ r
 
   pub worth-all : worthOf 8 ≡ packedByte l b
   unfolding worthOf packedByte

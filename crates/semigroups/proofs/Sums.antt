@@ -9,10 +9,10 @@ use native.Mathlib.Omega.{arith}
 use borrow.Author.Tests.{eq-eqb, ne-eqb}
 use lib.Dec.{eqb}
 use lib.ListN.{length}
-use Rattle.semigroups.specs.Lists.{elements, sum, count, NoRepeats}
+use Rattle.semigroups.specs.Lists.{range, elements, sum, count, NoRepeats}
 use Rattle.semigroups.specs.Tables.{Element}
 use Rattle.semigroups.proofs.Booleans.{equal-or-not}
-use Rattle.semigroups.proofs.Lists.{elements-mem}
+use Rattle.semigroups.proofs.Lists.{elements-mem, range-snoc}
 use Rattle.semigroups.proofs.NoRepeats.{elements-no-repeats}
 
 module _ {A : Type 0} where
@@ -51,6 +51,11 @@ module _ {A : Type 0} where
   count-at-most p (x ∷ l) =
       let h = count-at-most p l in
       elim (p x) as (λ b. cond b 1 0 + sum (λ y. cond (p y) 1 0) l ≤ suc (length l)) [ true ↦ omega arith | false ↦ omega arith ]
+
+-- Of numbers in a row, one number more.
+pub sum-more : (w : ℕ → ℕ) (i k : ℕ) → sum w (range i (suc k)) ≡ sum w (range i k) + w (i + k)
+unfolding sum
+sum-more w i k = ap (sum w) (range-snoc i k) ∙ sum-append w (range i k) ((i + k) ∷ []) ∙ ap (λ (x : ℕ). sum w (range i k) + x) (let z : w (i + k) + 0 ≡ w (i + k) = omega arith in z)
 
 module _ {A B : Type 0} where
   pub sum-map : (w : B → ℕ) (g : A → B) (l : List A) → sum w (map g l) ≡ sum (λ x. w (g x)) l

@@ -33,7 +33,7 @@ use Rattle.backtrack.proofs.+extend.{statement}
 use Rattle.backtrack.proofs.+extend.Tie.{close}
 
 abbrev μ-extend : Measures 4 extend-kinds.ps ℕ
-μ-extend κs a = a .1 .0 - a .1 .1 .1 .1 .1 .1 .1 .1 .1 .0 .len
+μ-extend κs a = a .1 .0 - a .1 .1 .1 .1 .1 .1 .1 .1 .0 .len
 
 abbrev extend-at : ℕ → In 4 extend-kinds.ps
 extend-at t = and 4 extend-kinds.ps (is 4 extend-kinds.ps μ-extend t) extend.Pre
@@ -42,11 +42,11 @@ abbrev extend-below : ℕ → In 4 extend-kinds.ps
 extend-below t = and 4 extend-kinds.ps (falls 4 extend-kinds.ps _<_ μ-extend t) extend.Pre
 
 abbrev extend-Inv-loop : extend-lts.InvT-loop
-extend-Inv-loop source m target n scratch after tight counting limit p at low left₀ x₀ left x =
-    (1 ≤ x) × (x ≤ n + 1) × (low ≡ lowest tight after (p .len)) × (within counting limit (Called (product m source) m (product n target) n scratch after tight p) ≡ within counting left (Rest (product m source) m (product n target) n scratch after tight p x))
+extend-Inv-loop source m target n scratch after tight limit p at low left₀ x₀ left x =
+    (1 ≤ x) × (x ≤ n + 1) × (low ≡ lowest tight after (p .len)) × (within limit (Called (product m source) m (product n target) n scratch after tight p) ≡ within left (Rest (product m source) m (product n target) n scratch after tight p x))
 
 abbrev extend-μ-loop : extend-lts.MeasureT-loop
-extend-μ-loop source m target n scratch after tight counting limit p at low left₀ x₀ left x = n + 1 - x
+extend-μ-loop source m target n scratch after tight limit p at low left₀ x₀ left x = n + 1 - x
 
 -- What the calls ask and tell.
 abbrev calls : ℕ → extend-lts.Claims
@@ -64,7 +64,7 @@ start t k = k .before .before .before .before .before .before .before .before .b
 
 -- The turn, once `open` has answered.
 turn : (t : ℕ) (k : Opened t) → let a = start t k .args in
-    Turn (product (a .m) (a .source .now)) (a .m) (product (a .n) (a .target .now)) (a .n) (a .scratch .now) (a .after .now) (a .tight) (a .counting) (a .limit) (a .t10) (k .before .before .before .before .before .if3 .low) (k .before .before .before .before .loop .left) (k .before .before .before .before .loop .x) (k .«open» .result)
+    Turn (product (a .m) (a .source .now)) (a .m) (product (a .n) (a .target .now)) (a .n) (a .scratch .now) (a .after .now) (a .tight) (a .limit) (a .t9) (k .before .before .before .before .before .if3 .low) (k .before .before .before .before .loop .left) (k .before .before .before .before .loop .x) (k .«open» .result)
 turn t k =
     let z = start t k in
     let source = z .pre .1 .0 .0 in
@@ -93,7 +93,7 @@ Tested t = extend-lts.After-test (calls t) (extend-at t) extend.Post extend-Inv-
 
 -- What the test says, once it has answered.
 tested : (t : ℕ) (k : Tested t) → let o = k .before .before .before .before .before .before .before .before .before .before .before .before .before in
-    Verdict (product (start t o .args .m) (start t o .args .source .now)) (product (start t o .args .n) (start t o .args .target .now)) (start t o .args .t10) (o .before .before .before .before .loop .x) (k .before .place .result) (k .test .result .map) (k .test .result .ok)
+    Verdict (product (start t o .args .m) (start t o .args .source .now)) (product (start t o .args .n) (start t o .args .target .now)) (start t o .args .t9) (o .before .before .before .before .loop .x) (k .before .place .result) (k .test .result .partial) (k .test .result .ok)
 tested t k =
     let more = k .before .place .ensures .1 .0 in
     let test = k .test .ensures in
@@ -114,7 +114,7 @@ extend-returns t c =
     let a = z .args in
     let s = product (a .m) (a .source .now) in
     let r = product (a .n) (a .target .now) in
-    c .no-map .ensures ∙ done-bound s (a .m) r (a .n) (a .scratch .now) (a .after .now) (a .tight) (a .t10) (z .pre .1 .1) (a .counting) (a .limit) (c .before .before .if1 .taken) (c .before .if2 .taken)
+    c .no-map .ensures ∙ done-bound s (a .m) r (a .n) (a .scratch .now) (a .after .now) (a .tight) (a .t9) (z .pre .1 .1) (a .limit) (c .before .before .if1 .taken) (c .before .if2 .taken)
 
 extend-returns-2 : (t : ℕ) → extend-lts.Need-returns-2 (calls t) (extend-at t) extend.Post extend-Inv-loop extend-μ-loop
 extend-returns-2 t c =
@@ -122,13 +122,13 @@ extend-returns-2 t c =
     let a = z .args in
     let s = product (a .m) (a .source .now) in
     let r = product (a .n) (a .target .now) in
-    done-found s (a .m) r (a .n) (a .scratch .now) (a .after .now) (a .tight) (a .t10) (z .pre .1 .1) (a .counting) (a .limit) (c .before .before .if1 .taken) (c .before .if2 .left)
+    done-found s (a .m) r (a .n) (a .scratch .now) (a .after .now) (a .tight) (a .t9) (z .pre .1 .1) (a .limit) (c .before .before .if1 .taken) (c .before .if2 .left)
 
 extend-shared-slice-read-low : (t : ℕ) → extend-lts.Need-shared-slice-read-low (calls t) (extend-at t) extend.Post extend-Inv-loop extend-μ-loop
 extend-shared-slice-read-low t c = let b = c .before .before .before .before .before .before .before .pre .1 .1 .bound in let e = c .before .before .if1 .left in omega arith
 
 extend-cast-low : (t : ℕ) → extend-lts.Need-cast-low (calls t) (extend-at t) extend.Post extend-Inv-loop extend-μ-loop
-extend-cast-low t c = omega (arith, c .shared-slice-known5 .given (c .before .before .before .before .before .before .before .args .t10 .len))
+extend-cast-low t c = omega (arith, c .shared-slice-known5 .given (c .before .before .before .before .before .before .before .args .t9 .len))
 
 extend-loop-holds : (t : ℕ) → extend-lts.Need-loop-holds (calls t) (extend-at t) extend.Post extend-Inv-loop extend-μ-loop
 extend-loop-holds t c =
@@ -136,7 +136,7 @@ extend-loop-holds t c =
     let a = z .args in
     let s = product (a .m) (a .source .now) in
     let r = product (a .n) (a .target .now) in
-    (omega arith, omega arith, ⊎-elim (λ w. w .2 ∙ rw (w .0 .taken)) (λ w. w .1 ∙ rw (w .0 .left)) (c .if3 .came), ap (within (a .counting) (a .limit)) (begins s (a .m) r (a .n) (a .scratch .now) (a .after .now) (a .tight) (a .t10) (z .pre .1 .1) (c .before .if1 .left)))
+    (omega arith, omega arith, ⊎-elim (λ w. w .2 ∙ rw (w .0 .taken)) (λ w. w .1 ∙ rw (w .0 .left)) (c .if3 .came), ap (within (a .limit)) (begins s (a .m) r (a .n) (a .scratch .now) (a .after .now) (a .tight) (a .t9) (z .pre .1 .1) (c .before .if1 .left)))
 
 extend-add-open : (t : ℕ) → extend-lts.Need-add-open (calls t) (extend-at t) extend.Post extend-Inv-loop extend-μ-loop
 extend-add-open t c = let m = c .before .before .before .before .before .before .before .before .before .before .pre .1 .0 .0 .order in let e = c .before .before .before .before .before .if1 .left in omega arith
@@ -151,7 +151,7 @@ extend-open-requires t c κs =
     let n = z .pre .1 .0 .1 .order in
     let e = c .before .before .before .before .before .if1 .left in
     let test = c .before .before .loop-test .taken in
-    ((omega arith, (c .before .before .before .loop .inv .0, omega arith), n .1), row-marked s (a .m) r (a .n) (a .scratch .now) (a .after .now) (a .tight) (a .t10) (z .pre .1 .1) e)
+    ((omega arith, (c .before .before .before .loop .inv .0, omega arith), n .1), row-marked s (a .m) r (a .n) (a .scratch .now) (a .after .now) (a .tight) (a .t9) (z .pre .1 .1) e)
 
 extend-pay-requires : (t : ℕ) → extend-lts.Need-pay-requires (calls t) (extend-at t) extend.Post extend-Inv-loop extend-μ-loop
 extend-pay-requires t c κs = search needs
@@ -168,7 +168,7 @@ extend-passes-with-requires : (t : ℕ) → extend-lts.Need-passes-with-requires
 extend-passes-with-requires t c κs =
     let k = c .before .before .before .before .before .before .before .before .before in
     let a = start t k .args in
-    let p = a .t10 in
+    let p = a .t9 in
     let T = turn t k in
     let holds = T .ready .holds in
     (start t k .pre .1 .0, ((as-trial (a .n) (p .image) (p .used) (p .len) (holds .placing) (k .before .before .before .before .loop .x) (T .element) (omega arith), T .room, unused T (c .before .before .before .before .before .before .before .before .if4 .taken)), (holds .tracks, T .ready .passed)))
@@ -193,7 +193,7 @@ extend-test-requires t c κs =
     let more = place .ensures .1 .0 in
     let len = more .2 in
     let constraints = place .ensures .1 .1 in
-    (z .pre .1 .0, ((place .ensures .0, omega arith), (handed-on s r (a .t10) (place .result) (more .2) (more .1) (constraints .0) (constraints .1) (T .ready .holds .tracks), handed-passes s r (a .t10) (place .result) (more .2) (more .1) (T .ready .passed))))
+    (z .pre .1 .0, ((place .ensures .0, omega arith), (handed-on s r (a .t9) (place .result) (more .2) (more .1) (constraints .0) (constraints .1) (T .ready .holds .tracks), handed-passes s r (a .t9) (place .result) (more .2) (more .1) (T .ready .passed))))
 
 extend-extend-requires : (t : ℕ) → extend-lts.Need-extend-requires (calls t) (extend-at t) extend.Post extend-Inv-loop extend-μ-loop
 extend-extend-requires t c κs =
@@ -208,7 +208,7 @@ extend-extend-requires t c κs =
     let v = tested t w in
     let one = v .one-more in
     let same = v .same-length in
-    (subst (λ (j : ℕ). z .args .m - w .test .result .map .len < j) (z .pre .0) (omega arith), (z .pre .1 .0, onward T o (y .result .left) p (w .before .place .result) (w .test .result .map) (w .test .result .ok) v (c .if7 .taken) (w .test .ensures .1 .0)))
+    (subst (λ (j : ℕ). z .args .m - w .test .result .partial .len < j) (z .pre .0) (omega arith), (z .pre .1 .0, onward T o (y .result .left) p (w .before .place .result) (w .test .result .partial) (w .test .result .ok) v (c .if7 .taken) (w .test .ensures .1 .0)))
 
 extend-returns-4 : (t : ℕ) → extend-lts.Need-returns-4 (calls t) (extend-at t) extend.Post extend-Inv-loop extend-μ-loop
 extend-returns-4 t c =
@@ -220,7 +220,7 @@ extend-returns-4 t c =
     let p = paid (y .result .enough) (y .result .left) _ (y .ensures) (w .before .before .before .before .before .before .before .before .before .if5 .left) in
     let o = w .before .before .before .before .before .before .before .before .before .before .before .before .if4 .taken in
     let i = c .before .extend in
-    i .ensures ∙ halt T o (y .result .left) p (w .before .place .result) (w .test .result .map) (w .test .result .ok) (tested t w) (c .before .before .if7 .taken) (ap (λ (r : Outcome). r .stopped) (sym (i .ensures)) ∙ c .if8 .taken)
+    i .ensures ∙ halt T o (y .result .left) p (w .before .place .result) (w .test .result .partial) (w .test .result .ok) (tested t w) (c .before .before .if7 .taken) (ap (λ (r : Outcome). r .stopped) (sym (i .ensures)) ∙ c .if8 .taken)
 
 extend-returns-5 : (t : ℕ) → extend-lts.Need-returns-5 (calls t) (extend-at t) extend.Post extend-Inv-loop extend-μ-loop
 extend-returns-5 t c =
@@ -232,7 +232,7 @@ extend-returns-5 t c =
     let p = paid (y .result .enough) (y .result .left) _ (y .ensures) (w .before .before .before .before .before .before .before .before .before .if5 .left) in
     let o = w .before .before .before .before .before .before .before .before .before .before .before .before .if4 .taken in
     let i = c .before .before .extend in
-    i .ensures ∙ found T o (y .result .left) p (w .before .place .result) (w .test .result .map) (w .test .result .ok) (tested t w) (c .before .before .before .if7 .taken) (ap (λ (r : Outcome). r .ok) (sym (i .ensures)) ∙ c .if9 .taken)
+    i .ensures ∙ found T o (y .result .left) p (w .before .place .result) (w .test .result .partial) (w .test .result .ok) (tested t w) (c .before .before .before .if7 .taken) (ap (λ (r : Outcome). r .ok) (sym (i .ensures)) ∙ c .if9 .taken)
 
 extend-add-x : (t : ℕ) → extend-lts.Need-add-x (calls t) (extend-at t) extend.Post extend-Inv-loop extend-μ-loop
 extend-add-x t c = let n = c .before .before .before .before .before .before .before .before .before .before .before .before .pre .1 .0 .1 .order in let t = c .before .before .before .before .loop-test .taken in omega arith
@@ -253,9 +253,9 @@ extend-loop-again t c =
           (λ w.
           let more = w .11 .ensures .1 .0 in
           let test = w .12 .ensures in
-          let v : Verdict _ _ _ _ (w .11 .result) (w .12 .result .map) (w .12 .result .ok) = record { longer = more .0; one-more = more .2; says = test .0; same-images = test .1 .1 .0; same-length = test .1 .1 .1 } in
+          let v : Verdict _ _ _ _ (w .11 .result) (w .12 .result .partial) (w .12 .result .ok) = record { longer = more .0; one-more = more .2; says = test .0; same-images = test .1 .1 .0; same-length = test .1 .1 .1 } in
           let r = w .14 in
-          fail T (w .0 .taken) (w .1 .result .left) (paid (w .1 .result .enough) (w .1 .result .left) _ (w .1 .ensures) (w .3 .left)) (w .11 .result) (w .12 .result .map) (w .12 .result .ok) v (w .13 .taken) (ap (λ (q : Outcome). q .stopped) (sym (r .ensures)) ∙ w .15 .left) (ap (λ (q : Outcome). q .ok) (sym (r .ensures)) ∙ w .16 .left)
+          fail T (w .0 .taken) (w .1 .result .left) (paid (w .1 .result .enough) (w .1 .result .left) _ (w .1 .ensures) (w .3 .left)) (w .11 .result) (w .12 .result .partial) (w .12 .result .ok) v (w .13 .taken) (ap (λ (q : Outcome). q .stopped) (sym (r .ensures)) ∙ w .15 .left) (ap (λ (q : Outcome). q .ok) (sym (r .ensures)) ∙ w .16 .left)
           ∙ rw (w .17, ap (λ (q : Outcome). q .left) (r .ensures)))
           (⊎-elim
           (λ w. refuse T (w .0 .taken) (w .1 .result .left) (paid (w .1 .result .enough) (w .1 .result .left) _ (w .1 .ensures) (w .3 .left)) (ap (passes _ _) (sym (w .11 .ensures .1 .0 .0)) ∙ sym (w .12 .ensures .0) ∙ w .13 .left) ∙ rw (w .14))
@@ -275,7 +275,7 @@ extend-returns-6 t c =
     let s = product (a .m) (a .source .now) in
     let r = product (a .n) (a .target .now) in
     let l = c .before .before .loop in
-    c .no-map3 .ensures ∙ ends s (a .m) r (a .n) (a .scratch .now) (a .after .now) (a .tight) (a .t10) (z .pre .1 .1) (c .before .before .before .before .if1 .left) (a .counting) (a .limit) (l .left) (l .x) (c .before .loop-test .left) (l .inv .3)
+    c .no-map3 .ensures ∙ ends s (a .m) r (a .n) (a .scratch .now) (a .after .now) (a .tight) (a .t9) (z .pre .1 .1) (c .before .before .before .before .if1 .left) (a .limit) (l .left) (l .x) (c .before .loop-test .left) (l .inv .3)
 
 pub +extend-spec : {M : Type 1} → statement M
 +extend-spec = close μ-extend λ t. extend-lts.spec (calls t)

@@ -1,6 +1,5 @@
--- `find_within` meets its contract: it searches on from nothing placed, with its trials counted. Assumes nothing.
+-- `find_within` meets its contract: it searches on from nothing placed, within the limit. Assumes nothing.
 use mathlib.Core.Path.{_≡_, ap, ap₂, _∙_}
-use mathlib.Core.Bool.{true}
 use Prim.Native.Nat.{ℕ, _-_}
 use native.Mathlib.Omega.{arith}
 use borrow.Author.Needs.{needs}
@@ -33,7 +32,7 @@ returns c =
     let p = c .before .new .result in
     let len = c .before .new .ensures .0 in
     c .extend .ensures
-    ∙ ap (λ w. outcomeOf (within true (a .limit) w)) (ap₂ (counted s t (marked (a .n) (a .scratch .now)) (bounded (a .next) (a .after .now)) (a .n)) (let e : a .m - p .len ≡ a .m = omega arith in e) (ap (λ (k : ℕ). take k (p .image)) len))
+    ∙ ap (λ w. outcomeOf (within (a .limit) w)) (ap₂ (counted s t (marked (a .n) (a .scratch .now)) (bounded (a .next) (a .after .now)) (a .n)) (let e : a .m - p .len ≡ a .m = omega arith in e) (ap (λ (k : ℕ). take k (p .image)) len))
 
 pub find-within-spec : {M : Type 1} → statement M
 find-within-spec = tie.close (tie.spec new-requires extend-requires returns)

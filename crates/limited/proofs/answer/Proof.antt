@@ -31,7 +31,7 @@ returns c =
     let z = c .before .before .before .before .before .before .before .before .before .before in
     let o = c .before .order-fits in
     let w = answer-unfit (kindOf (z .args .kind)) (z .args .limit) (lent z) (passes z) (sym (o .ensures) ∙ not-true (o .result) (c .if1 .taken)) in
-    (w .says, (w .map, c .before .before .before .before .fill .ensures ∙ w .scratch))
+    (w .says, (w .mapBytes, c .before .before .before .before .fill .ensures ∙ w .scratch))
 
 find-requires : tie.Need-find-requires
 find-requires c κs = search needs
@@ -51,7 +51,7 @@ returns-2 c =
     let filled = k .before .before .before .before .before .before .before .fill .ensures in
     let fits = sym (o .ensures) ∙ not-false (o .result) (k .before .before .before .if1 .left) in
     let w = answer-stopped (kindOf (z .args .kind)) (z .args .limit) (lent z) (passes z) fits _ filled (f .result) (f .ensures) (c .if2 .taken) in
-    (w .says, (w .map, filled ∙ w .scratch))
+    (w .says, (w .mapBytes, filled ∙ w .scratch))
 
 sub-trials : tie.Need-sub-trials
 sub-trials c =
@@ -78,7 +78,7 @@ returns-3 c =
     let filled = k .before .before .before .before .before .before .before .fill .ensures in
     let fits = sym (o .ensures) ∙ not-false (o .result) (k .before .before .before .if1 .left) in
     let w = answer-nothing (kindOf (z .args .kind)) (z .args .limit) (lent z) (passes z) fits _ filled (f .result) (f .ensures) (c .before .before .before .if2 .left) (not-true (f .result .ok) (c .if3 .taken)) in
-    (w .says, (w .map, filled ∙ w .scratch))
+    (w .says, (w .mapBytes, filled ∙ w .scratch))
 
 write-map-requires : tie.Need-write-map-requires
 write-map-requires c κs =
@@ -106,7 +106,7 @@ returns-4 c =
     let filled = k .before .before .before .before .before .before .before .fill .ensures in
     let fits = sym (o .ensures) ∙ not-false (o .result) (k .before .before .before .if1 .left) in
     let w = answer-found (kindOf (z .args .kind)) (z .args .limit) (lent z) (passes z) fits _ filled (f .result) (f .ensures) (c .before .before .before .before .before .before .before .before .before .if2 .left) (not-false (f .result .ok) (c .before .before .before .before .before .before .if3 .left)) in
-    (w .says, (c .before .before .write-map .ensures ∙ w .map, filled ∙ w .scratch))
+    (w .says, (c .before .before .write-map .ensures ∙ w .mapBytes, filled ∙ w .scratch))
 
 pub answer-spec : {M : Type 1} → statement M
 answer-spec =

@@ -1,6 +1,5 @@
 -- `find` meets its contract: each kind has its own way to meet the target. Assumes nothing.
 use mathlib.Core.Path.{ap, sym, _∙_}
-use mathlib.Core.Bool.{true}
 use mathlib.Core.List.{[]}
 use borrow.Author.Needs.{needs}
 use denote.Ref.{now}
@@ -37,7 +36,7 @@ find-turned-requires c κs = search needs
 abbrev meets : tie.Start → Kind → Outcome
 meets z k =
     let a = z .args in
-    outcomeOf (within true (a .limit) (counted (product (a .m) (now (a .source))) (facing (kindOf k) (a .n) (now (a .target))) (marked (a .n) (now (a .scratch))) first (a .n) (a .m) []))
+    outcomeOf (within (a .limit) (counted (product (a .m) (now (a .source))) (facing (kindOf k) (a .n) (now (a .target))) (marked (a .n) (now (a .scratch))) first (a .n) (a .m) []))
 
 returns : tie.Need-returns
 returns c = c .find-within .ensures ∙ ap (meets (c .before .before .before .before .before .before .before)) (sym (c .before .enum-told .given .1))

@@ -4,7 +4,6 @@ use Prim.Native.Nat.{ℕ, _*_, _≤_}
 use native.Mathlib.Omega.{arith}
 use borrow.Author.Needs.{needs}
 use denote.Ref.{now}
-use mathlib.Core.Bool.{true}
 use mathlib.Core.List.{List, []}
 use lib.ListN.{length, take, replicate}
 use lib.Seq.{length-take-le}
@@ -67,7 +66,7 @@ returns c =
     let t = c .before .before .before in
     let a = start t .args in
     c .find-within .ensures
-    ∙ ap (λ (l : List ℕ). outcomeOf (within true (a .limit) (counted (product (a .m) (now (a .source))) (product (n t) l) (marked (n t) (now (a .scratch))) first (n t) (a .m) []))) (front t)
+    ∙ ap (λ (l : List ℕ). outcomeOf (within (a .limit) (counted (product (a .m) (now (a .source))) (product (n t) l) (marked (n t) (now (a .scratch))) first (n t) (a .m) []))) (front t)
 
 pub find-turned-spec : {M : Type 1} → statement M
 find-turned-spec =

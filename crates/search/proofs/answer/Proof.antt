@@ -39,7 +39,7 @@ returns c =
     let o = c .before .order-fits in
     let e = answer-unfit kind (a .next) l (accepted-closed (a .m) (a .source .now) (z .pre .0 .0)) (z .pre .0 .1) (sym (o .ensures) ∙ not-true (o .result) (c .if1 .taken)) in
     let w = left kind request l (passes z) none e in
-    (w .says, (w .map, c .before .before .before .before .fill .ensures ∙ w .scratch))
+    (w .says, (w .mapBytes, c .before .before .before .before .fill .ensures ∙ w .scratch))
 
 find-requires : tie.Need-find-requires
 find-requires c κs = search needs
@@ -62,7 +62,7 @@ returns-2 c =
     let filled = c .before .before .before .before .before .before .before .before .before .fill .ensures in
     let e = answer-none kind (a .next) l (accepted-closed (a .m) (a .source .now) (z .pre .0 .0)) (z .pre .0 .1) (sym (o .ensures) ∙ not-false (o .result) (c .before .before .before .before .before .if1 .left)) _ filled (f .result) (f .ensures) (not-true (f .result .ok) (c .if2 .taken)) in
     let w = left kind request l (passes z) none e in
-    (w .says, (w .map, filled ∙ w .scratch))
+    (w .says, (w .mapBytes, filled ∙ w .scratch))
 
 write-map-requires : tie.Need-write-map-requires
 write-map-requires c κs = search needs
@@ -86,7 +86,7 @@ returns-3 c =
     let ok = not-false (f .result .ok) (c .before .before .before .before .before .before .if2 .left) in
     let e = answer-some kind (a .next) l (accepted-closed (a .m) (a .source .now) (z .pre .0 .0)) (z .pre .0 .1) (sym (o .ensures) ∙ not-false (o .result) (c .before .before .before .before .before .before .before .before .before .before .before .if1 .left)) _ filled (f .result) (f .ensures) ok in
     let w = left kind request l (passes z) (some (take (a .m) (f .result .image))) e in
-    (w .says, (c .before .before .write-map .ensures ∙ w .map, filled ∙ w .scratch))
+    (w .says, (c .before .before .write-map .ensures ∙ w .mapBytes, filled ∙ w .scratch))
 
 pub answer-spec : {M : Type 1} → statement M
 answer-spec =

@@ -19,8 +19,8 @@ module _ (s : tie.Start) where
   before-long : length (s .args .before) ≡ 5
   before-long = search needs
 
-  map-room : s .args .m ≤ length (s .args .before)
-  map-room = let e = before-long in let h = s .pre .1 .1 .0 in omega arith
+  buffer-room : s .args .m ≤ length (s .args .before)
+  buffer-room = let e = before-long in let h = s .pre .1 .1 .0 in omega arith
 
 module _ (c : tie.Joined1) where
   abbrev start : tie.Start
@@ -49,7 +49,7 @@ module _ (c : tie.After-next-map) where
       let a = s .args in
       second-says (a .isomorphisms) (a .next) (now (a .source)) (a .m) (now (a .target)) (a .n) (a .before) (s .pre .0) (s .pre .1 .0) (s .pre .1 .1 .0) (s .pre .1 .1 .1) (before-long s) (joined .if1 .after) (after-is joined) (c .next-map .result) (c .next-map .ensures .0)
 
-  left : c .next-map .last .1 .1 .1 .1 .1 .1 .0 ++ drop (start joined .args .m) (start joined .args .before) ≡ called (start joined .args .isomorphisms) (start joined .args .next) (now (start joined .args .source)) (start joined .args .m) (now (start joined .args .target)) (start joined .args .n) (start joined .args .before) .map ++ drop (start joined .args .m) (start joined .args .before)
+  left : c .next-map .last .1 .1 .1 .1 .1 .1 .0 ++ drop (start joined .args .m) (start joined .args .before) ≡ called (start joined .args .isomorphisms) (start joined .args .next) (now (start joined .args .source)) (start joined .args .m) (now (start joined .args .target)) (start joined .args .n) (start joined .args .before) .mapBytes ++ drop (start joined .args .m) (start joined .args .before)
   left =
       let s = start joined in
       let a = s .args in
@@ -61,18 +61,18 @@ array-share-prefix-after c = after-room c
 slice-aggregate-next-map : tie.Need-slice-aggregate-next-map
 slice-aggregate-next-map c = sym (length-take-le _ _ (after-room (c .before)))
 
-array-borrow-prefix-map : tie.Need-array-borrow-prefix-map
-array-borrow-prefix-map c = search needs
+array-borrow-prefix-buffer : tie.Need-array-borrow-prefix-buffer
+array-borrow-prefix-buffer c = search needs
 
 slice-aggregate-next-map-2 : tie.Need-slice-aggregate-next-map-2
-slice-aggregate-next-map-2 c = sym (length-take-le _ _ (map-room (start (c .before .before))))
+slice-aggregate-next-map-2 c = sym (length-take-le _ _ (buffer-room (start (c .before .before))))
 
 next-map-requires : tie.Need-next-map-requires
 next-map-requires c κs =
     let s = start (c .before .before) in
     let few = s .pre .1 .1 .0 in
     let after = length-take-le _ _ (after-room (c .before .before)) in
-    (s .pre .0 .filled, (s .pre .1 .0 .filled, (omega arith, (after, length-take-le _ _ (map-room s)))))
+    (s .pre .0 .filled, (s .pre .1 .0 .filled, (omega arith, (after, length-take-le _ _ (buffer-room s)))))
 
 returns : tie.Need-returns
 returns c =
@@ -90,7 +90,7 @@ expected-spec =
     (tie.spec
     array-share-prefix-after
     slice-aggregate-next-map
-    array-borrow-prefix-map
+    array-borrow-prefix-buffer
     slice-aggregate-next-map-2
     next-map-requires
     returns

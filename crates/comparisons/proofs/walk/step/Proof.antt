@@ -16,17 +16,17 @@ module _ (s : tie.Start) where
   before-long : length (s .args .before) ≡ 5
   before-long = search needs
 
-  map-room : s .args .m ≤ length (s .args .before)
-  map-room = let e = before-long in let h = s .pre .1 .1 .0 in omega arith
+  buffer-room : s .args .m ≤ length (s .args .before)
+  buffer-room = let e = before-long in let h = s .pre .1 .1 .0 in omega arith
 
 kind-of-requires : tie.Need-kind-of-requires
 kind-of-requires c κs = search needs
 
-array-borrow-prefix-map : tie.Need-array-borrow-prefix-map
-array-borrow-prefix-map c = search needs
+array-borrow-prefix-buffer : tie.Need-array-borrow-prefix-buffer
+array-borrow-prefix-buffer c = search needs
 
 slice-aggregate-search : tie.Need-slice-aggregate-search
-slice-aggregate-search c = sym (length-take-le _ _ (map-room (c .before .before .before .before)))
+slice-aggregate-search c = sym (length-take-le _ _ (buffer-room (c .before .before .before .before)))
 
 slice-aggregate-search-2 : tie.Need-slice-aggregate-search-2
 slice-aggregate-search-2 c = search needs
@@ -72,7 +72,7 @@ step-spec =
     tie.close
     (tie.spec
     kind-of-requires
-    array-borrow-prefix-map
+    array-borrow-prefix-buffer
     slice-aggregate-search
     slice-aggregate-search-2
     search-requires

@@ -16,10 +16,10 @@ use Rattle.comparisons.proofs.walk.walk.Statement.{statement}
 use Rattle.comparisons.proofs.walk.walk.Tie as tie
 
 abbrev Inv-loop : tie.InvT-loop
-Inv-loop isomorphisms source m target n tally₀ map₀ tally map = (agreed (suc (laterMaps isomorphisms source m target n map)) tally ≡ agreed (suc (laterMaps isomorphisms source m target n map₀)) tally₀) × (length map ≡ 5)
+Inv-loop isomorphisms source m target n tally₀ buffer₀ tally buffer = (agreed (suc (laterMaps isomorphisms source m target n buffer)) tally ≡ agreed (suc (laterMaps isomorphisms source m target n buffer₀)) tally₀) × (length buffer ≡ 5)
 
 abbrev μ-loop : tie.MeasureT-loop
-μ-loop isomorphisms source m target n tally₀ map₀ tally map = laterMaps isomorphisms source m target n map
+μ-loop isomorphisms source m target n tally₀ buffer₀ tally buffer = laterMaps isomorphisms source m target n buffer
 
 not-true : (b : Bool) → not b ≡ true → b ≡ false
 not-true true e = let z : _≡_ {A = ℕ} 0 1 = cc in let w : ⊥ = omega arith in absurd w
@@ -36,16 +36,16 @@ module _ (c : tie.After-counted2 Inv-loop μ-loop) where
   abbrev start-of : tie.Start Inv-loop μ-loop
   start-of = at-loop .before .before .before .before .before
 
-  long : length (at-loop .loop .map) ≡ 5
+  long : length (at-loop .loop .buffer) ≡ 5
   long = at-loop .loop .inv .1
 
   -- A map was found, so that one less is left.
-  one-less : not (c .before .step2 .result .found) ≡ false → laterMaps (start-of .args .isomorphisms) (now (start-of .args .source)) (start-of .args .m) (now (start-of .args .target)) (start-of .args .n) (at-loop .loop .map)
-      ≡ suc (laterMaps (start-of .args .isomorphisms) (now (start-of .args .source)) (start-of .args .m) (now (start-of .args .target)) (start-of .args .n) (c .before .step2 .result .map))
+  one-less : not (c .before .step2 .result .found) ≡ false → laterMaps (start-of .args .isomorphisms) (now (start-of .args .source)) (start-of .args .m) (now (start-of .args .target)) (start-of .args .n) (at-loop .loop .buffer)
+      ≡ suc (laterMaps (start-of .args .isomorphisms) (now (start-of .args .source)) (start-of .args .m) (now (start-of .args .target)) (start-of .args .n) (c .before .step2 .result .buffer))
   one-less h =
       let a = start-of .args in
       let p = start-of .pre in
-      left-found (a .isomorphisms) (now (a .source)) (a .m) (now (a .target)) (a .n) (at-loop .loop .map) (p .0) (p .1 .0) (p .1 .1 .0) (p .1 .1 .1) long (sym (c .before .step2 .ensures .1 .0) ∙ not-false _ h)
+      left-found (a .isomorphisms) (now (a .source)) (a .m) (now (a .target)) (a .n) (at-loop .loop .buffer) (p .0) (p .1 .0) (p .1 .1 .0) (p .1 .1 .1) long (sym (c .before .step2 .ensures .1 .0) ∙ not-false _ h)
       ∙ ap (λ (l : List ℕ). suc (laterMaps (a .isomorphisms) (now (a .source)) (a .m) (now (a .target)) (a .n) l)) (sym (c .before .step2 .ensures .1 .1 .0))
 
 step-requires : tie.Need-step-requires Inv-loop μ-loop
@@ -67,7 +67,7 @@ returns : tie.Need-returns Inv-loop μ-loop
 returns c =
     let w = c .before .before in
     let z = start-of w in
-    walk-ends _ _ _ _ _ _ (at-loop w .loop .inv .0) (w .counted2 .ensures) (w .before .step2 .ensures .0) (left-none (z .args .isomorphisms) (now (z .args .source)) (z .args .m) (now (z .args .target)) (z .args .n) (at-loop w .loop .map) (z .pre .0) (z .pre .1 .0) (z .pre .1 .1 .0) (z .pre .1 .1 .1) (long w) (sym (w .before .step2 .ensures .1 .0) ∙ not-true _ (c .if1 .taken))) _ _ (at-loop w .before .counted .ensures) (at-loop w .before .before .step .ensures .0)
+    walk-ends _ _ _ _ _ _ (at-loop w .loop .inv .0) (w .counted2 .ensures) (w .before .step2 .ensures .0) (left-none (z .args .isomorphisms) (now (z .args .source)) (z .args .m) (now (z .args .target)) (z .args .n) (at-loop w .loop .buffer) (z .pre .0) (z .pre .1 .0) (z .pre .1 .1 .0) (z .pre .1 .1 .1) (long w) (sym (w .before .step2 .ensures .1 .0) ∙ not-true _ (c .if1 .taken))) _ _ (at-loop w .before .counted .ensures) (at-loop w .before .before .step .ensures .0)
 
 loop-less : tie.Need-loop-less Inv-loop μ-loop
 loop-less c =
