@@ -124,7 +124,7 @@ module _ (n : ℕ) (cells : List ℕ) (t : Filled n cells) (a : ℕ) (h : Elemen
   unfolding indexPeriod
   index-period-fits = (index-fits, (period-fits, tt))
 
-  profile-fits : ProfileFits (profile n s a)
+  pub profile-fits : ProfileFits (profile n s a)
   unfolding profile
   profile-fits = (index-period-fits, (frequency-fits, (diagonal-fits, (row-fits, (column-fits, (commuting-fits, tt))))))
 

@@ -71,7 +71,7 @@ fn index_period_keys(cells: &[u8], n: usize) -> [u64; 120]
 }
 
 // The profile key of every element; element a's stands at place a - 1.
-fn profile_keys(cells: &[u8], n: usize) -> [u64; 120]
+pub fn profile_keys(cells: &[u8], n: usize) -> [u64; 120]
     requires { ⌜ Filled n (now cells) ⌝ }
     ensures answer { λ r. ⌜ r ≡ perElement n (λ a. profileKey (profile n (product n (now (cells .entry))) a)) ⌝ }
 {
@@ -144,8 +144,8 @@ fn marks_byte(source: &[u64; 120], m: usize, target: &[u64; 120], n: usize, plac
     byte as u8
 }
 
-// Marks the pairs of elements with equal keys.
-fn fill(source: &[u64; 120], m: usize, target: &[u64; 120], n: usize, scratch: &mut [u8])
+// Writes the marks of the pairs of elements with equal keys.
+pub fn fill_equal(source: &[u64; 120], m: usize, target: &[u64; 120], n: usize, scratch: &mut [u8])
     requires { ⌜ (m ≤ 120) × (n ≤ 120) ⌝ }
     requires { ⌜ scratchSize m n ≤ length (now scratch) ⌝ }
     ensures scratch { λ _. ⌜ now (scratch .exit) ≡ scratchAfter m n (sameKey (now (source .entry)) (now (target .entry))) (now (scratch .entry)) ⌝ }
@@ -166,7 +166,7 @@ pub fn fill_embeddings(source: &[u8], m: usize, target: &[u8], n: usize, scratch
 {
     let source_keys = index_period_keys(source, m);
     let target_keys = index_period_keys(target, n);
-    fill(&source_keys, m, &target_keys, n, scratch);
+    fill_equal(&source_keys, m, &target_keys, n, scratch);
 }
 
 // Writes the marks of the candidates for isomorphisms: the pairs of elements with equal profile.
@@ -177,5 +177,5 @@ pub fn fill_isomorphisms(source: &[u8], m: usize, target: &[u8], n: usize, scrat
 {
     let source_keys = profile_keys(source, m);
     let target_keys = profile_keys(target, n);
-    fill(&source_keys, m, &target_keys, n, scratch);
+    fill_equal(&source_keys, m, &target_keys, n, scratch);
 }

@@ -25,12 +25,11 @@ use Rattle.backtrack.specs.declared.Found.{Found}
 use Rattle.backtrack.specs.State.{foundIn, bounded}
 use Rattle.backtrack.proofs.Steps.{lowest}
 use Rattle.backtrack.proofs.Extending.{none-found}
-use Rattle.rows.specs.Rows.{has, Forced}
+use Rattle.rows.specs.Rows.{has}
 use Rattle.narrowing.specs.declared.Partial.{Partial}
 use Rattle.narrowing.specs.Rows.{Begins, Blank}
 use Rattle.narrowing.specs.State.{prefix, rowsIn, allKeeps, Called, Placing, Reached}
 use Rattle.narrowing.proofs.Kept.{each-more, begins-less, keeps-embedding}
-use Rattle.narrowing.proofs.Narrowed.{forced-kept}
 use Rattle.narrowing.proofs.Steps.{whole, begin, end, skip, too-early, back, hit, still}
 
 -- ---- images placed
@@ -152,13 +151,10 @@ pub record Turn (s : Product) (m : ℕ) (t : Product) (n : ℕ) (scratch after :
   pub opened : o ≡ (leb low x && (marked n scratch (p .len + 1) x && has (p .lo) (p .hi) (p .len + 1) x))
 
 -- x placed, and tested.
-pub record Verdict (s : Product) (m : ℕ) (t : Product) (n : ℕ) (p : Partial) (x : ℕ) (placed : Partial) (r : Partial) : Type 0 where
-  pub forced : Forced (p .len + 1) x (rowsIn p) (rowsIn placed)
-  pub longer : placed .image ≡ set (p .image) (p .len) x
-  pub one-more : placed .len ≡ p .len + 1
-  pub keeps : (f : List ℕ) → Embedding m s n t f → Begins f (placed .image) (placed .len) → Among m (rowsIn placed) f → (r .ok ≡ true) × Among m (rowsIn r) f
-  pub same-images : r .image ≡ placed .image
-  pub same-length : r .len ≡ placed .len
+pub record Verdict (s : Product) (m : ℕ) (t : Product) (n : ℕ) (p : Partial) (x : ℕ) (r : Partial) : Type 0 where
+  pub keeps : (f : List ℕ) → Embedding m s n t f → Begins f (p .image) (p .len) → at f (p .len + 1) ≡ x → Among m (rowsIn p) f → (r .ok ≡ true) × Among m (rowsIn r) f
+  pub longer : r .image ≡ set (p .image) (p .len) x
+  pub one-more : r .len ≡ p .len + 1
 
 module _ {s : Product} {m : ℕ} {t : Product} {n : ℕ} {scratch after : List ℕ} {tight : Bool} {p : Partial} {low x : ℕ} {o : Bool} (T : Turn s m t n scratch after tight p low x o) where
   abbrev longer : List ℕ
@@ -211,15 +207,10 @@ module _ {s : Product} {m : ℕ} {t : Product} {n : ℕ} {scratch after : List �
           (sym (ap (marked n scratch (p .len + 1)) (goes-on q)) ∙ among (p .len + 1) next-element)
           (sym (ap (has (p .lo) (p .hi) (p .len + 1)) (goes-on q)) ∙ held (p .len + 1) next-element))) h) e
 
-  -- x placed.
-  module _ (placed : Partial) (eq : placed .image ≡ set (p .image) (p .len) x) (len : placed .len ≡ p .len + 1) where
-    wide : p .len < length (p .image)
-    wide = let l = T .reached .placing .long in let r = T .room in let o = T .orders in omega arith
+  wide : p .len < length (p .image)
+  wide = let l = T .reached .placing .long in let r = T .room in let o = T .orders in omega arith
 
-    pub placing : Placing n (placed .image) (placed .len)
-    placing = let r = T .room in let o = T .orders in more-placing n (p .image) (p .len) (T .reached .placing) x (T .element) (omega arith) (placed .image) (placed .len) eq len
-
-  module _ (h : o ≡ true) (placed : Partial) (r : Partial) (W : Verdict s m t n p x placed r) where
+  module _ (h : o ≡ true) (r : Partial) (W : Verdict s m t n p x r) where
     late : low ≤ x
     late = leb-true low x (and-left (leb low x) (marked n scratch (p .len + 1) x && has (p .lo) (p .hi) (p .len + 1) x) (sym (T .opened) ∙ h))
 
@@ -229,27 +220,8 @@ module _ {s : Product} {m : ℕ} {t : Product} {n : ℕ} {scratch after : List �
         let row = has (p .lo) (p .hi) (p .len + 1) x in
         and-left mark row (and-right (leb low x) (mark && row) (sym (T .opened) ∙ h))
 
-    -- A map that begins with what is placed and x, and is among the rows, passes the test, and is among the rows behind it.
-    through : (f : List ℕ) → Embedding m s n t f → Begins f (p .image) (p .len) → at f (p .len + 1) ≡ x → Among m (rowsIn p) f → (r .ok ≡ true) × Among m (rowsIn r) f
-    through f F b e among =
-        let more = T .orders in
-        W .keeps f F (each (W .longer) (W .one-more))
-        (forced-kept m s n t f F (more .0) (more .1) (rowsIn p) (rowsIn placed) (p .len + 1) x e (W .forced) among)
-      where
-        each : placed .image ≡ set (p .image) (p .len) x → placed .len ≡ p .len + 1 → Begins f (placed .image) (placed .len)
-        each eq len = each-more (p .image) (p .len) x (wide placed eq len) (placed .image) (placed .len) eq len (λ (i v : ℕ). at f i ≡ v) b e
-
-    eq : r .image ≡ set (p .image) (p .len) x
-    eq = W .same-images ∙ W .longer
-
-    len : r .len ≡ p .len + 1
-    len = W .same-length ∙ W .one-more
-
-    fits : p .len < length (p .image)
-    fits = wide placed (W .longer) (W .one-more)
-
     grown : prefix r ≡ longer
-    grown = let w = T .room in let k = T .orders in more-prefix n (p .image) (p .len) (T .reached .placing) x (T .element) (omega arith) (r .image) (r .len) eq len
+    grown = let w = T .room in let k = T .orders in more-prefix n (p .image) (p .len) (T .reached .placing) x (T .element) (omega arith) (r .image) (r .len) (W .longer) (W .one-more)
 
     -- The call for the next element.
     abbrev Inner : Option (List ℕ)
@@ -257,7 +229,7 @@ module _ {s : Product} {m : ℕ} {t : Product} {n : ℕ} {scratch after : List �
 
     inner : Inner ≡ findBehind (wanted m s n t (marked n scratch) (bounded (eqb x (lowest tight after (length (prefix p)))) after)) n (m - (p .len + 1)) longer
     inner =
-        let l = len in
+        let l = W .one-more in
         as-behind m s n t (marked n scratch) (bounded (eqb x low) after) (m - r .len) (prefix r)
         ∙ ap (λ (k : ℕ). findBehind (wanted m s n t (marked n scratch) (bounded (eqb x k) after)) n (m - r .len) (prefix r)) low-here
         ∙ ap₂ (λ (d : ℕ) (l : List ℕ). findBehind (wanted m s n t (marked n scratch) (bounded (eqb x (lowest tight after (length (prefix p)))) after)) n d l) (let e : m - r .len ≡ m - (p .len + 1) = omega arith in e) grown
@@ -266,18 +238,18 @@ module _ {s : Product} {m : ℕ} {t : Product} {n : ℕ} {scratch after : List �
     onward =
         let room = T .room in
         let o = T .orders in
-        let l = len in
+        let l = W .one-more in
         record {
-          placing = more-placing n (p .image) (p .len) (T .reached .placing) x (T .element) (omega arith) (r .image) (r .len) eq len;
+          placing = more-placing n (p .image) (p .len) (T .reached .placing) x (T .element) (omega arith) (r .image) (r .len) (W .longer) (W .one-more);
           within = omega arith;
-          marks = each-more (p .image) (p .len) x fits (r .image) (r .len) eq len (λ (i v : ℕ). marked n scratch i v ≡ true) (T .reached .marks) mine;
+          marks = each-more (p .image) (p .len) x wide (r .image) (r .len) (W .longer) (W .one-more) (λ (i v : ℕ). marked n scratch i v ≡ true) (T .reached .marks) mine;
           covers = λ f F among b.
-              let l = begins-less (p .image) (p .len) x fits (r .image) (r .len) eq len f b in
-              through f F (l .0) (l .1) (T .reached .covers f F among (l .0) .1);
+              let l = begins-less (p .image) (p .len) x wide (r .image) (r .len) (W .longer) (W .one-more) f b in
+              W .keeps f F (l .0) (l .1) (T .reached .covers f F among (l .0) .1);
           space = T .reached .space;
           bound = T .reached .bound;
           same = λ w.
-              ap (λ (k : ℕ). take k after) (len ∙ add-one (p .len) ∙ ap suc (sym size))
+              ap (λ (k : ℕ). take k after) (W .one-more ∙ add-one (p .len) ∙ ap suc (sym size))
               ∙ still m s n t (marked n scratch) after (prefix p) tight even (m - (p .len + 1)) below x (T .element) (ap (eqb x) (sym low-here) ∙ w) ∙ sym grown;
         }
 

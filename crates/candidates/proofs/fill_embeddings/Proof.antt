@@ -12,8 +12,8 @@ index-period-keys-requires c κs = search needs
 index-period-keys-requires-2 : tie.Need-index-period-keys-requires-2
 index-period-keys-requires-2 c κs = search needs
 
-fill-requires : tie.Need-fill-requires
-fill-requires c κs = search needs
+fill-equal-requires : tie.Need-fill-equal-requires
+fill-equal-requires c κs = search needs
 
 same-length : tie.Need-same-length
 same-length c = search needs
@@ -23,7 +23,7 @@ returns c =
     let targets = c .before .before .before .before .before .before in
     let sources = targets .before in
     let start = sources .before .before .before .before in
-    c .before .before .fill .ensures ∙ embedding-marks (now (start .args .scratch)) (start .pre .0 .0) (start .pre .0 .1) (sources .index-period-keys .ensures) (targets .index-period-keys2 .ensures)
+    c .before .before .fill-equal .ensures ∙ embedding-marks (now (start .args .scratch)) (start .pre .0 .0) (start .pre .0 .1) (sources .index-period-keys .ensures) (targets .index-period-keys2 .ensures)
 
 pub fill-embeddings-spec : {M : Type 1} → statement M
 fill-embeddings-spec =
@@ -31,6 +31,6 @@ fill-embeddings-spec =
     (tie.spec
     index-period-keys-requires
     index-period-keys-requires-2
-    fill-requires
+    fill-equal-requires
     same-length
     returns)

@@ -12,12 +12,11 @@ use Rattle.semigroups.proofs.Tables.{product-element}
 use Rattle.backtrack.specs.declared.Found.{Found}
 use Rattle.backtrack.proofs.Steps.{lowest}
 use Rattle.narrowing.specs.State.{Called}
-use Rattle.narrowing.proofs.Extending.{Rest, Turn, Verdict, dead, done-bound, done-none, done-found, begins, ends, row-marked, shut, placing, onward, fail, found}
+use Rattle.narrowing.proofs.Extending.{Rest, Turn, Verdict, dead, done-bound, done-none, done-found, begins, ends, row-marked, shut, onward, fail, found}
 use Rattle.narrowing.proofs.extend.Reads as extend
 use Rattle.narrowing.proofs.extend.Kinds as extend-kinds
 use Rattle.narrowing.proofs.+extend.Lts-extend as extend-lts
-use Rattle.narrowing.proofs.Partial.place.Reads as place-reads
-use Rattle.narrowing.proofs.Partial.test.Reads as test-reads
+use Rattle.narrowing.proofs.Partial.tried.Reads as tried-reads
 use Rattle.narrowing.proofs.all_keeps.Reads as all-keeps-reads
 use Rattle.narrowing.proofs.nothing.Reads as nothing-reads
 use Rattle.narrowing.proofs.open.Reads as open-reads
@@ -43,7 +42,7 @@ extend-μ-loop source m target n scratch after tight p alive at low x₀ x = n +
 -- What the calls ask and tell.
 abbrev calls : ℕ → extend-lts.Claims
 calls t =
-    (nothing-reads.Asked, nothing-reads.Learnt, all-keeps-reads.Asked, all-keeps-reads.Learnt, open-reads.Asked, open-reads.Learnt, place-reads.Asked, place-reads.Learnt, test-reads.Asked, test-reads.Learnt, extend-below t, extend.Post)
+    (nothing-reads.Asked, nothing-reads.Learnt, all-keeps-reads.Asked, all-keeps-reads.Learnt, open-reads.Asked, open-reads.Learnt, tried-reads.Asked, tried-reads.Learnt, extend-below t, extend.Post)
 
 abbrev Start : ℕ → Type 0
 Start t = extend-lts.Start (calls t) (extend-at t) extend.Post extend-Inv-loop extend-μ-loop
@@ -72,23 +71,13 @@ turn t k =
       opened = k .«open» .ensures;
     }
 
-abbrev Tested : ℕ → Type 0
-Tested t = extend-lts.After-test (calls t) (extend-at t) extend.Post extend-Inv-loop extend-μ-loop
+abbrev Tried : ℕ → Type 0
+Tried t = extend-lts.After-tried (calls t) (extend-at t) extend.Post extend-Inv-loop extend-μ-loop
 
--- What the test says, once it has answered.
-tested : (t : ℕ) (k : Tested t) → let a = start t (k .before .before .before) .args in
-    Verdict (product (a .m) (a .source .now)) (a .m) (product (a .n) (a .target .now)) (a .n) (a .t8) (k .before .before .before .before .before .before .before .before .loop .x) (k .before .place .result) (k .test .result)
-tested t k =
-    let place = k .before .place .ensures in
-    let test = k .test .ensures in
-    record {
-      forced = place .0;
-      longer = place .1 .0;
-      one-more = place .1 .1;
-      keeps = test .0;
-      same-images = test .1 .0;
-      same-length = test .1 .1;
-    }
+-- What is told of x, once it is tried.
+told : (t : ℕ) (k : Tried t) → let a = start t (k .before .before) .args in
+    Verdict (product (a .m) (a .source .now)) (a .m) (product (a .n) (a .target .now)) (a .n) (a .t8) (k .before .before .before .before .before .before .before .loop .x) (k .tried .result)
+told t k = let e = k .tried .ensures in record { keeps = e .0; longer = e .1 .0; one-more = e .1 .1 }
 
 extend-nothing-requires : (t : ℕ) → extend-lts.Need-nothing-requires (calls t) (extend-at t) extend.Post extend-Inv-loop extend-μ-loop
 extend-nothing-requires t c κs = search needs
@@ -159,39 +148,28 @@ extend-open-requires t c κs =
     let test = c .before .before .before .loop-test .taken in
     ((omega arith, (c .before .before .before .before .loop .inv .0, test), n .1), row-marked (product (a .m) (a .source .now)) (a .m) (product (a .n) (a .target .now)) (a .n) (a .scratch .now) (a .after .now) (a .tight) (a .t8) (z .pre .1 .1) e)
 
-extend-place-requires : (t : ℕ) → extend-lts.Need-place-requires (calls t) (extend-at t) extend.Post extend-Inv-loop extend-μ-loop
-extend-place-requires t c κs =
-    let T = turn t (c .before) in
-    let room = T .room in
-    let orders = T .orders in
-    (T .element, orders .1, omega arith)
-
-extend-test-requires : (t : ℕ) → extend-lts.Need-test-requires (calls t) (extend-at t) extend.Post extend-Inv-loop extend-μ-loop
-extend-test-requires t c κs =
-    let k = c .before .before in
+extend-tried-requires : (t : ℕ) → extend-lts.Need-tried-requires (calls t) (extend-at t) extend.Post extend-Inv-loop extend-μ-loop
+extend-tried-requires t c κs =
+    let k = c .before in
     let T = turn t k in
-    let room = T .room in
-    let place = c .place .ensures .1 in
-    let len = place .1 in
-    (start t k .pre .1 .0, (placing T (c .place .result) (place .0) (place .1) .images, omega arith))
+    (start t k .pre .1 .0, (T .element, T .room, T .reached .placing .long, T .reached .placing .images))
 
 extend-extend-requires : (t : ℕ) → extend-lts.Need-extend-requires (calls t) (extend-at t) extend.Post extend-Inv-loop extend-μ-loop
 extend-extend-requires t c κs =
-    let k = c .before .before .before in
+    let k = c .before .before in
     let z = start t k in
     let T = turn t k in
     let room = T .room in
-    let v = tested t c in
+    let v = told t c in
     let one = v .one-more in
-    let same = v .same-length in
-    (subst (λ (j : ℕ). z .args .m - c .test .result .len < j) (z .pre .0) (omega arith), (z .pre .1 .0, onward T (c .before .before .if6 .taken) (c .before .place .result) (c .test .result) v))
+    (subst (λ (j : ℕ). z .args .m - c .tried .result .len < j) (z .pre .0) (omega arith), (z .pre .1 .0, onward T (c .before .if6 .taken) (c .tried .result) v))
 
 extend-returns-5 : (t : ℕ) → extend-lts.Need-returns-5 (calls t) (extend-at t) extend.Post extend-Inv-loop extend-μ-loop
 extend-returns-5 t c =
     let w = c .before .before in
-    let k = w .before .before .before in
+    let k = w .before .before in
     let i = c .before .extend in
-    i .ensures ∙ found (turn t k) (w .before .before .if6 .taken) (w .before .place .result) (w .test .result) (tested t w) (ap (λ (f : Found). f .ok) (sym (i .ensures)) ∙ c .if7 .taken) (k .before .before .before .before .before .loop .inv .3)
+    i .ensures ∙ found (turn t k) (w .before .if6 .taken) (w .tried .result) (told t w) (ap (λ (f : Found). f .ok) (sym (i .ensures)) ∙ c .if7 .taken) (k .before .before .before .before .before .loop .inv .3)
 
 extend-add-x : (t : ℕ) → extend-lts.Need-add-x (calls t) (extend-at t) extend.Post extend-Inv-loop extend-μ-loop
 extend-add-x t c = let n = c .before .before .before .before .before .before .before .before .before .before .before .before .before .before .pre .1 .0 .1 .order in let t = c .before .before .before .before .before .loop-test .taken in omega arith
@@ -210,10 +188,9 @@ extend-loop-again t c =
       i .2,
       ⊎-elim
           (λ w.
-          let place = w .1 .ensures in
-          let test = w .2 .ensures in
-          let v : Verdict _ _ _ _ _ _ (w .1 .result) (w .2 .result) = record { forced = place .0; longer = place .1 .0; one-more = place .1 .1; keeps = test .0; same-images = test .1 .0; same-length = test .1 .1 } in
-          fail T (w .0 .taken) (w .1 .result) (w .2 .result) v (ap (λ (f : Found). f .ok) (sym (w .3 .ensures)) ∙ w .4 .left) (i .3))
+          let e = w .1 .ensures in
+          let v : Verdict _ _ _ _ _ _ (w .1 .result) = record { keeps = e .0; longer = e .1 .0; one-more = e .1 .1 } in
+          fail T (w .0 .taken) (w .1 .result) v (ap (λ (f : Found). f .ok) (sym (w .2 .ensures)) ∙ w .3 .left) (i .3))
           (λ w. shut T (w .left) (i .3))
           (c .if6 .came),
     )
@@ -247,8 +224,7 @@ pub +extend-spec : {M : Type 1} → statement M
     (extend-loop-holds t)
     (extend-add-open t)
     (extend-open-requires t)
-    (extend-place-requires t)
-    (extend-test-requires t)
+    (extend-tried-requires t)
     (extend-extend-requires t)
     (extend-returns-5 t)
     (extend-add-x t)

@@ -35,8 +35,8 @@ new-requires c κs = search needs
 keep-marked-requires : tie.Need-keep-marked-requires
 keep-marked-requires c κs = search needs
 
-keep-profiles-requires : tie.Need-keep-profiles-requires
-keep-profiles-requires c κs =
+keep-colours-requires : tie.Need-keep-colours-requires
+keep-colours-requires c κs =
     let z = first (c .before) in
     (subst (λ (k : ℕ). Filled k (z .args .source .now)) (c .if1 .taken) (z .pre .0 .0), z .pre .0 .1)
 
@@ -47,10 +47,10 @@ returns c =
     let e = c .before .if1 .taken in
     let new = k .before .new .ensures .0 in
     let kept = k .keep-marked .ensures .1 in
-    let w = c .keep-profiles .ensures in (
+    let w = c .keep-colours .ensures in (
       (w .1 .1 ∙ kept .1 ∙ new .0, w .1 .0 ∙ kept .0 ∙ new .1, w .1 .2 ∙ kept .2 ∙ new .2),
       λ f F among.
-          subst (λ (j : ℕ). Among j (rowsIn (c .keep-profiles .result)) f) (sym e)
+          subst (λ (j : ℕ). Among j (rowsIn (c .keep-colours .result)) f) (sym e)
           (w .0 f (subst (λ (j : ℕ). Embedding j (product j (a .source .now)) (a .n) (product (a .n) (a .target .now)) f) e F) (subst (λ (j : ℕ). Among j (rowsIn (k .keep-marked .result)) f) e (covers k f F among))),
     )
 
@@ -62,4 +62,4 @@ returns-2 c =
     ((kept .1 ∙ new .0, kept .0 ∙ new .1, kept .2 ∙ new .2), covers k)
 
 pub start-spec : {M : Type 1} → statement M
-start-spec = tie.close (tie.spec new-requires keep-marked-requires keep-profiles-requires returns returns-2)
+start-spec = tie.close (tie.spec new-requires keep-marked-requires keep-colours-requires returns returns-2)

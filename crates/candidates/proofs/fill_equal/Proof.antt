@@ -1,4 +1,4 @@
--- `fill` meets its contract. The invariant: the marks up to the place are written, and later bytes are as they were. The measure is how many bytes are
+-- `fill_equal` meets its contract. The invariant: the marks up to the place are written, and later bytes are as they were. The measure is how many bytes are
 -- left. Assumes nothing.
 use mathlib.Core.Path.{_≡_, sym, ap, _∙_}
 use mathlib.Core.Bool.{Bool}
@@ -12,8 +12,8 @@ use Rattle.semigroups.specs.Calls.{scratchAfter}
 use Rattle.semigroups.proofs.Candidates.{length-marks, marks-byte, length-scratch}
 use Rattle.semigroups.proofs.Writing.{written, written-none, written-all, length-written, write-next}
 use Rattle.candidates.specs.Keys.{sameKey}
-use Rattle.candidates.proofs.fill.Statement.{statement}
-use Rattle.candidates.proofs.fill.Tie as tie
+use Rattle.candidates.proofs.fill_equal.Statement.{statement}
+use Rattle.candidates.proofs.fill_equal.Tie as tie
 
 abbrev Inv-loop : tie.InvT-loop
 Inv-loop source m target n scratch₀ size place₀ scratch place = (place ≤ size) × (scratch ≡ written (marks m n (sameKey source target)) scratch₀ place)
@@ -99,8 +99,8 @@ same-length c =
     let a = start (c .before) .args in
     ap length (returns c) ∙ length-scratch (a .m) (a .n) (same (c .before)) (now (a .scratch)) (start (c .before) .pre .1)
 
-pub fill-spec : {M : Type 1} → statement M
-fill-spec =
+pub fill-equal-spec : {M : Type 1} → statement M
+fill-equal-spec =
     tie.close
     (tie.spec
     Inv-loop
