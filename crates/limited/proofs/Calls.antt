@@ -4,7 +4,7 @@ use mathlib.Core.List.{List}
 use mathlib.Core.Option.{Option, none, some}
 use Prim.Native.Nat.{ℕ, _≤_, _<_}
 use Rattle.semigroups.specs.Questions.{Refusal}
-use Rattle.semigroups.specs.Calls.{refused, gives, givenUnless, overwritten, writtenUnless, mapUnless}
+use Rattle.semigroups.specs.Calls.{Answer, refused, gives, givenUnless, overwritten, writtenUnless, mapUnless}
 use Rattle.semigroups.specs.Maps.{Kind, sought}
 use Rattle.semigroups.specs.Trials.{Limited, stopped, ended, limited, foundWithin}
 use Rattle.semigroups.proofs.Trials.{limited-ends, limited-stops}
@@ -32,3 +32,8 @@ module _ (kind : Kind) (limit : ℕ) (l : Lent) where
     ends h =
         let e = limited-ends (firstWork kind l) limit h in
         ap₂ (λ (q : Option Refusal) (a : Limited). left q a (foundWithin limit (firstWork kind l))) p (e .0) ∙ ap (left none (ended (sought (firstWork kind l .found)) (firstWork kind l .trials))) (e .1)
+
+-- What is said and left, where two calls are the same.
+pub as-called : {c d : Called} → c ≡ d → {says : Answer Limited} {bytes scratch : List ℕ}
+    → (says ≡ c .says) × ((bytes ≡ c .mapBytes) × (scratch ≡ c .scratch)) → (says ≡ d .says) × ((bytes ≡ d .mapBytes) × (scratch ≡ d .scratch))
+as-called e w = (w .0 ∙ ap (λ (c : Called). c .says) e, (w .1 .0 ∙ ap (λ (c : Called). c .mapBytes) e, w .1 .1 ∙ ap (λ (c : Called). c .scratch) e))

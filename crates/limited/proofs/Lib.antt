@@ -1,4 +1,5 @@
 pub mod Calls
 pub mod Works
+pub mod Turned
 pub mod Answering
 pub mod Limits

@@ -2,19 +2,15 @@
 // trial is one candidate, unused so far, tested as the image of the next element. Stopped, a call changes no byte of the map, and a refusal changes no
 // lent byte.
 ghost use mathlib.Core.Path.{_≡_};
-ghost use mathlib.Core.List.{[]};
-ghost use Prim.Native.Nat.{_≤_};
+ghost use Prim.Native.Nat.{_*_, _≤_};
 ghost use lib.ListN.{length};
-ghost use Rattle.semigroups.specs.Tables.{product, Accepted};
-ghost use Rattle.semigroups.specs.Scratch.{scratchSize, marked};
-ghost use Rattle.semigroups.specs.Maps.{embeddings, isomorphisms, reversed, first};
-ghost use Rattle.semigroups.specs.Trials.{counted};
-ghost use Rattle.backtrack.specs.State.{within, outcomeOf};
+ghost use Rattle.semigroups.specs.Tables.{Accepted};
+ghost use Rattle.semigroups.specs.Scratch.{scratchSize};
+ghost use Rattle.semigroups.specs.Maps.{embeddings, isomorphisms, reversed};
 ghost use Rattle.search.specs.Calls.{lend};
 ghost use Rattle.search.specs.Answers.{kindOf, facing};
 ghost use Rattle.limited.specs.Calls.{limitedCall};
 ghost use Rattle.limited.specs.Answers.{limitedAnswerSays};
-use backtrack::Outcome;
 use search::Kind;
 use tables::Fault;
 use tables::PairVerdict;
@@ -30,67 +26,7 @@ pub enum LimitedAnswer {
     ScratchLength,
 }
 
-// The marked search within the limit, on the turned target.
-fn find_turned(
-    source: &[u8],
-    m: usize,
-    target: &[u8],
-    n: usize,
-    scratch: &[u8],
-    map: &[u8],
-    limit: u32,
-) -> Outcome
-    requires { ⌜ Accepted m (now source) × Accepted n (now target) ⌝ }
-    requires { ⌜ (scratchSize m n ≤ length (now scratch)) × (length (now map) ≡ m) ⌝ }
-    ensures answer { λ r. ⌜ r ≡ outcomeOf (within limit (counted (product m (now (source .entry))) (facing reversed n (now (target .entry))) (marked n (now (scratch .entry))) first n m [])) ⌝ }
-{
-    let mut turned = [0u8; 14400];
-    let size = n * n;
-    tables::turn(target, n, &mut turned);
-    backtrack::find_within(source, m, &turned[..size], n, scratch, map, false, limit)
-}
-
-// The marked search within the limit: on the target as it came, or turned.
-fn find(
-    kind: Kind,
-    source: &[u8],
-    m: usize,
-    target: &[u8],
-    n: usize,
-    scratch: &[u8],
-    map: &[u8],
-    limit: u32,
-) -> Outcome
-    requires { ⌜ Accepted m (now source) × Accepted n (now target) ⌝ }
-    requires { ⌜ (scratchSize m n ≤ length (now scratch)) × (length (now map) ≡ m) ⌝ }
-    ensures answer { λ r. ⌜ r ≡ outcomeOf (within limit (counted (product m (now (source .entry))) (facing (kindOf kind) n (now (target .entry))) (marked n (now (scratch .entry))) first n m [])) ⌝ }
-{
-    match kind {
-        Kind::Embeddings => backtrack::find_within(
-            source,
-            m,
-            target,
-            n,
-            scratch,
-            map,
-            false,
-            limit,
-        ),
-        Kind::Isomorphisms => backtrack::find_within(
-            source,
-            m,
-            target,
-            n,
-            scratch,
-            map,
-            false,
-            limit,
-        ),
-        Kind::Reversed => find_turned(source, m, target, n, scratch, map, limit),
-    }
-}
-
-// The search behind the questions.
+// The search behind the questions. For reversed isomorphisms the target is turned already.
 fn answer(
     kind: Kind,
     source: &[u8],
@@ -103,15 +39,15 @@ fn answer(
 ) -> LimitedAnswer
     requires { ⌜ Accepted m (now source) × Accepted n (now target) ⌝ }
     requires { ⌜ (length (now map) ≡ m) × (scratchSize m n ≤ length (now scratch)) ⌝ }
-    ensures answer { λ r. ⌜ limitedAnswerSays r ≡ limitedCall (kindOf kind) limit (lend (now (source .entry)) m (now (target .entry)) n (now (map .entry)) (now (scratch .entry))) .says ⌝ }
-    ensures map { λ _. ⌜ now (map .exit) ≡ limitedCall (kindOf kind) limit (lend (now (source .entry)) m (now (target .entry)) n (now (map .entry)) (now (scratch .entry))) .mapBytes ⌝ }
-    ensures scratch { λ _. ⌜ now (scratch .exit) ≡ limitedCall (kindOf kind) limit (lend (now (source .entry)) m (now (target .entry)) n (now (map .entry)) (now (scratch .entry))) .scratch ⌝ }
+    ensures answer { λ r. ⌜ limitedAnswerSays r ≡ limitedCall (facing (kindOf kind)) limit (lend (now (source .entry)) m (now (target .entry)) n (now (map .entry)) (now (scratch .entry))) .says ⌝ }
+    ensures map { λ _. ⌜ now (map .exit) ≡ limitedCall (facing (kindOf kind)) limit (lend (now (source .entry)) m (now (target .entry)) n (now (map .entry)) (now (scratch .entry))) .mapBytes ⌝ }
+    ensures scratch { λ _. ⌜ now (scratch .exit) ≡ limitedCall (facing (kindOf kind)) limit (lend (now (source .entry)) m (now (target .entry)) n (now (map .entry)) (now (scratch .entry))) .scratch ⌝ }
 {
     search::fill(kind, source, m, target, n, scratch);
     if !search::order_fits(kind, m, n) {
         return LimitedAnswer::Nothing(0);
     }
-    let result = find(kind, source, m, target, n, &*scratch, &*map, limit);
+    let result = backtrack::find_within(source, m, target, n, &*scratch, &*map, false, limit);
     if result.stopped {
         return LimitedAnswer::Stopped;
     }
@@ -122,6 +58,62 @@ fn answer(
     let image = result.image;
     search::write_map(map, &image, m);
     LimitedAnswer::Found(trials)
+}
+
+// The search for reversed isomorphisms behind the questions, with room for the turned target.
+fn answer_turned(
+    source: &[u8],
+    m: usize,
+    target: &[u8],
+    n: usize,
+    map: &mut [u8],
+    scratch: &mut [u8],
+    limit: u32,
+    room: &mut [u8],
+) -> LimitedAnswer
+    requires { ⌜ Accepted m (now source) × Accepted n (now target) ⌝ }
+    requires { ⌜ (length (now map) ≡ m) × (scratchSize m n ≤ length (now scratch)) ⌝ }
+    requires { ⌜ n * n ≤ length (now room) ⌝ }
+    ensures answer { λ r. ⌜ limitedAnswerSays r ≡ limitedCall reversed limit (lend (now (source .entry)) m (now (target .entry)) n (now (map .entry)) (now (scratch .entry))) .says ⌝ }
+    ensures map { λ _. ⌜ now (map .exit) ≡ limitedCall reversed limit (lend (now (source .entry)) m (now (target .entry)) n (now (map .entry)) (now (scratch .entry))) .mapBytes ⌝ }
+    ensures scratch { λ _. ⌜ now (scratch .exit) ≡ limitedCall reversed limit (lend (now (source .entry)) m (now (target .entry)) n (now (map .entry)) (now (scratch .entry))) .scratch ⌝ }
+{
+    let size = n * n;
+    tables::turn(target, n, room);
+    answer(
+        Kind::Reversed,
+        source,
+        m,
+        &room[..size],
+        n,
+        map,
+        scratch,
+        limit,
+    )
+}
+
+// The same. Small tables take a small array, so that clearing it is no part of the time.
+fn answer_reversed(
+    source: &[u8],
+    m: usize,
+    target: &[u8],
+    n: usize,
+    map: &mut [u8],
+    scratch: &mut [u8],
+    limit: u32,
+) -> LimitedAnswer
+    requires { ⌜ Accepted m (now source) × Accepted n (now target) ⌝ }
+    requires { ⌜ (length (now map) ≡ m) × (scratchSize m n ≤ length (now scratch)) ⌝ }
+    ensures answer { λ r. ⌜ limitedAnswerSays r ≡ limitedCall reversed limit (lend (now (source .entry)) m (now (target .entry)) n (now (map .entry)) (now (scratch .entry))) .says ⌝ }
+    ensures map { λ _. ⌜ now (map .exit) ≡ limitedCall reversed limit (lend (now (source .entry)) m (now (target .entry)) n (now (map .entry)) (now (scratch .entry))) .mapBytes ⌝ }
+    ensures scratch { λ _. ⌜ now (scratch .exit) ≡ limitedCall reversed limit (lend (now (source .entry)) m (now (target .entry)) n (now (map .entry)) (now (scratch .entry))) .scratch ⌝ }
+{
+    if n <= 30 {
+        let mut few = [0u8; 900];
+        return answer_turned(source, m, target, n, map, scratch, limit, &mut few);
+    }
+    let mut all = [0u8; 14400];
+    answer_turned(source, m, target, n, map, scratch, limit, &mut all)
 }
 
 // The first map of a kind within the limit: the questions about the two tables and the two buffers, then the answer.
@@ -149,7 +141,11 @@ pub fn first_within(
     if scratch.len() < candidates::scratch_size(m, n) {
         return LimitedAnswer::ScratchLength;
     }
-    answer(kind, source, m, target, n, map, scratch, limit)
+    match kind {
+        Kind::Embeddings => answer(kind, source, m, target, n, map, scratch, limit),
+        Kind::Isomorphisms => answer(kind, source, m, target, n, map, scratch, limit),
+        Kind::Reversed => answer_reversed(source, m, target, n, map, scratch, limit),
+    }
 }
 
 // The earliest embedding of the source in the target within `limit` trials, written to `map`; or nothing; or stopped; or the earliest question that fails.

@@ -9,16 +9,14 @@ use lib.Dec.{eqb, leb}
 use lib.ListN.{length, take, replicate}
 use lib.Seq.{take-at}
 use Rattle.semigroups.specs.Lists.{at, find, firstOf}
-use Rattle.semigroups.specs.Tables.{Product, product, turnedCells, Element, Closed, Accepted}
+use Rattle.semigroups.specs.Tables.{Product, product, Element, Closed}
 use Rattle.semigroups.specs.Scratch.{scratchSize, marked}
 use Rattle.semigroups.specs.Questions.{Question, ask, Refusal, no, firstNo, tablesQuestions, tablesRefusal, searchRefusal}
 use Rattle.semigroups.specs.Calls.{gives, scratchAfter, mapUnless}
 use Rattle.semigroups.specs.Maps.{Embedding, Kind, embeddings, isomorphisms, reversed, maps, Ask, earliest, sought}
 use Rattle.semigroups.specs.Candidates.{candidate}
 use Rattle.semigroups.specs.Search.{search as searched}
-use Rattle.semigroups.proofs.Tables.{accepted-closed}
-use Rattle.semigroups.proofs.Turned.{turned-closed, cells-turn}
-use Rattle.semigroups.proofs.Reversed.{reversed-maps, reversed-candidate, no-reversed}
+use Rattle.semigroups.proofs.Reversed.{no-reversed}
 use Rattle.semigroups.proofs.Questions.{failed-before, passed-before}
 use Rattle.semigroups.proofs.Maps.{map-list, earliest-found, no-embedding, no-isomorphism, one-order}
 use Rattle.semigroups.proofs.Candidates.{index-period-sound, profile-sound, marked-candidate}
@@ -65,6 +63,12 @@ earliest-empty : (ask : Ask) → earliest ask [] ≡ none
 unfolding earliest find
 earliest-empty ask = refl
 
+-- The orders fit where they do for the kind that the search meets.
+pub fits-facing : (kind : Kind) (m n : ℕ) → orderFits kind m n ≡ orderFits (facing kind) m n
+fits-facing embeddings m n = refl
+fits-facing isomorphisms m n = refl
+fits-facing reversed m n = refl
+
 -- Where the orders do not fit there is no map.
 pub unfit : (kind : Kind) (m : ℕ) (s : Product) (n : ℕ) (t : Product) → orderFits kind m n ≡ false → (ask : Ask) → earliest ask (maps kind m s n t) ≡ none
 unfit embeddings m s n t e ask = ap (earliest ask) (no-embedding m s n t (leb-false m n e)) ∙ earliest-empty ask
@@ -89,31 +93,18 @@ found-isomorphism n s t source target scratch p sound ask =
     search-earliest n s n t source (marked n (scratchAfter n n p scratch)) (marked-sound n s n t source target scratch p sound) ask
     ∙ ap (earliest ask) (sym (one-order n s t))
 
-found-reversed : (n : ℕ) (s : Product) (target : List ℕ) → Closed n s → Accepted n target → (scratch : List ℕ) (ask : Ask)
-    → searched s (facing reversed n target) (marked n (scratchAfter n n (candidate reversed n s n (product n target)) scratch)) ask n n [] ≡ earliest ask (maps reversed n s n (product n target))
-found-reversed n s target source b scratch ask =
-    let t = product n target in
-    let u = product n (turnedCells n target) in
-    let turns = cells-turn n target in
-    let closed = accepted-closed n target b in
-    let around = turned-closed n t u turns closed in
-    found-isomorphism n s u source around scratch (candidate reversed n s n t)
-    (λ f F i h. sym (reversed-candidate n s n t u turns closed (b .associative) i (at f i) (F .homomorphism .within i h)) ∙ profile-sound n s u source around f F i h) ask
-    ∙ ap (earliest ask) (sym (reversed-maps n s n t u turns))
+isomorphism-found : (m : ℕ) (s : Product) (n : ℕ) (t : Product) → Closed m s → Closed n t → (scratch : List ℕ) → eqb m n ≡ true → (ask : Ask)
+    → searched s t (marked n (scratchAfter m n (candidate isomorphisms m s n t) scratch)) ask n m [] ≡ earliest ask (maps isomorphisms m s n t)
+isomorphism-found m s n t source target scratch e ask =
+    subst (λ (k : ℕ). Closed k t → searched s t (marked k (scratchAfter m k (candidate isomorphisms m s k t) scratch)) ask k m [] ≡ earliest ask (maps isomorphisms m s k t)) (eqb-true m n e)
+    (λ target. found-isomorphism m s t source target scratch (candidate isomorphisms m s m t) (profile-sound m s t source target) ask) target
 
--- The search over the marks of a kind finds what is asked for, where the orders fit.
-pub finds : (kind : Kind) (m : ℕ) (s : Product) (n : ℕ) (target : List ℕ) → Closed m s → Accepted n target → (scratch : List ℕ) → orderFits kind m n ≡ true → (ask : Ask)
-    → searched s (facing kind n target) (marked n (scratchAfter m n (candidate kind m s n (product n target)) scratch)) ask n m [] ≡ earliest ask (maps kind m s n (product n target))
-finds embeddings m s n target source b scratch e ask = found-embedding m s n (product n target) source (accepted-closed n target b) scratch ask
-finds isomorphisms m s n target source b scratch e ask =
-    subst (λ (k : ℕ). Accepted k target → searched s (product k target) (marked k (scratchAfter m k (candidate isomorphisms m s k (product k target)) scratch)) ask k m [] ≡ earliest ask (maps isomorphisms m s k (product k target))) (eqb-true m n e)
-    (λ b.
-    let t = product m target in
-    let closed = accepted-closed m target b in
-    found-isomorphism m s t source closed scratch (candidate isomorphisms m s m t) (profile-sound m s t source closed) ask) b
-finds reversed m s n target source b scratch e ask =
-    subst (λ (k : ℕ). Accepted k target → searched s (facing reversed k target) (marked k (scratchAfter m k (candidate reversed m s k (product k target)) scratch)) ask k m [] ≡ earliest ask (maps reversed m s k (product k target))) (eqb-true m n e)
-    (λ b. found-reversed m s target source b scratch ask) b
+-- The search over the marks of the kind that it meets finds what is asked for, where the orders fit.
+pub finds : (kind : Kind) (m : ℕ) (s : Product) (n : ℕ) (t : Product) → Closed m s → Closed n t → (scratch : List ℕ) → orderFits (facing kind) m n ≡ true → (ask : Ask)
+    → searched s t (marked n (scratchAfter m n (candidate (facing kind) m s n t) scratch)) ask n m [] ≡ earliest ask (maps (facing kind) m s n t)
+finds embeddings m s n t source target scratch e ask = found-embedding m s n t source target scratch ask
+finds isomorphisms m s n t source target scratch e ask = isomorphism-found m s n t source target scratch e ask
+finds reversed m s n t source target scratch e ask = isomorphism-found m s n t source target scratch e ask
 
 -- ---- a call behind its questions
 
@@ -122,36 +113,36 @@ bounded-request : (later : Bool) (bytes : List ℕ) → bounded later bytes ≡ 
 bounded-request true bytes = refl
 bounded-request false bytes = refl
 
-module _ (kind : Kind) (later : Bool) (l : Lent) (source : Closed (l .m) (product (l .m) (l .source))) (target : Accepted (l .n) (l .target)) where
+module _ (kind : Kind) (later : Bool) (l : Lent) (source : Closed (l .m) (product (l .m) (l .source))) (target : Closed (l .n) (product (l .n) (l .target))) where
   abbrev request : Request
   request = requestOf later
 
   -- Where the orders do not fit, there is none.
-  pub answer-unfit : orderFits kind (l .m) (l .n) ≡ false → answerOf kind request l ≡ none
-  answer-unfit e = unfit kind (l .m) (product (l .m) (l .source)) (l .n) (product (l .n) (l .target)) e (askOf request (l .mapBytes))
+  pub answer-unfit : orderFits (facing kind) (l .m) (l .n) ≡ false → answerOf (facing kind) request l ≡ none
+  answer-unfit e = unfit (facing kind) (l .m) (product (l .m) (l .source)) (l .n) (product (l .n) (l .target)) e (askOf request (l .mapBytes))
 
   -- Else the map that the marked search finds is the map asked for.
-  module _ (fits : orderFits kind (l .m) (l .n) ≡ true) (scratch : List ℕ) (filled : scratch ≡ scratchAfter (l .m) (l .n) (candidate kind (l .m) (product (l .m) (l .source)) (l .n) (product (l .n) (l .target))) (l .scratch)) (r : Found)
-      (finding : r ≡ foundIn (searched (product (l .m) (l .source)) (facing kind (l .n) (l .target)) (marked (l .n) scratch) (bounded later (l .mapBytes)) (l .n) (l .m) [])) where
-    answer-found : r ≡ foundIn (answerOf kind request l)
+  module _ (fits : orderFits (facing kind) (l .m) (l .n) ≡ true) (scratch : List ℕ) (filled : scratch ≡ scratchAfter (l .m) (l .n) (candidate (facing kind) (l .m) (product (l .m) (l .source)) (l .n) (product (l .n) (l .target))) (l .scratch)) (r : Found)
+      (finding : r ≡ foundIn (searched (product (l .m) (l .source)) (product (l .n) (l .target)) (marked (l .n) scratch) (bounded later (l .mapBytes)) (l .n) (l .m) [])) where
+    answer-found : r ≡ foundIn (answerOf (facing kind) request l)
     answer-found =
         finding
-        ∙ ap foundIn (ap₂ (λ (b : List ℕ) (q : Ask). searched (product (l .m) (l .source)) (facing kind (l .n) (l .target)) (marked (l .n) b) q (l .n) (l .m) []) filled (bounded-request later (l .mapBytes))
-        ∙ finds kind (l .m) (product (l .m) (l .source)) (l .n) (l .target) source target (l .scratch) fits (askOf request (l .mapBytes)))
+        ∙ ap foundIn (ap₂ (λ (b : List ℕ) (q : Ask). searched (product (l .m) (l .source)) (product (l .n) (l .target)) (marked (l .n) b) q (l .n) (l .m) []) filled (bounded-request later (l .mapBytes))
+        ∙ finds kind (l .m) (product (l .m) (l .source)) (l .n) (product (l .n) (l .target)) source target (l .scratch) fits (askOf request (l .mapBytes)))
 
-    pub answer-none : r .ok ≡ false → answerOf kind request l ≡ none
-    answer-none e = none-found (answerOf kind request l) (ap (λ (f : Found). f .ok) (sym answer-found) ∙ e)
+    pub answer-none : r .ok ≡ false → answerOf (facing kind) request l ≡ none
+    answer-none e = none-found (answerOf (facing kind) request l) (ap (λ (f : Found). f .ok) (sym answer-found) ∙ e)
 
-    pub answer-some : r .ok ≡ true → answerOf kind request l ≡ some (take (l .m) (r .image))
+    pub answer-some : r .ok ≡ true → answerOf (facing kind) request l ≡ some (take (l .m) (r .image))
     unfolding foundIn
-    answer-some e = go (answerOf kind request l) refl
+    answer-some e = go (answerOf (facing kind) request l) refl
       where
-        go : (o : Option (List ℕ)) → answerOf kind request l ≡ o → o ≡ some (take (l .m) (r .image))
+        go : (o : Option (List ℕ)) → answerOf (facing kind) request l ≡ o → o ≡ some (take (l .m) (r .image))
         go none q = absurd (false≢true (ap (λ (f : Found). f .ok) (sym (answer-found ∙ ap foundIn q)) ∙ e))
         go (some f) q =
             let s = product (l .m) (l .source) in
             let t = product (l .n) (l .target) in
-            let long = map-list (l .m) s (l .n) t f kind (earliest-found kind (l .m) s (l .n) t (askOf request (l .mapBytes)) f q .has .0) .size in
+            let long = map-list (l .m) s (l .n) t f (facing kind) (earliest-found (facing kind) (l .m) s (l .n) t (askOf request (l .mapBytes)) f q .has .0) .size in
             ap some (sym (ap (λ (h : Found). take (l .m) (h .image)) (answer-found ∙ ap foundIn q) ∙ take-at f (replicate (120 - length f) 0) (l .m) long))
 
 -- ---- what is said and left

@@ -1,3 +1,4 @@
 pub mod Calls
 pub mod Answering
+pub mod Turned
 pub mod Demand3

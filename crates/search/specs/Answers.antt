@@ -1,10 +1,9 @@
 -- What a search's answer means (01, "The questions"): what is said, and for each refusal the number, the side and the values.
 -- Assumes nothing.
 use mathlib.Core.Bool.{Bool, true, false}
-use mathlib.Core.List.{List, []}
+use mathlib.Core.List.{[]}
 use Prim.Native.Nat.{ℕ}
 use lib.Dec.{eqb, leb}
-use Rattle.semigroups.specs.Tables.{Product, product, turnedCells}
 use Rattle.semigroups.specs.Questions.{no, naming}
 use Rattle.semigroups.specs.Calls.{Answer, refused, gives}
 use Rattle.semigroups.specs.Maps as maps
@@ -38,8 +37,8 @@ orderFits maps.embeddings m n = leb m n
 orderFits maps.isomorphisms m n = eqb m n
 orderFits maps.reversed m n = eqb m n
 
--- The product that a search of the kind meets in the target: for reversed maps that of the table with rows and columns exchanged.
-abbrev pub facing : maps.Kind → ℕ → List ℕ → Product
-facing maps.embeddings n cells = product n cells
-facing maps.isomorphisms n cells = product n cells
-facing maps.reversed n cells = product n (turnedCells n cells)
+-- The kind of the maps onto the target as a search meets it: a reversed isomorphism is an isomorphism onto the target turned.
+abbrev pub facing : maps.Kind → maps.Kind
+facing maps.embeddings = maps.embeddings
+facing maps.isomorphisms = maps.isomorphisms
+facing maps.reversed = maps.isomorphisms

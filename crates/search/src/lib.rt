@@ -2,19 +2,15 @@
 // caller lends the cells, the orders and both buffers; anything may be handed over. A refusal changes no lent byte, and "nothing" changes no byte of the
 // map. A reversed isomorphism is searched as an isomorphism onto the target with rows and columns exchanged.
 ghost use mathlib.Core.Path.{_≡_};
-ghost use mathlib.Core.List.{[]};
-ghost use Prim.Native.Nat.{_≤_};
+ghost use Prim.Native.Nat.{_*_, _≤_};
 ghost use lib.ListN.{length, take};
 ghost use Rattle.semigroups.specs.Tables.{product, Accepted};
-ghost use Rattle.semigroups.specs.Scratch.{scratchSize, marked};
+ghost use Rattle.semigroups.specs.Scratch.{scratchSize};
 ghost use Rattle.semigroups.specs.Calls.{scratchAfter};
 ghost use Rattle.semigroups.specs.Maps.{embeddings, isomorphisms, reversed};
 ghost use Rattle.semigroups.specs.Candidates.{candidate};
-ghost use Rattle.semigroups.specs.Search.{search as searched};
-ghost use Rattle.backtrack.specs.State.{foundIn, bounded};
 ghost use Rattle.search.specs.Calls.{theFirst, theNext, lend, call};
 ghost use Rattle.search.specs.Answers.{searchAnswerSays, kindOf, requestOf, orderFits, facing};
-use backtrack::Found;
 use tables::Fault;
 use tables::PairVerdict;
 use tables::Side;
@@ -46,70 +42,16 @@ pub fn order_fits(kind: Kind, m: usize, n: usize) -> bool
     }
 }
 
-// Marks the candidates of reversed isomorphisms in scratch: those of isomorphisms onto the turned target.
-fn fill_reversed(source: &[u8], m: usize, target: &[u8], n: usize, scratch: &mut [u8])
-    requires { ⌜ Accepted m (now source) × Accepted n (now target) ⌝ }
-    requires { ⌜ scratchSize m n ≤ length (now scratch) ⌝ }
-    ensures scratch { λ _. ⌜ now (scratch .exit) ≡ scratchAfter m n (candidate reversed m (product m (now (source .entry))) n (product n (now (target .entry)))) (now (scratch .entry)) ⌝ }
-{
-    let mut turned = [0u8; 14400];
-    let size = n * n;
-    tables::turn(target, n, &mut turned);
-    candidates::fill_isomorphisms(source, m, &turned[..size], n, scratch);
-}
-
-// Marks the candidates of the kind in scratch.
+// Marks the candidates of the kind in scratch. For reversed isomorphisms the target is turned already, and they are those of isomorphisms.
 pub fn fill(kind: Kind, source: &[u8], m: usize, target: &[u8], n: usize, scratch: &mut [u8])
     requires { ⌜ Accepted m (now source) × Accepted n (now target) ⌝ }
     requires { ⌜ scratchSize m n ≤ length (now scratch) ⌝ }
-    ensures scratch { λ _. ⌜ now (scratch .exit) ≡ scratchAfter m n (candidate (kindOf kind) m (product m (now (source .entry))) n (product n (now (target .entry)))) (now (scratch .entry)) ⌝ }
+    ensures scratch { λ _. ⌜ now (scratch .exit) ≡ scratchAfter m n (candidate (facing (kindOf kind)) m (product m (now (source .entry))) n (product n (now (target .entry)))) (now (scratch .entry)) ⌝ }
 {
     match kind {
         Kind::Embeddings => candidates::fill_embeddings(source, m, target, n, scratch),
         Kind::Isomorphisms => candidates::fill_isomorphisms(source, m, target, n, scratch),
-        Kind::Reversed => fill_reversed(source, m, target, n, scratch),
-    }
-}
-
-// The marked search on the turned target.
-fn find_turned(
-    source: &[u8],
-    m: usize,
-    target: &[u8],
-    n: usize,
-    scratch: &[u8],
-    after: &[u8],
-    next: bool,
-) -> Found
-    requires { ⌜ Accepted m (now source) × Accepted n (now target) ⌝ }
-    requires { ⌜ (scratchSize m n ≤ length (now scratch)) × (length (now after) ≡ m) ⌝ }
-    ensures answer { λ r. ⌜ r ≡ foundIn (searched (product m (now (source .entry))) (facing reversed n (now (target .entry))) (marked n (now (scratch .entry))) (bounded next (now (after .entry))) n m []) ⌝ }
-{
-    let mut turned = [0u8; 14400];
-    let size = n * n;
-    tables::turn(target, n, &mut turned);
-    narrowing::find(source, m, &turned[..size], n, scratch, after, next)
-}
-
-// The marked search: on the target as it came, or turned.
-fn find(
-    kind: Kind,
-    source: &[u8],
-    m: usize,
-    target: &[u8],
-    n: usize,
-    scratch: &[u8],
-    after: &[u8],
-    next: bool,
-) -> Found
-    requires { ⌜ Accepted m (now source) × Accepted n (now target) ⌝ }
-    requires { ⌜ (scratchSize m n ≤ length (now scratch)) × (length (now after) ≡ m) ⌝ }
-    ensures answer { λ r. ⌜ r ≡ foundIn (searched (product m (now (source .entry))) (facing (kindOf kind) n (now (target .entry))) (marked n (now (scratch .entry))) (bounded next (now (after .entry))) n m []) ⌝ }
-{
-    match kind {
-        Kind::Embeddings => narrowing::find(source, m, target, n, scratch, after, next),
-        Kind::Isomorphisms => narrowing::find(source, m, target, n, scratch, after, next),
-        Kind::Reversed => find_turned(source, m, target, n, scratch, after, next),
+        Kind::Reversed => candidates::fill_isomorphisms(source, m, target, n, scratch),
     }
 }
 
@@ -125,7 +67,8 @@ pub fn write_map(map: &mut [u8], image: &[u8; 120], m: usize)
     }
 }
 
-// The search behind the questions: the first map of the kind, or with `next` the first that is later than the bytes of `map`.
+// The search behind the questions: the first map of the kind, or with `next` the first that is later than the bytes of `map`. For reversed isomorphisms
+// the target is turned already.
 fn answer(
     kind: Kind,
     next: bool,
@@ -138,21 +81,77 @@ fn answer(
 ) -> SearchAnswer
     requires { ⌜ Accepted m (now source) × Accepted n (now target) ⌝ }
     requires { ⌜ (length (now map) ≡ m) × (scratchSize m n ≤ length (now scratch)) ⌝ }
-    ensures answer { λ r. ⌜ searchAnswerSays r ≡ call (kindOf kind) (requestOf next) (lend (now (source .entry)) m (now (target .entry)) n (now (map .entry)) (now (scratch .entry))) .says ⌝ }
-    ensures map { λ _. ⌜ now (map .exit) ≡ call (kindOf kind) (requestOf next) (lend (now (source .entry)) m (now (target .entry)) n (now (map .entry)) (now (scratch .entry))) .mapBytes ⌝ }
-    ensures scratch { λ _. ⌜ now (scratch .exit) ≡ call (kindOf kind) (requestOf next) (lend (now (source .entry)) m (now (target .entry)) n (now (map .entry)) (now (scratch .entry))) .scratch ⌝ }
+    ensures answer { λ r. ⌜ searchAnswerSays r ≡ call (facing (kindOf kind)) (requestOf next) (lend (now (source .entry)) m (now (target .entry)) n (now (map .entry)) (now (scratch .entry))) .says ⌝ }
+    ensures map { λ _. ⌜ now (map .exit) ≡ call (facing (kindOf kind)) (requestOf next) (lend (now (source .entry)) m (now (target .entry)) n (now (map .entry)) (now (scratch .entry))) .mapBytes ⌝ }
+    ensures scratch { λ _. ⌜ now (scratch .exit) ≡ call (facing (kindOf kind)) (requestOf next) (lend (now (source .entry)) m (now (target .entry)) n (now (map .entry)) (now (scratch .entry))) .scratch ⌝ }
 {
     fill(kind, source, m, target, n, scratch);
     if !order_fits(kind, m, n) {
         return SearchAnswer::Nothing;
     }
-    let result = find(kind, source, m, target, n, &*scratch, &*map, next);
+    let result = narrowing::find(source, m, target, n, &*scratch, &*map, next);
     if !result.ok {
         return SearchAnswer::Nothing;
     }
     let image = result.image;
     write_map(map, &image, m);
     SearchAnswer::Found
+}
+
+// The search for reversed isomorphisms behind the questions, with room for the turned target.
+fn answer_turned(
+    next: bool,
+    source: &[u8],
+    m: usize,
+    target: &[u8],
+    n: usize,
+    map: &mut [u8],
+    scratch: &mut [u8],
+    room: &mut [u8],
+) -> SearchAnswer
+    requires { ⌜ Accepted m (now source) × Accepted n (now target) ⌝ }
+    requires { ⌜ (length (now map) ≡ m) × (scratchSize m n ≤ length (now scratch)) ⌝ }
+    requires { ⌜ n * n ≤ length (now room) ⌝ }
+    ensures answer { λ r. ⌜ searchAnswerSays r ≡ call reversed (requestOf next) (lend (now (source .entry)) m (now (target .entry)) n (now (map .entry)) (now (scratch .entry))) .says ⌝ }
+    ensures map { λ _. ⌜ now (map .exit) ≡ call reversed (requestOf next) (lend (now (source .entry)) m (now (target .entry)) n (now (map .entry)) (now (scratch .entry))) .mapBytes ⌝ }
+    ensures scratch { λ _. ⌜ now (scratch .exit) ≡ call reversed (requestOf next) (lend (now (source .entry)) m (now (target .entry)) n (now (map .entry)) (now (scratch .entry))) .scratch ⌝ }
+{
+    let size = n * n;
+    tables::turn(target, n, room);
+    answer(
+        Kind::Reversed,
+        next,
+        source,
+        m,
+        &room[..size],
+        n,
+        map,
+        scratch,
+    )
+}
+
+// The same. Small tables take a small array, so that clearing it is no part of the time.
+fn answer_reversed(
+    next: bool,
+    source: &[u8],
+    m: usize,
+    target: &[u8],
+    n: usize,
+    map: &mut [u8],
+    scratch: &mut [u8],
+) -> SearchAnswer
+    requires { ⌜ Accepted m (now source) × Accepted n (now target) ⌝ }
+    requires { ⌜ (length (now map) ≡ m) × (scratchSize m n ≤ length (now scratch)) ⌝ }
+    ensures answer { λ r. ⌜ searchAnswerSays r ≡ call reversed (requestOf next) (lend (now (source .entry)) m (now (target .entry)) n (now (map .entry)) (now (scratch .entry))) .says ⌝ }
+    ensures map { λ _. ⌜ now (map .exit) ≡ call reversed (requestOf next) (lend (now (source .entry)) m (now (target .entry)) n (now (map .entry)) (now (scratch .entry))) .mapBytes ⌝ }
+    ensures scratch { λ _. ⌜ now (scratch .exit) ≡ call reversed (requestOf next) (lend (now (source .entry)) m (now (target .entry)) n (now (map .entry)) (now (scratch .entry))) .scratch ⌝ }
+{
+    if n <= 30 {
+        let mut few = [0u8; 900];
+        return answer_turned(next, source, m, target, n, map, scratch, &mut few);
+    }
+    let mut all = [0u8; 14400];
+    answer_turned(next, source, m, target, n, map, scratch, &mut all)
 }
 
 // A search by its kind, for the first map or with `next` for the next: the questions about the two tables and the two buffers, then the answer.
@@ -180,7 +179,11 @@ pub fn search(
     if scratch.len() < candidates::scratch_size(m, n) {
         return SearchAnswer::ScratchLength;
     }
-    answer(kind, next, source, m, target, n, map, scratch)
+    match kind {
+        Kind::Embeddings => answer(kind, next, source, m, target, n, map, scratch),
+        Kind::Isomorphisms => answer(kind, next, source, m, target, n, map, scratch),
+        Kind::Reversed => answer_reversed(next, source, m, target, n, map, scratch),
+    }
 }
 
 // The earliest embedding of the source in the target, written to `map`; or nothing; or the earliest question that fails.

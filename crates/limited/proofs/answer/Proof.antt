@@ -5,6 +5,7 @@ use borrow.Author.Needs.{needs}
 use Rattle.search.specs.Calls.{Lent, lend}
 use Rattle.search.specs.Wanted.{Passes}
 use Rattle.search.specs.Answers.{kindOf}
+use Rattle.search.proofs.Answering.{fits-facing}
 use Rattle.limited.proofs.Answering.{answer-unfit, answer-stopped, left-within, answer-nothing, found-length, answer-found}
 use Rattle.limited.proofs.answer.Statement.{statement}
 use Rattle.limited.proofs.answer.Tie as tie
@@ -30,11 +31,11 @@ returns : tie.Need-returns
 returns c =
     let z = c .before .before .before .before .before .before .before .before .before .before in
     let o = c .before .order-fits in
-    let w = answer-unfit (kindOf (z .args .kind)) (z .args .limit) (lent z) (passes z) (sym (o .ensures) ∙ not-true (o .result) (c .if1 .taken)) in
+    let w = answer-unfit (kindOf (z .args .kind)) (z .args .limit) (lent z) (passes z) (sym (fits-facing (kindOf (z .args .kind)) (z .args .m) (z .args .n)) ∙ sym (o .ensures) ∙ not-true (o .result) (c .if1 .taken)) in
     (w .says, (w .mapBytes, c .before .before .before .before .fill .ensures ∙ w .scratch))
 
-find-requires : tie.Need-find-requires
-find-requires c κs = search needs
+find-within-requires : tie.Need-find-within-requires
+find-within-requires c κs = search needs
 
 same-length-2 : tie.Need-same-length-2
 same-length-2 c = search needs
@@ -47,9 +48,9 @@ returns-2 c =
     let k = c .before in
     let z = k .before .before .before .before .before .before .before .before .before .before .before .before .before in
     let o = k .before .before .before .before .order-fits in
-    let f = k .find in
+    let f = k .find-within in
     let filled = k .before .before .before .before .before .before .before .fill .ensures in
-    let fits = sym (o .ensures) ∙ not-false (o .result) (k .before .before .before .if1 .left) in
+    let fits = sym (fits-facing (kindOf (z .args .kind)) (z .args .m) (z .args .n)) ∙ sym (o .ensures) ∙ not-false (o .result) (k .before .before .before .if1 .left) in
     let w = answer-stopped (kindOf (z .args .kind)) (z .args .limit) (lent z) (passes z) fits _ filled (f .result) (f .ensures) (c .if2 .taken) in
     (w .says, (w .mapBytes, filled ∙ w .scratch))
 
@@ -58,9 +59,9 @@ sub-trials c =
     let k = c .before .before in
     let z = k .before .before .before .before .before .before .before .before .before .before .before .before .before in
     let o = k .before .before .before .before .order-fits in
-    let f = k .find in
+    let f = k .find-within in
     let filled = k .before .before .before .before .before .before .before .fill .ensures in
-    let fits = sym (o .ensures) ∙ not-false (o .result) (k .before .before .before .if1 .left) in
+    let fits = sym (fits-facing (kindOf (z .args .kind)) (z .args .m) (z .args .n)) ∙ sym (o .ensures) ∙ not-false (o .result) (k .before .before .before .if1 .left) in
     left-within (kindOf (z .args .kind)) (z .args .limit) (lent z) (passes z) fits _ filled (f .result) (f .ensures) (c .before .if2 .left)
 
 same-length-4 : tie.Need-same-length-4
@@ -74,9 +75,9 @@ returns-3 c =
     let k = c .before .before .before .before in
     let z = k .before .before .before .before .before .before .before .before .before .before .before .before .before in
     let o = k .before .before .before .before .order-fits in
-    let f = k .find in
+    let f = k .find-within in
     let filled = k .before .before .before .before .before .before .before .fill .ensures in
-    let fits = sym (o .ensures) ∙ not-false (o .result) (k .before .before .before .if1 .left) in
+    let fits = sym (fits-facing (kindOf (z .args .kind)) (z .args .m) (z .args .n)) ∙ sym (o .ensures) ∙ not-false (o .result) (k .before .before .before .if1 .left) in
     let w = answer-nothing (kindOf (z .args .kind)) (z .args .limit) (lent z) (passes z) fits _ filled (f .result) (f .ensures) (c .before .before .before .if2 .left) (not-true (f .result .ok) (c .if3 .taken)) in
     (w .says, (w .mapBytes, filled ∙ w .scratch))
 
@@ -85,9 +86,9 @@ write-map-requires c κs =
     let k = c .before .before .before .before .before .before .before in
     let z = k .before .before .before .before .before .before .before .before .before .before .before .before .before in
     let o = k .before .before .before .before .order-fits in
-    let f = k .find in
+    let f = k .find-within in
     let filled = k .before .before .before .before .before .before .before .fill .ensures in
-    let fits = sym (o .ensures) ∙ not-false (o .result) (k .before .before .before .if1 .left) in
+    let fits = sym (fits-facing (kindOf (z .args .kind)) (z .args .m) (z .args .n)) ∙ sym (o .ensures) ∙ not-false (o .result) (k .before .before .before .if1 .left) in
     let small = z .pre .0 .0 .filled .order .1 in
     (z .pre .1 .0, small, found-length (kindOf (z .args .kind)) (z .args .limit) (lent z) (passes z) fits _ filled (f .result) (f .ensures) (c .before .before .before .before .before .before .if2 .left) (not-false (f .result .ok) (c .before .before .before .if3 .left)) small)
 
@@ -102,9 +103,9 @@ returns-4 c =
     let k = c .before .before .before .before .before .before .before .before .before .before in
     let z = k .before .before .before .before .before .before .before .before .before .before .before .before .before in
     let o = k .before .before .before .before .order-fits in
-    let f = k .find in
+    let f = k .find-within in
     let filled = k .before .before .before .before .before .before .before .fill .ensures in
-    let fits = sym (o .ensures) ∙ not-false (o .result) (k .before .before .before .if1 .left) in
+    let fits = sym (fits-facing (kindOf (z .args .kind)) (z .args .m) (z .args .n)) ∙ sym (o .ensures) ∙ not-false (o .result) (k .before .before .before .if1 .left) in
     let w = answer-found (kindOf (z .args .kind)) (z .args .limit) (lent z) (passes z) fits _ filled (f .result) (f .ensures) (c .before .before .before .before .before .before .before .before .before .if2 .left) (not-false (f .result .ok) (c .before .before .before .before .before .before .if3 .left)) in
     (w .says, (c .before .before .write-map .ensures ∙ w .mapBytes, filled ∙ w .scratch))
 
@@ -116,7 +117,7 @@ answer-spec =
     order-fits-requires
     same-length
     returns
-    find-requires
+    find-within-requires
     same-length-2
     same-length-3
     returns-2

@@ -7,8 +7,8 @@ use lib.ListN.{take}
 use Rattle.semigroups.proofs.Tables.{accepted-closed}
 use Rattle.search.specs.Calls.{Lent, lend}
 use Rattle.search.specs.Wanted.{Passes}
-use Rattle.search.specs.Answers.{kindOf, requestOf}
-use Rattle.search.proofs.Answering.{answer-unfit, answer-none, answer-some, left}
+use Rattle.search.specs.Answers.{kindOf, requestOf, facing}
+use Rattle.search.proofs.Answering.{fits-facing, answer-unfit, answer-none, answer-some, left}
 use Rattle.search.proofs.answer.Statement.{statement}
 use Rattle.search.proofs.answer.Tie as tie
 
@@ -37,8 +37,8 @@ returns c =
     let kind = kindOf (a .kind) in
     let request = requestOf (a .next) in
     let o = c .before .order-fits in
-    let e = answer-unfit kind (a .next) l (accepted-closed (a .m) (a .source .now) (z .pre .0 .0)) (z .pre .0 .1) (sym (o .ensures) ∙ not-true (o .result) (c .if1 .taken)) in
-    let w = left kind request l (passes z) none e in
+    let e = answer-unfit kind (a .next) l (accepted-closed (a .m) (a .source .now) (z .pre .0 .0)) (accepted-closed (a .n) (a .target .now) (z .pre .0 .1)) (sym (fits-facing kind (a .m) (a .n)) ∙ sym (o .ensures) ∙ not-true (o .result) (c .if1 .taken)) in
+    let w = left (facing kind) request l (passes z) none e in
     (w .says, (w .mapBytes, c .before .before .before .before .fill .ensures ∙ w .scratch))
 
 find-requires : tie.Need-find-requires
@@ -60,8 +60,8 @@ returns-2 c =
     let o = c .before .before .before .before .before .before .order-fits in
     let f = c .before .before .find in
     let filled = c .before .before .before .before .before .before .before .before .before .fill .ensures in
-    let e = answer-none kind (a .next) l (accepted-closed (a .m) (a .source .now) (z .pre .0 .0)) (z .pre .0 .1) (sym (o .ensures) ∙ not-false (o .result) (c .before .before .before .before .before .if1 .left)) _ filled (f .result) (f .ensures) (not-true (f .result .ok) (c .if2 .taken)) in
-    let w = left kind request l (passes z) none e in
+    let e = answer-none kind (a .next) l (accepted-closed (a .m) (a .source .now) (z .pre .0 .0)) (accepted-closed (a .n) (a .target .now) (z .pre .0 .1)) (sym (fits-facing kind (a .m) (a .n)) ∙ sym (o .ensures) ∙ not-false (o .result) (c .before .before .before .before .before .if1 .left)) _ filled (f .result) (f .ensures) (not-true (f .result .ok) (c .if2 .taken)) in
+    let w = left (facing kind) request l (passes z) none e in
     (w .says, (w .mapBytes, filled ∙ w .scratch))
 
 write-map-requires : tie.Need-write-map-requires
@@ -84,8 +84,8 @@ returns-3 c =
     let f = c .before .before .before .before .before .before .before .before .find in
     let filled = c .before .before .before .before .before .before .before .before .before .before .before .before .before .before .before .fill .ensures in
     let ok = not-false (f .result .ok) (c .before .before .before .before .before .before .if2 .left) in
-    let e = answer-some kind (a .next) l (accepted-closed (a .m) (a .source .now) (z .pre .0 .0)) (z .pre .0 .1) (sym (o .ensures) ∙ not-false (o .result) (c .before .before .before .before .before .before .before .before .before .before .before .if1 .left)) _ filled (f .result) (f .ensures) ok in
-    let w = left kind request l (passes z) (some (take (a .m) (f .result .image))) e in
+    let e = answer-some kind (a .next) l (accepted-closed (a .m) (a .source .now) (z .pre .0 .0)) (accepted-closed (a .n) (a .target .now) (z .pre .0 .1)) (sym (fits-facing kind (a .m) (a .n)) ∙ sym (o .ensures) ∙ not-false (o .result) (c .before .before .before .before .before .before .before .before .before .before .before .if1 .left)) _ filled (f .result) (f .ensures) ok in
+    let w = left (facing kind) request l (passes z) (some (take (a .m) (f .result .image))) e in
     (w .says, (c .before .before .write-map .ensures ∙ w .mapBytes, filled ∙ w .scratch))
 
 pub answer-spec : {M : Type 1} → statement M

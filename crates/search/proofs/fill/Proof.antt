@@ -5,7 +5,7 @@ use Rattle.semigroups.specs.Tables.{product}
 use Rattle.semigroups.specs.Calls.{scratchAfter}
 use Rattle.semigroups.specs.Candidates.{candidate}
 use Rattle.search.specs.declared.Kind.{Kind}
-use Rattle.search.specs.Answers.{kindOf}
+use Rattle.search.specs.Answers.{kindOf, facing}
 use Rattle.search.proofs.fill.Statement.{statement}
 use Rattle.search.proofs.fill.Tie as tie
 
@@ -24,8 +24,8 @@ fill-isomorphisms-requires c κs = search needs
 enum-told-3 : tie.Need-enum-told-3
 enum-told-3 c = search needs
 
-fill-reversed-requires : tie.Need-fill-reversed-requires
-fill-reversed-requires c κs = search needs
+fill-isomorphisms-requires-2 : tie.Need-fill-isomorphisms-requires-2
+fill-isomorphisms-requires-2 c κs = search needs
 
 same-length : tie.Need-same-length
 same-length c = search needs
@@ -35,7 +35,7 @@ returns c =
     let z = c .before .before .before .before .before .before .before .before .before in
     let a = z .args in
     c .before .before .fill-embeddings .ensures
-    ∙ ap (λ (k : Kind). scratchAfter (a .m) (a .n) (candidate (kindOf k) (a .m) (product (a .m) (a .source .now)) (a .n) (product (a .n) (a .target .now))) (a .scratch .now)) (sym (c .before .before .before .before .enum-told .given .1))
+    ∙ ap (λ (k : Kind). scratchAfter (a .m) (a .n) (candidate (facing (kindOf k)) (a .m) (product (a .m) (a .source .now)) (a .n) (product (a .n) (a .target .now))) (a .scratch .now)) (sym (c .before .before .before .before .enum-told .given .1))
 
 same-length-2 : tie.Need-same-length-2
 same-length-2 c = search needs
@@ -45,7 +45,7 @@ returns-2 c =
     let z = c .before .before .before .before .before .before .before .before .before in
     let a = z .args in
     c .before .before .fill-isomorphisms .ensures
-    ∙ ap (λ (k : Kind). scratchAfter (a .m) (a .n) (candidate (kindOf k) (a .m) (product (a .m) (a .source .now)) (a .n) (product (a .n) (a .target .now))) (a .scratch .now)) (sym (c .before .before .before .before .enum-told2 .given .1))
+    ∙ ap (λ (k : Kind). scratchAfter (a .m) (a .n) (candidate (facing (kindOf k)) (a .m) (product (a .m) (a .source .now)) (a .n) (product (a .n) (a .target .now))) (a .scratch .now)) (sym (c .before .before .before .before .enum-told2 .given .1))
 
 same-length-3 : tie.Need-same-length-3
 same-length-3 c = search needs
@@ -54,8 +54,8 @@ returns-3 : tie.Need-returns-3
 returns-3 c =
     let z = c .before .before .before .before .before .before .before .before .before in
     let a = z .args in
-    c .before .before .fill-reversed .ensures
-    ∙ ap (λ (k : Kind). scratchAfter (a .m) (a .n) (candidate (kindOf k) (a .m) (product (a .m) (a .source .now)) (a .n) (product (a .n) (a .target .now))) (a .scratch .now)) (sym (c .before .before .before .before .enum-told3 .given .1))
+    c .before .before .fill-isomorphisms2 .ensures
+    ∙ ap (λ (k : Kind). scratchAfter (a .m) (a .n) (candidate (facing (kindOf k)) (a .m) (product (a .m) (a .source .now)) (a .n) (product (a .n) (a .target .now))) (a .scratch .now)) (sym (c .before .before .before .before .enum-told3 .given .1))
 
 pub fill-spec : {M : Type 1} → statement M
 fill-spec =
@@ -66,7 +66,7 @@ fill-spec =
     enum-told-2
     fill-isomorphisms-requires
     enum-told-3
-    fill-reversed-requires
+    fill-isomorphisms-requires-2
     same-length
     returns
     same-length-2
