@@ -19,7 +19,8 @@ use Rattle.semigroups.proofs.Candidates.{size-rows}
 use Rattle.backtrack.specs.declared.Partial.{Partial}
 use Rattle.backtrack.specs.declared.Outcome.{Outcome}
 use Rattle.backtrack.specs.State.{prefix, Holds, Ready, foundIn, Remainder, exhausted, remaining, within, outcomeOf, bounded}
-use Rattle.backtrack.proofs.Placing.{prefix-length, image-padded, used-image}
+use Rattle.constraints.specs.Tracking.{Tracks}
+use Rattle.constraints.proofs.Placing.{prefix-length, image-padded, used-image}
 use Rattle.backtrack.proofs.Limits.{resumed, within-nothing, within-skip, within-unpaid, within-paid, over-stopped, over-found, not-over}
 use Rattle.backtrack.proofs.Steps.{lowest, leftFrom, whole, begin, end, isOpen, tested, shut, opened, fails, goes, still}
 
@@ -121,6 +122,11 @@ pub record Verdict (s t : Product) (p : Partial) (x : ℕ) (r q : Partial) (b : 
   pub says : b ≡ passes s t (prefix r)
   pub same-images : q .image ≡ r .image
   pub same-length : q .len ≡ r .len
+
+-- The constraints as a map is handed on with one more image.
+pub handed-on : (s t : Product) (p q : Partial) → q .len ≡ p .len + 1 → take (p .len) (q .image) ≡ prefix p → q .forced ≡ p .forced → q .owner ≡ p .owner
+    → Tracks s t (prefix p) (p .len) 0 (p .forced) (p .owner) → Tracks s t (take (q .len - 1) (q .image)) (q .len - 1) 0 (q .forced) (q .owner)
+handed-on s t p q el ep ef eo W = let e : q .len - 1 ≡ p .len = omega arith in rw (e, ep, ef, eo) W
 
 -- What was placed before x passes still.
 pub handed-passes : (s t : Product) (p q : Partial) → q .len ≡ p .len + 1 → take (p .len) (q .image) ≡ prefix p → passes s t (prefix p) ≡ true → passes s t (take (q .len - 1) (q .image)) ≡ true

@@ -13,7 +13,7 @@ use Rattle.semigroups.specs.Scratch.{scratchSize}
 use Rattle.semigroups.specs.Maps.{Ask, first, next}
 use Rattle.semigroups.specs.Search.{passes, Placed}
 use Rattle.semigroups.specs.Trials.{Work}
-use Rattle.backtrack.specs.Constraints.{imageProduct, asks, agreeOn, cross, Reads}
+use Rattle.constraints.specs.Tracking.{Placing, Tracks}
 use Rattle.backtrack.specs.declared.Partial.{Partial}
 use Rattle.backtrack.specs.declared.Found.{Found}
 use Rattle.backtrack.specs.declared.Outcome.{Outcome}
@@ -21,31 +21,6 @@ use Rattle.backtrack.specs.declared.Outcome.{Outcome}
 -- The list placed so far.
 abbrev pub prefix : Partial → List ℕ
 prefix p = take (p .len) (p .image)
-
--- The images of the first `len` elements, zeros behind them, and which target elements they use.
-pub record Placing (n : ℕ) (image used : List ℕ) (len : ℕ) : Type 0 where
-  pub long : length image ≡ 120
-  pub wide : length used ≡ 121
-  pub fit : len ≤ 120
-  pub padded : drop len image ≡ replicate (120 - len) 0
-  pub placed : Placed n (take len image)
-  pub uses : (y : ℕ) → y ≤ 120 → getD used y 0 ≡ cond (member y (take len image)) 1 0
-
--- The images of the first `len` elements, x as that of the next, and which target elements other than x they use.
-pub record Trial (n : ℕ) (image used : List ℕ) (len x : ℕ) : Type 0 where
-  pub long : length image ≡ 120
-  pub wide : length used ≡ 121
-  pub room : len < 120
-  pub placed : (a : ℕ) → Element len a → Element n (at image a)
-  pub element : Element n x
-  pub uses : (y : ℕ) → y ≤ 120 → (y ≡ x → ⊥) → getD used y 0 ≡ cond (member y (take len image)) 1 0
-
--- The constraints say what the pairs of the first k elements ask, and the first j of the pairs with element k + 1.
-pub record Tracks (s t : Product) (f : List ℕ) (k j : ℕ) (forced owner : List ℕ) : Type 0 where
-  pub long : length forced ≡ 121
-  pub wide : length owner ≡ 121
-  pub required : Reads forced (λ c y. agreeOn s (imageProduct t f) k c y && all (λ i. cross (asks s (imageProduct t f) c y) (suc k) i) (elements j))
-  pub reserved : Reads owner (λ y c. agreeOn (imageProduct t f) s k y c && all (λ i. cross (asks (imageProduct t f) s y c) (suc k) i) (elements j))
 
 -- A partial map says of its list what it should.
 pub record Holds (s : Product) (n : ℕ) (t : Product) (p : Partial) : Type 0 where

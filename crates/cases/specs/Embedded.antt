@@ -5,10 +5,10 @@ use lib.Dec.{eqb}
 use lib.ListN.{take, drop, replicate}
 use Rattle.semigroups.specs.Maps.{embeddings}
 use Rattle.search.specs.Calls.{Called, theFirst, lend, call}
-use Rattle.comparisons.specs.declared.tally.Tally.{Tally}
+use Rattle.judging.specs.declared.tally.Tally.{Tally}
 use Rattle.comparisons.specs.Said.{saidNumber}
 use Rattle.cases.specs.Answering.{sameBytes}
-use Rattle.comparisons.specs.Tally.{counted}
+use Rattle.judging.specs.Tally.{counted}
 
 -- 1,2 / 2,1
 abbrev swapCells : List ℕ

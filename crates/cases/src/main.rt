@@ -6,8 +6,8 @@ mod worked;
 ghost use Prim.Native.Nat.{_≤_};
 ghost use lib.ListN.{length};
 use comparisons::small;
-use comparisons::tally::Tally;
-use comparisons::tally::put_line;
+use judging::tally::Tally;
+use judging::tally::put_line;
 use libc::STDOUT_FILENO;
 
 // Prints the line of a group.

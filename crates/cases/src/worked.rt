@@ -2,16 +2,16 @@
 ghost use mathlib.Core.Path.{_≡_};
 ghost use Rattle.invariants.specs.Answers.{indexPeriodValue, indexPeriodSays, profileValue, profileSays};
 ghost use Rattle.cases.specs.Answering.{sameGivenPowers, sameGivenProfile};
-ghost use Rattle.comparisons.specs.Tally.{empty, agreed};
-use comparisons::judged::judged;
-use comparisons::tally::Tally;
-use comparisons::tally::counted;
-use comparisons::tally::start;
+ghost use Rattle.judging.specs.Tally.{empty, agreed};
 use comparisons::walk::walk;
 use invariants::ElementProfile;
 use invariants::IndexPeriod;
 use invariants::IndexPeriodAnswer;
 use invariants::ProfileAnswer;
+use judging::judged::judged;
+use judging::tally::Tally;
+use judging::tally::counted;
+use judging::tally::start;
 use plain::Said;
 use plain::failed;
 

@@ -1,4 +1,1 @@
-pub mod Agreement
-pub mod Counting
-pub mod Digits
 pub mod Walking

@@ -32,9 +32,9 @@ use Rattle.plain.specs.Said.{saidOf}
 use Rattle.plain.specs.Enumeration.{numbered, isFound, kindOf}
 use Rattle.comparisons.specs.Said.{saidNumber}
 use Rattle.comparisons.specs.Walking.{called, fullList, laterMaps, whereAccepted, callsBetween, callsTo, callsFrom}
-use Rattle.comparisons.specs.declared.tally.Tally.{Tally}
-use Rattle.comparisons.specs.Tally.{empty, agreed}
-use Rattle.comparisons.proofs.Counting.{agreed-add}
+use Rattle.judging.specs.declared.tally.Tally.{Tally}
+use Rattle.judging.specs.Tally.{empty, agreed}
+use Rattle.judging.proofs.Counting.{agreed-add}
 
 -- ---- the first map is the next one after zeros
 

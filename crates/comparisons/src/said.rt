@@ -1,45 +1,9 @@
-// What is said, as numbers.
+// What a search says, as a number.
 ghost use mathlib.Core.Path.{_≡_};
-ghost use Rattle.tables.specs.Answers.{faultRefusal, verdictRefusal};
 ghost use Rattle.search.specs.Answers.{searchAnswerSays as answerSays};
-ghost use Rattle.plain.specs.Said.{refusalSaid, saidOf};
-ghost use Rattle.comparisons.specs.Said.{sameSaid, saidNumber};
-use plain::Said;
-use plain::failed;
+ghost use Rattle.comparisons.specs.Said.{saidNumber};
+use judging::said::said_of_fault;
 use search::SearchAnswer;
-use tables::Fault;
-use tables::Verdict;
-
-fn said_of_fault(fault: Fault) -> Said
-    ensures answer { λ r. ⌜ r ≡ refusalSaid (faultRefusal fault) ⌝ }
-{
-    match fault {
-        Fault::Order => failed(1, 0),
-        Fault::Size => failed(2, 0),
-        Fault::Cell(k) => failed(3, k),
-        Fault::Triple(i, j, k) => Said {
-            number: 4,
-            first: i,
-            second: j,
-            third: k,
-        },
-    }
-}
-
-pub fn said_of(verdict: Verdict) -> Said
-    ensures answer { λ r. ⌜ r ≡ saidOf (verdictRefusal verdict) ⌝ }
-{
-    match verdict {
-        Verdict::Accepted => failed(0, 0),
-        Verdict::Refused(fault) => said_of_fault(fault),
-    }
-}
-
-pub fn same_said(a: Said, b: Said) -> bool
-    ensures answer { λ r. ⌜ r ≡ sameSaid a b ⌝ }
-{
-    (a.number == b.number) & (a.first == b.first) & (a.second == b.second) & (a.third == b.third)
-}
 
 // What a search says: 100 for found, 0 for none, else the number of the question.
 pub fn said_number(answer: SearchAnswer) -> usize

@@ -1,9 +1,8 @@
 -- The sixteen numbers that a call from another language gets as its answer: the number of the failed question or 0, the side that it names or 0, the
 -- values, and zeros. Assumes nothing.
-use mathlib.Core.List.{List, [], _∷_, _++_}
+use mathlib.Core.List.{List, [], _∷_}
 use mathlib.Core.Option.{Option, none, some}
-use Prim.Native.Nat.{ℕ, _-_}
-use lib.ListN.{length, replicate}
+use Prim.Native.Nat.{ℕ}
 use Rattle.semigroups.specs.Questions.{Refusal}
 use Rattle.semigroups.specs.Calls.{Answer, refused, gives}
 use Rattle.semigroups.specs.Invariants.{IndexPeriod, Profile}
@@ -12,21 +11,13 @@ use Rattle.semigroups.specs.Maps.{Sought, found, nothing}
 use Rattle.semigroups.specs.Trials.{Limited, stopped, ended}
 use Rattle.semigroups.specs.Copies as copies
 use Rattle.tables.specs.Answers.{sideOf}
-use Rattle.tables.specs.declared.Refusal.{Refusal as Numbers}
+use Rattle.numbers.specs.Words.{words}
 
 -- ---- the layout
-
--- A number, a side and all the values, then zeros: sixteen numbers in all where there are at most fourteen values.
-abbrev pub words : ℕ → ℕ → List ℕ → List ℕ
-words number side values = number ∷ side ∷ (values ++ replicate (14 - length values) 0)
 
 -- What is said with a refusal.
 abbrev pub refusalWords : Refusal → List ℕ
 refusalWords r = words (r .number) (sideOf (r .side)) (r .values)
-
--- The same, from its numbers.
-abbrev pub numbersWords : Numbers → List ℕ
-numbersWords r = words (r .number) (r .side) (r .first ∷ r .second ∷ r .third ∷ [])
 
 -- A call that is not refused has number 0 and names no side.
 abbrev pub valueWords : List ℕ → List ℕ

@@ -1,7 +1,6 @@
 // The library's entry points for programs in C and Rust: numbers and lent slices of any content. Each writes sixteen numbers to `answer`: the number of
 // the earliest failed question, or 0; the side that a refusal names, 1 for source or 2 for target, or 0; then the values of the answer, and zeros.
 ghost use mathlib.Core.Path.{_≡_};
-ghost use Prim.Native.Nat.{_≤_};
 ghost use lib.ListN.{length};
 ghost use Rattle.semigroups.specs.Tables.{product};
 ghost use Rattle.semigroups.specs.Invariants.{indexPeriod, profile};
@@ -21,7 +20,7 @@ ghost use Rattle.limited.specs.Answers.{limitedAnswerSays};
 ghost use Rattle.transformations.specs.Answers.{transformationSays, transformationCellsAfter, transformationAnswerSays};
 ghost use Rattle.csv.specs.Calls.{loadAnswer, cellsAfter, saveAnswer, textAfter};
 ghost use Rattle.text.specs.Answers.{loadedAnswer, savedAnswer};
-ghost use Rattle.exports.specs.Answers.{words, numbersWords, questionWords, answerWords, indexPeriodValues, profileValues, checkedValues, soughtValues, limitedValues, numberValues, degreeValues, copiesValues};
+ghost use Rattle.exports.specs.Answers.{questionWords, answerWords, indexPeriodValues, profileValues, checkedValues, soughtValues, limitedValues, numberValues, degreeValues, copiesValues};
 ghost use Rattle.planning.specs.Answers.{degreeSays, positionsAfter, degreeAnswerSays};
 ghost use Rattle.sheets.specs.Readings.{Reading};
 ghost use Rattle.sheets.specs.Calls.{loadNamesAnswer, namesAfter, lengthsAfter, saveNamesAnswer, sheetAfter};
@@ -34,6 +33,8 @@ use invariants::ProfileAnswer;
 use limited::LimitedAnswer;
 use maps::MapAnswer;
 use names::NamesAnswer;
+use numbers::refusal_words;
+use numbers::words;
 use planning::DegreeAnswer;
 use search::SearchAnswer;
 use tables::Refusal;
@@ -43,29 +44,6 @@ use text::Saved;
 use transformations::TransformationAnswer;
 
 // ---- the sixteen numbers of each answer
-
-// Zeros follow the values.
-fn words(number: usize, side: usize, values: &[usize]) -> [u64; 16]
-    requires few { ⌜ length (now values) ≤ 14 ⌝ }
-    ensures answer { λ r. ⌜ r ≡ words number side (now (values .entry)) ⌝ }
-{
-    let mut answer = [0u64; 16];
-    answer[0] = number as u64;
-    answer[1] = side as u64;
-    let mut i: usize = 0;
-    while i < values.len() {
-        answer[i + 2] = values[i] as u64;
-        i += 1;
-    }
-    answer
-}
-
-fn refusal_words(refusal: Refusal) -> [u64; 16]
-    ensures answer { λ r. ⌜ r ≡ numbersWords refusal ⌝ }
-{
-    let values = [refusal.first, refusal.second, refusal.third];
-    words(refusal.number, refusal.side, &values)
-}
 
 fn verdict_words(verdict: Verdict) -> [u64; 16]
     ensures answer { λ r. ⌜ r ≡ questionWords (verdictRefusal verdict) ⌝ }

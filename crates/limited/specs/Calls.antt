@@ -10,7 +10,7 @@ use Rattle.semigroups.specs.Maps.{Kind, embeddings, isomorphisms, reversed, fir
 use Rattle.semigroups.specs.Candidates.{candidate}
 use Rattle.semigroups.specs.Trials.{Work, work, counted, Limited, limited, foundWithin}
 use Rattle.search.specs.Calls.{Lent, theFirst, refusalOf, marksOf}
-use Rattle.search.specs.Answers.{orderFits}
+use Rattle.kinds.specs.Kinds.{orderFits}
 
 -- What a call says, and the two buffers as it leaves them.
 pub record Called : Type 0 where

@@ -14,7 +14,7 @@ use Rattle.semigroups.specs.Trials.{work, Limited, stopped, ended}
 use Rattle.semigroups.specs.Cases.{swap, left, right, two}
 use Rattle.search.specs.Calls.{Lent, lend, theFirst, refusalOf, call}
 use Rattle.search.specs.Wanted.{Passes}
-use Rattle.search.specs.Answers.{orderFits}
+use Rattle.kinds.specs.Kinds.{orderFits}
 use Rattle.limited.specs.Calls.{firstWork, limitedCall}
 
 -- What a search says, with the number of trials.

@@ -8,10 +8,10 @@ ghost use Rattle.semigroups.specs.Tables.{Accepted};
 ghost use Rattle.semigroups.specs.Scratch.{scratchSize};
 ghost use Rattle.semigroups.specs.Maps.{embeddings, isomorphisms, reversed};
 ghost use Rattle.search.specs.Calls.{lend};
-ghost use Rattle.search.specs.Answers.{kindOf, facing};
+ghost use Rattle.kinds.specs.Kinds.{kindOf, facing};
 ghost use Rattle.limited.specs.Calls.{limitedCall};
 ghost use Rattle.limited.specs.Answers.{limitedAnswerSays};
-use search::Kind;
+use kinds::Kind;
 use tables::Fault;
 use tables::PairVerdict;
 use tables::Side;
@@ -43,8 +43,8 @@ fn answer(
     ensures map { λ _. ⌜ now (map .exit) ≡ limitedCall (facing (kindOf kind)) limit (lend (now (source .entry)) m (now (target .entry)) n (now (map .entry)) (now (scratch .entry))) .mapBytes ⌝ }
     ensures scratch { λ _. ⌜ now (scratch .exit) ≡ limitedCall (facing (kindOf kind)) limit (lend (now (source .entry)) m (now (target .entry)) n (now (map .entry)) (now (scratch .entry))) .scratch ⌝ }
 {
-    search::fill(kind, source, m, target, n, scratch);
-    if !search::order_fits(kind, m, n) {
+    kinds::fill(kind, source, m, target, n, scratch);
+    if !kinds::order_fits(kind, m, n) {
         return LimitedAnswer::Nothing(0);
     }
     let result = backtrack::find_within(source, m, target, n, &*scratch, &*map, false, limit);
@@ -56,7 +56,7 @@ fn answer(
         return LimitedAnswer::Nothing(trials);
     }
     let image = result.image;
-    search::write_map(map, &image, m);
+    maps::write_images(map, &image, m);
     LimitedAnswer::Found(trials)
 }
 

@@ -5,8 +5,8 @@ use tables::PairVerdict;
 use tables::Place;
 use tables::Side;
 ghost use mathlib.Core.Path.{_≡_};
-ghost use Prim.Native.Nat.{ℕ};
-ghost use lib.ListN.{length};
+ghost use Prim.Native.Nat.{ℕ, _≤_};
+ghost use lib.ListN.{length, take};
 ghost use Rattle.semigroups.specs.Lists.{at};
 ghost use Rattle.semigroups.specs.Tables.{Product, Element, Filled, IsList, product};
 ghost use Rattle.semigroups.specs.MapCheck.{firstEqual, firstWrong, checkMap};
@@ -113,4 +113,16 @@ pub fn check(source: &[u8], m: usize, target: &[u8], n: usize, map: &[u8]) -> Ma
         return MapAnswer::MapLength;
     }
     examine(source, m, target, n, map)
+}
+
+// Writes the images of the m elements.
+pub fn write_images(map: &mut [u8], image: &[u8; 120], m: usize)
+    requires { ⌜ (length (now map) ≡ m) × (m ≤ 120) × (length (now image) ≡ 120) ⌝ }
+    ensures map { λ _. ⌜ now (map .exit) ≡ take m (now (image .entry)) ⌝ }
+{
+    let mut i: usize = 0;
+    while i < m {
+        map[i] = image[i];
+        i += 1;
+    }
 }

@@ -2,15 +2,11 @@
 -- Assumes nothing.
 use mathlib.Core.Bool.{Bool, true, false}
 use mathlib.Core.List.{[]}
-use Prim.Native.Nat.{ℕ}
-use lib.Dec.{eqb, leb}
 use Rattle.semigroups.specs.Questions.{no, naming}
 use Rattle.semigroups.specs.Calls.{Answer, refused, gives}
 use Rattle.semigroups.specs.Maps as maps
 use Rattle.tables.specs.Answers.{faultRefusal, sideNumber}
 use Rattle.search.specs.Calls.{Request, theFirst, theNext}
-use Rattle.search.specs.declared.Kind.{Kind}
-use Rattle.search.specs.declared.Kind.the-variants.{Embeddings, Isomorphisms, Reversed}
 use Rattle.search.specs.declared.SearchAnswer.{SearchAnswer}
 use Rattle.search.specs.declared.SearchAnswer.the-variants.{Found, Nothing, Refused, MapLength, ScratchLength}
 
@@ -22,23 +18,6 @@ searchAnswerSays (Refused side fault) = refused (naming (sideNumber side) (fault
 searchAnswerSays MapLength = refused (no 5 [])
 searchAnswerSays ScratchLength = refused (no 6 [])
 
-abbrev pub kindOf : Kind → maps.Kind
-kindOf Embeddings = maps.embeddings
-kindOf Isomorphisms = maps.isomorphisms
-kindOf Reversed = maps.reversed
-
 abbrev pub requestOf : Bool → Request
 requestOf true = theNext
 requestOf false = theFirst
-
--- Whether tables of orders m and n can have a map of the kind: m is at most n for embeddings, and equal for isomorphisms and reversed ones (01, "Maps").
-abbrev pub orderFits : maps.Kind → ℕ → ℕ → Bool
-orderFits maps.embeddings m n = leb m n
-orderFits maps.isomorphisms m n = eqb m n
-orderFits maps.reversed m n = eqb m n
-
--- The kind of the maps onto the target as a search meets it: a reversed isomorphism is an isomorphism onto the target turned.
-abbrev pub facing : maps.Kind → maps.Kind
-facing maps.embeddings = maps.embeddings
-facing maps.isomorphisms = maps.isomorphisms
-facing maps.reversed = maps.isomorphisms

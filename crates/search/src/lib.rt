@@ -3,24 +3,17 @@
 // map. A reversed isomorphism is searched as an isomorphism onto the target with rows and columns exchanged.
 ghost use mathlib.Core.Path.{_≡_};
 ghost use Prim.Native.Nat.{_*_, _≤_};
-ghost use lib.ListN.{length, take};
-ghost use Rattle.semigroups.specs.Tables.{product, Accepted};
+ghost use lib.ListN.{length};
+ghost use Rattle.semigroups.specs.Tables.{Accepted};
 ghost use Rattle.semigroups.specs.Scratch.{scratchSize};
-ghost use Rattle.semigroups.specs.Calls.{scratchAfter};
 ghost use Rattle.semigroups.specs.Maps.{embeddings, isomorphisms, reversed};
-ghost use Rattle.semigroups.specs.Candidates.{candidate};
+ghost use Rattle.kinds.specs.Kinds.{kindOf, facing};
 ghost use Rattle.search.specs.Calls.{theFirst, theNext, lend, call};
-ghost use Rattle.search.specs.Answers.{searchAnswerSays, kindOf, requestOf, orderFits, facing};
+ghost use Rattle.search.specs.Answers.{searchAnswerSays, requestOf};
+use kinds::Kind;
 use tables::Fault;
 use tables::PairVerdict;
 use tables::Side;
-
-// The kinds of maps that a search is asked for.
-pub enum Kind {
-    Embeddings,
-    Isomorphisms,
-    Reversed,
-}
 
 // The map is found; there is none; or the earliest failed question: one of a table's four with the table's side, 5, or 6.
 pub enum SearchAnswer {
@@ -29,42 +22,6 @@ pub enum SearchAnswer {
     Refused(Side, Fault),
     MapLength,
     ScratchLength,
-}
-
-// Whether tables of orders m and n can have a map of the kind.
-pub fn order_fits(kind: Kind, m: usize, n: usize) -> bool
-    ensures answer { λ r. ⌜ r ≡ orderFits (kindOf kind) m n ⌝ }
-{
-    match kind {
-        Kind::Embeddings => m <= n,
-        Kind::Isomorphisms => m == n,
-        Kind::Reversed => m == n,
-    }
-}
-
-// Marks the candidates of the kind in scratch. For reversed isomorphisms the target is turned already, and they are those of isomorphisms.
-pub fn fill(kind: Kind, source: &[u8], m: usize, target: &[u8], n: usize, scratch: &mut [u8])
-    requires { ⌜ Accepted m (now source) × Accepted n (now target) ⌝ }
-    requires { ⌜ scratchSize m n ≤ length (now scratch) ⌝ }
-    ensures scratch { λ _. ⌜ now (scratch .exit) ≡ scratchAfter m n (candidate (facing (kindOf kind)) m (product m (now (source .entry))) n (product n (now (target .entry)))) (now (scratch .entry)) ⌝ }
-{
-    match kind {
-        Kind::Embeddings => candidates::fill_embeddings(source, m, target, n, scratch),
-        Kind::Isomorphisms => candidates::fill_isomorphisms(source, m, target, n, scratch),
-        Kind::Reversed => candidates::fill_isomorphisms(source, m, target, n, scratch),
-    }
-}
-
-// Writes the images of the m elements.
-pub fn write_map(map: &mut [u8], image: &[u8; 120], m: usize)
-    requires { ⌜ (length (now map) ≡ m) × (m ≤ 120) × (length (now image) ≡ 120) ⌝ }
-    ensures map { λ _. ⌜ now (map .exit) ≡ take m (now (image .entry)) ⌝ }
-{
-    let mut i: usize = 0;
-    while i < m {
-        map[i] = image[i];
-        i += 1;
-    }
 }
 
 // The search behind the questions: the first map of the kind, or with `next` the first that is later than the bytes of `map`. For reversed isomorphisms
@@ -85,8 +42,8 @@ fn answer(
     ensures map { λ _. ⌜ now (map .exit) ≡ call (facing (kindOf kind)) (requestOf next) (lend (now (source .entry)) m (now (target .entry)) n (now (map .entry)) (now (scratch .entry))) .mapBytes ⌝ }
     ensures scratch { λ _. ⌜ now (scratch .exit) ≡ call (facing (kindOf kind)) (requestOf next) (lend (now (source .entry)) m (now (target .entry)) n (now (map .entry)) (now (scratch .entry))) .scratch ⌝ }
 {
-    fill(kind, source, m, target, n, scratch);
-    if !order_fits(kind, m, n) {
+    kinds::fill(kind, source, m, target, n, scratch);
+    if !kinds::order_fits(kind, m, n) {
         return SearchAnswer::Nothing;
     }
     let result = narrowing::find(source, m, target, n, &*scratch, &*map, next);
@@ -94,7 +51,7 @@ fn answer(
         return SearchAnswer::Nothing;
     }
     let image = result.image;
-    write_map(map, &image, m);
+    maps::write_images(map, &image, m);
     SearchAnswer::Found
 }
 

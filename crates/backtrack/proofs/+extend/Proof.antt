@@ -16,10 +16,9 @@ use Rattle.semigroups.specs.Trials.{work}
 use Rattle.semigroups.proofs.Tables.{product-element}
 use Rattle.backtrack.specs.State.{Remainder, exhausted, remaining, within, outcomeOf}
 use Rattle.backtrack.specs.declared.Outcome.{Outcome}
-use Rattle.backtrack.proofs.Placing.{as-trial}
-use Rattle.backtrack.proofs.Noting.{handed-on}
+use Rattle.constraints.proofs.Placing.{as-trial}
 use Rattle.backtrack.proofs.Steps.{lowest}
-use Rattle.backtrack.proofs.Extending.{Called, Rest, Turn, Verdict, done-bound, done-found, begins, ends, row-marked, unused, skip, stop, refuse, handed-passes, onward, halt, found, fail}
+use Rattle.backtrack.proofs.Extending.{Called, Rest, Turn, Verdict, handed-on, done-bound, done-found, begins, ends, row-marked, unused, skip, stop, refuse, handed-passes, onward, halt, found, fail}
 use Rattle.backtrack.proofs.extend.Reads as extend
 use Rattle.backtrack.proofs.extend.Kinds as extend-kinds
 use Rattle.backtrack.proofs.+extend.Lts-extend as extend-lts
@@ -27,7 +26,7 @@ use Rattle.backtrack.proofs.Partial.place.Reads as place-reads
 use Rattle.backtrack.proofs.Partial.test.Reads as test-reads
 use Rattle.backtrack.proofs.no_map.Reads as no-map-reads
 use Rattle.backtrack.proofs.open.Reads as open-reads
-use Rattle.backtrack.proofs.passes_with.Reads as passes-with-reads
+use Rattle.constraints.proofs.passes_with.Reads as passes-with-reads
 use Rattle.backtrack.proofs.pay.Reads as pay-reads
 use Rattle.backtrack.proofs.+extend.{statement}
 use Rattle.backtrack.proofs.+extend.Tie.{close}

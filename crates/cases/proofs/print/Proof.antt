@@ -1,7 +1,7 @@
 -- `print` prints the part of its buffer that holds the line. Assumes nothing.
 use mathlib.Core.Path.{sym}
 use lib.Seq.{length-take-le}
-use Rattle.comparisons.proofs.Digits.{line-within}
+use Rattle.judging.proofs.Digits.{line-within}
 use borrow.Author.Needs.{needs}
 use Rattle.cases.proofs.print.Statement.{statement}
 use Rattle.cases.proofs.print.Tie as tie

@@ -2,7 +2,7 @@
 -- Assumes nothing.
 use mathlib.Core.Path.{ap, _∙_}
 use Rattle.tables.proofs.Refusals.{fault-brief}
-use Rattle.exports.specs.Answers.{numbersWords}
+use Rattle.numbers.specs.Words.{numbersWords}
 use Rattle.exports.proofs.Values.{refusal-said}
 use borrow.Author.Needs.{needs}
 use Rattle.exports.proofs.saved_words.Statement.{statement}

@@ -1,7 +1,7 @@
 -- `transformation_words` meets its contract: the order, or the failed question.
 -- Assumes nothing.
 use mathlib.Core.Path.{ap, _∙_}
-use Rattle.exports.specs.Answers.{numbersWords}
+use Rattle.numbers.specs.Words.{numbersWords}
 use borrow.Author.Needs.{needs}
 use Rattle.exports.proofs.transformation_words.Statement.{statement}
 use Rattle.exports.proofs.transformation_words.Tie as tie

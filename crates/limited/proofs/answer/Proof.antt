@@ -4,7 +4,7 @@ use borrow.Author.Tests.{not-true, not-false}
 use borrow.Author.Needs.{needs}
 use Rattle.search.specs.Calls.{Lent, lend}
 use Rattle.search.specs.Wanted.{Passes}
-use Rattle.search.specs.Answers.{kindOf}
+use Rattle.kinds.specs.Kinds.{kindOf}
 use Rattle.search.proofs.Answering.{fits-facing}
 use Rattle.limited.proofs.Answering.{answer-unfit, answer-stopped, left-within, answer-nothing, found-length, answer-found}
 use Rattle.limited.proofs.answer.Statement.{statement}
@@ -81,8 +81,8 @@ returns-3 c =
     let w = answer-nothing (kindOf (z .args .kind)) (z .args .limit) (lent z) (passes z) fits _ filled (f .result) (f .ensures) (c .before .before .before .if2 .left) (not-true (f .result .ok) (c .if3 .taken)) in
     (w .says, (w .mapBytes, filled ∙ w .scratch))
 
-write-map-requires : tie.Need-write-map-requires
-write-map-requires c κs =
+write-images-requires : tie.Need-write-images-requires
+write-images-requires c κs =
     let k = c .before .before .before .before .before .before .before in
     let z = k .before .before .before .before .before .before .before .before .before .before .before .before .before in
     let o = k .before .before .before .before .order-fits in
@@ -107,7 +107,7 @@ returns-4 c =
     let filled = k .before .before .before .before .before .before .before .fill .ensures in
     let fits = sym (fits-facing (kindOf (z .args .kind)) (z .args .m) (z .args .n)) ∙ sym (o .ensures) ∙ not-false (o .result) (k .before .before .before .if1 .left) in
     let w = answer-found (kindOf (z .args .kind)) (z .args .limit) (lent z) (passes z) fits _ filled (f .result) (f .ensures) (c .before .before .before .before .before .before .before .before .before .if2 .left) (not-false (f .result .ok) (c .before .before .before .before .before .before .if3 .left)) in
-    (w .says, (c .before .before .write-map .ensures ∙ w .mapBytes, filled ∙ w .scratch))
+    (w .says, (c .before .before .write-images .ensures ∙ w .mapBytes, filled ∙ w .scratch))
 
 pub answer-spec : {M : Type 1} → statement M
 answer-spec =
@@ -125,7 +125,7 @@ answer-spec =
     same-length-4
     same-length-5
     returns-3
-    write-map-requires
+    write-images-requires
     same-length-6
     same-length-7
     returns-4)

@@ -7,7 +7,8 @@ use lib.ListN.{take}
 use Rattle.semigroups.proofs.Tables.{accepted-closed}
 use Rattle.search.specs.Calls.{Lent, lend}
 use Rattle.search.specs.Wanted.{Passes}
-use Rattle.search.specs.Answers.{kindOf, requestOf, facing}
+use Rattle.kinds.specs.Kinds.{kindOf, facing}
+use Rattle.search.specs.Answers.{requestOf}
 use Rattle.search.proofs.Answering.{fits-facing, answer-unfit, answer-none, answer-some, left}
 use Rattle.search.proofs.answer.Statement.{statement}
 use Rattle.search.proofs.answer.Tie as tie
@@ -64,8 +65,8 @@ returns-2 c =
     let w = left (facing kind) request l (passes z) none e in
     (w .says, (w .mapBytes, filled ∙ w .scratch))
 
-write-map-requires : tie.Need-write-map-requires
-write-map-requires c κs = search needs
+write-images-requires : tie.Need-write-images-requires
+write-images-requires c κs = search needs
 
 same-length-4 : tie.Need-same-length-4
 same-length-4 c = search needs
@@ -86,7 +87,7 @@ returns-3 c =
     let ok = not-false (f .result .ok) (c .before .before .before .before .before .before .if2 .left) in
     let e = answer-some kind (a .next) l (accepted-closed (a .m) (a .source .now) (z .pre .0 .0)) (accepted-closed (a .n) (a .target .now) (z .pre .0 .1)) (sym (fits-facing kind (a .m) (a .n)) ∙ sym (o .ensures) ∙ not-false (o .result) (c .before .before .before .before .before .before .before .before .before .before .before .if1 .left)) _ filled (f .result) (f .ensures) ok in
     let w = left (facing kind) request l (passes z) (some (take (a .m) (f .result .image))) e in
-    (w .says, (c .before .before .write-map .ensures ∙ w .mapBytes, filled ∙ w .scratch))
+    (w .says, (c .before .before .write-images .ensures ∙ w .mapBytes, filled ∙ w .scratch))
 
 pub answer-spec : {M : Type 1} → statement M
 answer-spec =
@@ -100,7 +101,7 @@ answer-spec =
     same-length-2
     same-length-3
     returns-2
-    write-map-requires
+    write-images-requires
     same-length-4
     same-length-5
     returns-3)

@@ -10,8 +10,9 @@ use Rattle.semigroups.specs.Scratch.{scratchSize}
 use Rattle.tables.specs.Answers.{pairRefusal}
 use Rattle.tables.proofs.Questions.{tables-accepted}
 use Rattle.search.specs.Calls.{Called, lend, call}
-use Rattle.search.specs.Answers.{kindOf, requestOf, facing}
-use Rattle.search.specs.declared.Kind.{Kind}
+use Rattle.kinds.specs.Kinds.{kindOf, facing}
+use Rattle.search.specs.Answers.{requestOf}
+use Rattle.kinds.specs.declared.Kind.{Kind}
 use Rattle.search.proofs.Answering.{tables-refused, map-refused, scratch-refused}
 use Rattle.search.proofs.Calls.{refused-unchanged, as-called}
 use Rattle.search.proofs.search.Statement.{statement}

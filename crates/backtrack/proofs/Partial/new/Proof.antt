@@ -1,7 +1,7 @@
 -- `Partial::new` meets its contract: nothing is placed, used or asked. Assumes nothing.
 use mathlib.Core.Path.{refl}
-use Rattle.backtrack.proofs.Placing.{no-placing}
-use Rattle.backtrack.proofs.Noting.{nothing-noted}
+use Rattle.constraints.proofs.Placing.{no-placing}
+use Rattle.constraints.proofs.Noting.{nothing-noted}
 use Rattle.backtrack.proofs.Partial.new.Statement.{statement}
 use Rattle.backtrack.proofs.Partial.new.Tie as tie
 

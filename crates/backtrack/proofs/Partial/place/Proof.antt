@@ -1,7 +1,7 @@
 -- `Partial::place` meets its contract: one more image, one more element used. Assumes nothing.
 use mathlib.Core.Path.{refl}
 use borrow.Author.Needs.{needs}
-use Rattle.backtrack.proofs.Placing.{more-placing, more-prefix, more-before}
+use Rattle.constraints.proofs.Placing.{more-placing, more-prefix, more-before}
 use Rattle.backtrack.proofs.Partial.place.Statement.{statement}
 use Rattle.backtrack.proofs.Partial.place.Tie as tie
 

@@ -5,8 +5,8 @@ use Rattle.semigroups.specs.Lists.{at}
 use Rattle.semigroups.specs.Tables.{product}
 use Rattle.semigroups.specs.Search.{passes}
 use Rattle.semigroups.proofs.Tables.{product-element}
-use Rattle.backtrack.proofs.Placing.{image-element, newest-prefix, newest-fresh, newest-trial}
-use Rattle.backtrack.proofs.Noting.{newest-tracks}
+use Rattle.constraints.proofs.Placing.{image-element, newest-prefix, newest-fresh, newest-trial}
+use Rattle.constraints.proofs.Noting.{newest-tracks}
 use Rattle.backtrack.proofs.Partial.test.Statement.{statement}
 use Rattle.backtrack.proofs.Partial.test.Tie as tie
 

@@ -11,10 +11,10 @@ use Rattle.semigroups.specs.Maps.{after}
 use Rattle.semigroups.specs.Transformations.{transformations, transformationOrder, transformation, numberOf, transformationProduct, transformationCells, transformationRefusal}
 use Rattle.transformations.specs.Answers.{transformationSays, transformationCellsAfter}
 use Rattle.plain.specs.declared.Said.{Said}
-use Rattle.comparisons.specs.Said.{sameSaid}
+use Rattle.judging.specs.Said.{sameSaid}
 use Rattle.cases.specs.Answering.{answerSaid, sameBytes}
-use Rattle.comparisons.specs.Tally.{empty, agreed}
-use Rattle.comparisons.proofs.Counting.{two-more}
+use Rattle.judging.specs.Tally.{empty, agreed}
+use Rattle.judging.proofs.Counting.{two-more}
 use borrow.Author.Needs.{needs}
 use Rattle.cases.proofs.limits.degrees.Statement.{statement}
 use Rattle.cases.proofs.limits.degrees.Tie as tie

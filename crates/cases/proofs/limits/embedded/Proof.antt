@@ -6,7 +6,7 @@ use lib.Dec.{eqb}
 use lib.ListN.{drop, replicate}
 use lib.Seq.{length-take-le, length-front}
 use Rattle.comparisons.specs.Said.{saidNumber}
-use Rattle.comparisons.specs.Tally.{counted}
+use Rattle.judging.specs.Tally.{counted}
 use Rattle.cases.proofs.Bytes.{same-left}
 use borrow.Author.Needs.{needs}
 use Rattle.cases.proofs.limits.embedded.Statement.{statement}

@@ -3,9 +3,9 @@ use Prim.Native.Nat.{ℕ}
 use mathlib.Core.Path.{ap, ap₂, _∙_}
 use mathlib.Core.List.{List, [], _∷_}
 use Rattle.plain.specs.declared.Said.{Said}
-use Rattle.comparisons.specs.Said.{sameSaid}
+use Rattle.judging.specs.Said.{sameSaid}
 use Rattle.cases.specs.Answering.{answerSaid, sameBytes}
-use Rattle.comparisons.specs.Tally.{counted}
+use Rattle.judging.specs.Tally.{counted}
 use borrow.Author.Needs.{needs}
 use Rattle.cases.proofs.limits.field.Statement.{statement}
 use Rattle.cases.proofs.limits.field.Tie as tie

@@ -12,10 +12,10 @@ use Rattle.csv.specs.Tables.{fieldsOf, orderOf, cellsOf}
 use Rattle.csv.specs.Questions.{breakAt, inBreak, isAllowed, firstOther, bytesRefusal, fieldRefusal, fieldsRefusal, isSquare, fieldsQuestions, loadRefusal}
 use Rattle.csv.specs.Calls.{loadAnswer, cellsAfter}
 use Rattle.plain.specs.declared.Said.{Said}
-use Rattle.comparisons.specs.Said.{sameSaid}
+use Rattle.judging.specs.Said.{sameSaid}
 use Rattle.cases.specs.Answering.{answerSaid, sameBytes}
-use Rattle.comparisons.specs.Tally.{empty, agreed}
-use Rattle.comparisons.proofs.Counting.{two-more}
+use Rattle.judging.specs.Tally.{empty, agreed}
+use Rattle.judging.proofs.Counting.{two-more}
 use borrow.Author.Needs.{needs}
 use Rattle.cases.proofs.limits.fields.Statement.{statement}
 use Rattle.cases.proofs.limits.fields.Tie as tie

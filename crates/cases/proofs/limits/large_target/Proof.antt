@@ -14,13 +14,13 @@ use Rattle.semigroups.proofs.Tables.{accepted}
 use Rattle.semigroups.proofs.Transformations.{degrees-accepted, length-cells}
 use Rattle.transformations.specs.Answers.{transformationSays, transformationCellsAfter}
 use Rattle.plain.specs.declared.Said.{Said}
-use Rattle.comparisons.specs.declared.tally.Tally.{Tally}
-use Rattle.comparisons.specs.Said.{sameSaid}
+use Rattle.judging.specs.declared.tally.Tally.{Tally}
+use Rattle.judging.specs.Said.{sameSaid}
 use Rattle.cases.specs.Answering.{answerSaid}
 use Rattle.cases.specs.Embedded.{mat5Cells}
-use Rattle.comparisons.specs.Tally.{empty, counted, agreed}
+use Rattle.judging.specs.Tally.{empty, counted, agreed}
 use Rattle.comparisons.specs.Walking.{walkCalls}
-use Rattle.comparisons.proofs.Counting.{agreed-counted}
+use Rattle.judging.proofs.Counting.{agreed-counted}
 use borrow.Author.Needs.{needs}
 use Rattle.cases.proofs.limits.large_target.Statement.{statement}
 use Rattle.cases.proofs.limits.large_target.Tie as tie

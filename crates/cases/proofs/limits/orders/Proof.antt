@@ -11,11 +11,11 @@ use Rattle.semigroups.specs.Questions.{no, tableRefusal}
 use Rattle.tables.proofs.Questions.{order-high, cells-refused}
 use Rattle.plain.specs.declared.Said.{Said}
 use Rattle.plain.specs.Said.{saidOf}
-use Rattle.comparisons.specs.declared.tally.Tally.{Tally}
-use Rattle.comparisons.specs.Said.{sameSaid}
-use Rattle.comparisons.specs.Tally.{empty, counted, agreed}
-use Rattle.comparisons.proofs.Agreement.{same-said-itself}
-use Rattle.comparisons.proofs.Counting.{two-more}
+use Rattle.judging.specs.declared.tally.Tally.{Tally}
+use Rattle.judging.specs.Said.{sameSaid}
+use Rattle.judging.specs.Tally.{empty, counted, agreed}
+use Rattle.judging.proofs.Agreement.{same-said-itself}
+use Rattle.judging.proofs.Counting.{two-more}
 use borrow.Author.Needs.{needs}
 use Rattle.cases.proofs.limits.orders.Statement.{statement}
 use Rattle.cases.proofs.limits.orders.Tie as tie

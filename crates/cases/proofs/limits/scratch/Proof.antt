@@ -13,7 +13,7 @@ use Rattle.semigroups.specs.Maps.{isHomomorphism, isEmbedding, maps, earliest}
 use Rattle.search.specs.Calls.{call}
 use Rattle.cases.specs.Answering.{sameBytes}
 use Rattle.cases.specs.Embedded.{embeddedTally}
-use Rattle.comparisons.specs.Tally.{empty, agreed}
+use Rattle.judging.specs.Tally.{empty, agreed}
 use borrow.Author.Needs.{needs}
 use Rattle.cases.proofs.limits.scratch.Statement.{statement}
 use Rattle.cases.proofs.limits.scratch.Tie as tie

@@ -10,9 +10,9 @@ use Rattle.semigroups.specs.Calls.{Answer, givenUnless}
 use Rattle.semigroups.specs.Invariants.{IndexPeriod, Profile, power, periodFrom, index, period, idempotentPower, indexPeriod, sameIndexPeriod, frequency, diagonalFrequency, rowFrequency, columnFrequency, commuting, profile, sameProfile}
 use Rattle.cases.specs.Answering.{sameGivenPowers, sameGivenProfile}
 use Rattle.cases.specs.Embedded.{mat5Cells}
-use Rattle.comparisons.specs.Tally.{empty, counted, agreed}
-use Rattle.comparisons.proofs.Counting.{two-more}
-use Rattle.comparisons.specs.declared.tally.Tally.{Tally}
+use Rattle.judging.specs.Tally.{empty, counted, agreed}
+use Rattle.judging.proofs.Counting.{two-more}
+use Rattle.judging.specs.declared.tally.Tally.{Tally}
 use borrow.Author.Needs.{needs}
 use Rattle.cases.proofs.worked.elements.Statement.{statement}
 use Rattle.cases.proofs.worked.elements.Tie as tie

@@ -12,9 +12,9 @@ use Rattle.semigroups.specs.Questions.{cellsRefusal, tableRefusal}
 use Rattle.semigroups.specs.Maps.{isHomomorphism, isEmbedding, isIsomorphism, maps}
 use Rattle.semigroups.proofs.Tables.{accepted}
 use Rattle.cases.specs.Embedded.{mat5Cells}
-use Rattle.comparisons.specs.Tally.{empty, agreed}
+use Rattle.judging.specs.Tally.{empty, agreed}
 use Rattle.comparisons.specs.Walking.{laterMaps, walkCalls}
-use Rattle.comparisons.proofs.Counting.{calls-more}
+use Rattle.judging.proofs.Counting.{calls-more}
 use borrow.Author.Needs.{needs}
 use Rattle.cases.proofs.worked.maps.Statement.{statement}
 use Rattle.cases.proofs.worked.maps.Tie as tie

@@ -8,9 +8,9 @@ use Rattle.semigroups.specs.Tables.{product, isElement, associates, badCell, ba
 use Rattle.semigroups.specs.Questions.{cellsRefusal, tableRefusal}
 use Rattle.plain.specs.declared.Said.{Said}
 use Rattle.plain.specs.Said.{saidOf}
-use Rattle.comparisons.specs.Said.{sameSaid}
-use Rattle.comparisons.specs.Tally.{empty, agreed}
-use Rattle.comparisons.proofs.Counting.{two-more}
+use Rattle.judging.specs.Said.{sameSaid}
+use Rattle.judging.specs.Tally.{empty, agreed}
+use Rattle.judging.proofs.Counting.{two-more}
 use borrow.Author.Needs.{needs}
 use Rattle.cases.proofs.worked.tables.Statement.{statement}
 use Rattle.cases.proofs.worked.tables.Tie as tie

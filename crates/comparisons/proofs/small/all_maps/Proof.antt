@@ -5,7 +5,7 @@ use native.Mathlib.Omega.{arith}
 use borrow.Author.Needs.{needs}
 use lib.ListN.{length}
 use Rattle.plain.proofs.Fronts.{front-long, front-read}
-use Rattle.comparisons.specs.Tally.{empty, agreed}
+use Rattle.judging.specs.Tally.{empty, agreed}
 use Rattle.comparisons.specs.Walking.{callsFrom}
 use Rattle.comparisons.proofs.Walking.{cells-few, from-begin, from-next}
 use Rattle.comparisons.proofs.small.all_maps.Statement.{statement}

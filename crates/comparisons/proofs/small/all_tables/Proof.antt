@@ -6,9 +6,9 @@ use native.Mathlib.Omega.{arith}
 use borrow.Author.Needs.{needs}
 use lib.ListN.{length}
 use Rattle.plain.proofs.Fronts.{front-long}
-use Rattle.comparisons.specs.declared.tally.Tally.{Tally}
-use Rattle.comparisons.specs.Tally.{empty, counted, agreed}
-use Rattle.comparisons.proofs.Counting.{agreed-next}
+use Rattle.judging.specs.declared.tally.Tally.{Tally}
+use Rattle.judging.specs.Tally.{empty, counted, agreed}
+use Rattle.judging.proofs.Counting.{agreed-next}
 use Rattle.comparisons.proofs.Walking.{cells-few}
 use Rattle.comparisons.proofs.small.all_tables.Statement.{statement}
 use Rattle.comparisons.proofs.small.all_tables.Tie as tie

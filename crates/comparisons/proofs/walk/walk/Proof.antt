@@ -8,9 +8,9 @@ use native.Mathlib.Omega.{arith}
 use borrow.Author.Needs.{needs}
 use denote.Ref.{now}
 use lib.ListN.{length}
-use Rattle.comparisons.specs.Tally.{counted, agreed}
+use Rattle.judging.specs.Tally.{counted, agreed}
 use Rattle.comparisons.specs.Walking.{laterMaps}
-use Rattle.comparisons.proofs.Counting.{walk-ends, walk-goes}
+use Rattle.judging.proofs.Counting.{walk-ends, walk-goes}
 use Rattle.comparisons.proofs.Walking.{left-found, left-none}
 use Rattle.comparisons.proofs.walk.walk.Statement.{statement}
 use Rattle.comparisons.proofs.walk.walk.Tie as tie

@@ -1,0 +1,181 @@
+-- The constraints as pairs are noted and an element is placed, and what they decide of the next image. Assumes nothing.
+use mathlib.Core.Path.{_≡_, sym, ap, ap₂, subst, _∙_}
+use mathlib.Core.Bool.{Bool, true, false, _&&_, and-true, and-assoc}
+use mathlib.Core.List.{List, [], _∷_, _++_}
+use Prim.Native.Nat.{ℕ, zero, suc, _+_, _-_, _≤_, _<_}
+use native.Mathlib.Numerals.{add-one}
+use native.Mathlib.Omega.{arith}
+use lib.ListN.{length, getD, take, length-set, replicate, length-replicate, getD-replicate}
+use lib.Seq.{length-take-le, getD-take}
+use Rattle.semigroups.specs.Lists.{range, elements, at, all, member}
+use Rattle.semigroups.specs.Tables.{Product, Element, Closed}
+use Rattle.semigroups.specs.Search.{passes}
+use Rattle.constraints.specs.Constraints.{allows, merge, noted, imageProduct, asks, agreeOn, cross, newFits, Reads}
+use Rattle.constraints.specs.Tracking.{Placing, Tracks}
+use Rattle.constraints.proofs.Placing.{newest-prefix}
+use Rattle.constraints.proofs.Constraints.{note-reads, each-more, agreeOn-more, agreeOn-forced, agreeOn-owner, settle}
+
+-- ---- the pairs of the newest element
+
+-- What constraints say of the pairs of the first k elements and the first j pairs with the next.
+abbrev said : Product → Product → ℕ → ℕ → ℕ → ℕ → Bool
+said u v k j c y = agreeOn u v k c y && all (λ i. cross (asks u v c y) (suc k) i) (elements j)
+
+-- One array of constraints, after both pairs of elements j + 1 and k + 1.
+both-noted : (u v : Product) (k j : ℕ) (constraints : List ℕ) → length constraints ≡ 121 → Element 120 (u (suc j) (suc k)) → Element 120 (v (suc j) (suc k)) → Element 120 (u (suc k) (suc j)) → Element 120 (v (suc k) (suc j))
+    → Reads constraints (said u v k j)
+    → Reads (noted (noted constraints (u (suc j) (suc k)) (v (suc j) (suc k))) (u (suc k) (suc j)) (v (suc k) (suc j))) (said u v k (suc j))
+both-noted u v k j constraints l hu hv gu gv R c y hc hy =
+    let once = note-reads constraints (said u v k j) (u (suc j) (suc k)) (v (suc j) (suc k)) l hu hv R in
+    let twice = note-reads (noted constraints (u (suc j) (suc k)) (v (suc j) (suc k))) (λ c y. said u v k j c y && asks u v c y (suc j) (suc k)) (u (suc k) (suc j)) (v (suc k) (suc j))
+    (length-set constraints (u (suc j) (suc k)) (merge (getD constraints (u (suc j) (suc k)) 0) (v (suc j) (suc k))) ∙ l) gu gv once in
+    let A = agreeOn u v k c y in
+    let J = all (λ i. cross (asks u v c y) (suc k) i) (elements j) in
+    let P = asks u v c y (suc j) (suc k) in
+    let Q = asks u v c y (suc k) (suc j) in
+    twice c y hc hy ∙ and-assoc (A && J) P Q ∙ and-assoc A J (P && Q) ∙ ap (λ (b : Bool). A && b) (sym (each-more j (λ i. cross (asks u v c y) (suc k) i)))
+
+module _ (s t : Product) (f : List ℕ) (k : ℕ) where
+  abbrev v : Product
+  v = imageProduct t f
+
+  -- Both pairs of j and the newest element, k + 1, noted.
+  pub pairs-noted : (j : ℕ) → 1 ≤ j → (forced owner : List ℕ) → Element 120 (s j (suc k)) → Element 120 (v j (suc k)) → Element 120 (s (suc k) j) → Element 120 (v (suc k) j)
+      → Tracks s t f k (j - 1) forced owner
+      → Tracks s t f k j (noted (noted forced (s j (suc k)) (v j (suc k))) (s (suc k) j) (v (suc k) j)) (noted (noted owner (v j (suc k)) (s j (suc k))) (v (suc k) j) (s (suc k) j))
+  pairs-noted zero h forced owner a b c d W = absurd (let z : ⊥ = omega arith in z)
+  pairs-noted (suc j) h forced owner a b c d W′ =
+      let W = subst (λ (i : ℕ). Tracks s t f k i forced owner) (let z : suc j - 1 ≡ j = omega arith in z) W′ in
+      record {
+        long = simp length-set (W .long);
+        wide = simp length-set (W .wide);
+        required = both-noted s v k j forced (W .long) a b c d (W .required);
+        reserved = both-noted v s k j owner (W .wide) b a d c (W .reserved);
+      }
+
+  -- All of them noted.
+  pub all-noted : (forced owner : List ℕ) → Tracks s t f k (suc k) forced owner → Tracks s t f (suc k) 0 forced owner
+  unfolding all elements range
+  all-noted forced owner W =
+      record {
+        long = W .long;
+        wide = W .wide;
+        required = λ c y hc hy. W .required c y hc hy ∙ sym (and-true (agreeOn s v (suc k) c y) ∙ agreeOn-more s v k c y);
+        reserved = λ c y hc hy. W .reserved c y hc hy ∙ sym (and-true (agreeOn v s (suc k) c y) ∙ agreeOn-more v s k c y);
+      }
+
+-- Nothing placed, nothing asked.
+pub nothing-noted : (s t : Product) → Tracks s t [] 0 0 (replicate 121 0) (replicate 121 0)
+unfolding agreeOn all elements range
+nothing-noted s t =
+    record {
+      long = length-replicate {A = ℕ} 121 0;
+      wide = length-replicate {A = ℕ} 121 0;
+      required = λ c y hc hy. ap (λ (w : ℕ). allows w y) (getD-replicate 121 c 0 0 (omega arith));
+      reserved = λ c y hc hy. ap (λ (w : ℕ). allows w y) (getD-replicate 121 c 0 0 (omega arith));
+    }
+
+module _ (m : ℕ) (s t : Product) (closed : Closed m s) (f : List ℕ) (x : ℕ) (short : length f < m) where
+  -- An element placed, and no pair of it noted yet.
+  pub placed-tracks : (forced owner : List ℕ) → Tracks s t f (length f) 0 forced owner → Tracks s t (f ++ x ∷ []) (length f) 0 forced owner
+  unfolding all elements range
+  placed-tracks forced owner W =
+      record {
+        long = W .long;
+        wide = W .wide;
+        required = λ c y hc hy. W .required c y hc hy ∙ ap (λ (b : Bool). b && true) (agreeOn-forced m s t closed f x short c y);
+        reserved = λ c y hc hy. W .reserved c y hc hy ∙ ap (λ (b : Bool). b && true) (agreeOn-owner m s t closed f x short c y);
+      }
+
+  -- What the constraints say of x as the next image, with the new pairs, is whether the list passes.
+  pub decides : m ≤ 120 → (forced owner : List ℕ) → Tracks s t f (length f) 0 forced owner → passes s t f ≡ true → Element 120 x → member x f ≡ false
+      → passes s t (f ++ x ∷ []) ≡ ((allows (getD forced (length f + 1) 0) x && allows (getD owner x 0) (length f + 1)) && newFits s t (f ++ x ∷ []))
+  unfolding all elements range
+  decides hm forced owner W pass hx fresh =
+      let k = length f in
+      let F = W .required (k + 1) x (omega arith) hx ∙ and-true (agreeOn s (imageProduct t f) k (k + 1) x) in
+      let O = W .reserved x (k + 1) hx (omega arith) ∙ and-true (agreeOn (imageProduct t f) s k x (k + 1)) in
+      settle m s t closed f x short pass fresh
+      ∙ ap (λ (b : Bool). b && newFits s t (f ++ x ∷ []))
+      (ap₂ _&&_ (ap (λ (i : ℕ). agreeOn s (imageProduct t f) k i x) (sym (add-one k)) ∙ sym F) (ap (λ (i : ℕ). agreeOn (imageProduct t f) s k x i) (sym (add-one k)) ∙ sym O))
+
+-- ---- one turn of the loop that notes the pairs of the newest element
+
+module _ (m : ℕ) (s : Product) (n : ℕ) (t : Product) (source : Closed m s) (target : Closed n t) (hm : m ≤ 120) (hn : n ≤ 120)
+    (image : List ℕ) (len : ℕ) (images : (a : ℕ) → Element len a → Element n (at image a)) (fit : len ≤ m) (j : ℕ) (hj : Element len j) where
+  abbrev f : List ℕ
+  f = take len image
+
+  seen-at : (a : ℕ) → Element len a → at image a ≡ at f a
+  unfolding at
+  seen-at a h = sym (getD-take len image (a - 1) 0 (omega arith))
+
+  seen : (a b : ℕ) → Element len a → Element len b → imageProduct t image a b ≡ imageProduct t f a b
+  seen a b ha hb = ap₂ t (seen-at a ha) (seen-at b hb)
+
+  source-small : (a b : ℕ) → Element len a → Element len b → Element 120 (s a b)
+  source-small a b ha hb = let e = source a b (omega arith) (omega arith) in omega arith
+
+  target-small : (a b : ℕ) → Element len a → Element len b → Element 120 (imageProduct t f a b)
+  target-small a b ha hb =
+      let e = target (at f a) (at f b) (subst (Element n) (seen-at a ha) (images a ha)) (subst (Element n) (seen-at b hb) (images b hb)) in
+      omega arith
+
+  pub turn : (forced owner forced₁ owner₁ forced₂ owner₂ : List ℕ) → Tracks s t f (len - 1) (j - 1) forced owner
+      → forced₁ ≡ noted forced (s j len) (imageProduct t image j len) → owner₁ ≡ noted owner (imageProduct t image j len) (s j len)
+      → forced₂ ≡ noted forced₁ (s len j) (imageProduct t image len j) → owner₂ ≡ noted owner₁ (imageProduct t image len j) (s len j)
+      → Tracks s t f (len - 1) (j + 1 - 1) forced₂ owner₂
+  turn forced owner forced₁ owner₁ forced₂ owner₂ W ef eo gf go =
+      let v = imageProduct t f in
+      let hl : Element len len = omega arith in
+      let last : suc (len - 1) ≡ len = omega arith in
+      let at-last : (u : Product) → Element 120 (u j len) → Element 120 (u j (suc (len - 1))) = (λ u h. subst (λ (i : ℕ). Element 120 (u j i)) (sym last) h) in
+      let last-at : (u : Product) → Element 120 (u len j) → Element 120 (u (suc (len - 1)) j) = (λ u h. subst (λ (i : ℕ). Element 120 (u i j)) (sym last) h) in
+      let both = pairs-noted s t f (len - 1) j (hj .0) forced owner (at-last s (source-small j len hj hl)) (at-last v (target-small j len hj hl)) (last-at s (source-small len j hl hj)) (last-at v (target-small len j hl hj)) W in
+      let noted-both = subst (λ (i : ℕ). Tracks s t f (len - 1) j (noted (noted forced (s j i) (v j i)) (s i j) (v i j)) (noted (noted owner (v j i) (s j i)) (v i j) (s i j))) last both in
+      rw (let z : j + 1 - 1 ≡ j = omega arith in z, gf, go, ef, eo, seen j len hj hl, seen len j hl hj) noted-both
+
+  -- All turns done.
+  pub turns-done : 1 ≤ len → (i : ℕ) → i ≡ len + 1 → (forced owner : List ℕ) → Tracks s t f (len - 1) (i - 1) forced owner → Tracks s t f len 0 forced owner
+  turns-done h i e forced owner W =
+      let last : suc (len - 1) ≡ len = omega arith in
+      subst (λ (k : ℕ). Tracks s t f k 0 forced owner) last (all-noted s t f (len - 1) forced owner (subst (λ (k : ℕ). Tracks s t f (len - 1) k forced owner) (let z : i - 1 ≡ suc (len - 1) = omega arith in z) W))
+
+-- ---- what is placed, and x as the next image
+
+module _ (m : ℕ) (s t : Product) (closed : Closed m s) (f : List ℕ) (len : ℕ) (long : length f ≡ len) (room : len < m) (x : ℕ) (forced owner : List ℕ) (W : Tracks s t f len 0 forced owner) where
+  abbrev g : List ℕ
+  g = f ++ x ∷ []
+
+  abbrev allowed : Bool
+  allowed = allows (getD forced (len + 1) 0) x && allows (getD owner x 0) (len + 1)
+
+  tracked : Tracks s t f (length f) 0 forced owner
+  tracked = subst (λ (k : ℕ). Tracks s t f k 0 forced owner) (sym long) W
+
+  -- With x placed, no pair of it is noted yet.
+  pub next-tracks : Tracks s t g len 0 forced owner
+  next-tracks = subst (λ (k : ℕ). Tracks s t g k 0 forced owner) long (placed-tracks m s t closed f x (omega arith) forced owner tracked)
+
+  -- The constraints and the new pairs decide whether x passes as the next image.
+  module _ (hm : m ≤ 120) (pass : passes s t f ≡ true) (hx : Element 120 x) (fresh : member x f ≡ false) where
+    decided : passes s t g ≡ (allowed && newFits s t g)
+    decided =
+        decides m s t closed f x (omega arith) hm forced owner tracked pass hx fresh
+        ∙ ap (λ (k : ℕ). (allows (getD forced (k + 1) 0) x && allows (getD owner x 0) (k + 1)) && newFits s t g) long
+
+    pub constraints-refuse : allowed ≡ false → passes s t g ≡ false
+    constraints-refuse e = decided ∙ ap (λ (b : Bool). b && newFits s t g) e
+
+    pub constraints-allow : allowed ≡ true → passes s t g ≡ newFits s t g
+    constraints-allow e = decided ∙ ap (λ (b : Bool). b && newFits s t g) e
+
+-- The newest element placed, and no pair of it noted yet.
+pub newest-tracks : (m : ℕ) (s : Product) (n : ℕ) (t : Product) → Closed m s → (image used : List ℕ) (len : ℕ) → Placing n image used len → Element m len → (forced owner : List ℕ)
+    → Tracks s t (take (len - 1) image) (len - 1) 0 forced owner → Tracks s t (take len image) (len - 1) 0 forced owner
+newest-tracks m s n t closed image used len P h forced owner W =
+    let l = P .long in
+    let k = P .fit in
+    let x = getD image (len - 1) 0 in
+    subst (λ (f : List ℕ). Tracks s t f (len - 1) 0 forced owner) (newest-prefix n image used len P (h .0))
+    (next-tracks m s t closed (take (len - 1) image) (len - 1) (length-take-le (len - 1) image (omega arith)) (omega arith) x forced owner W)

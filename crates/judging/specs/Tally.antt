@@ -1,0 +1,48 @@
+-- The count of a group's comparisons, and the line that is printed of it.
+-- Assumes nothing.
+use mathlib.Core.Bool.{Bool, true, false, cond}
+use mathlib.Core.List.{List, [], _∷_, _++_}
+use Prim.Native.Nat.{ℕ, zero, suc, _+_}
+use lib.Dec.{eqb}
+use Rattle.csv.specs.Decimals.{numeralWithin}
+use Rattle.judging.specs.declared.tally.Tally.{Tally}
+
+-- Nothing is compared yet.
+abbrev pub empty : Tally
+empty = record { agreeing = 0; differing = 0 }
+
+-- One more; a count that is full stays as it is.
+unfoldable pub up : ℕ → ℕ
+up k = cond (eqb k 18446744073709551615) k (k + 1)
+
+-- The count after one more comparison.
+abbrev pub counted : Tally → Bool → Tally
+counted t true = record { agreeing = up (t .agreeing); differing = t .differing }
+counted t false = record { agreeing = t .agreeing; differing = up (t .differing) }
+
+-- The count after k more comparisons that agree.
+unfoldable pub agreed : ℕ → Tally → Tally
+agreed zero t = t
+agreed (suc k) t = counted (agreed k t) true
+
+-- ---- the line
+
+-- A count in decimal: 20 digits are enough.
+abbrev pub decimal : ℕ → List ℕ
+decimal k = numeralWithin 20 k
+
+-- ": "
+abbrev pub colon : List ℕ
+colon = 58 ∷ 32 ∷ []
+
+-- " agree, "
+abbrev pub agreeWord : List ℕ
+agreeWord = 32 ∷ 97 ∷ 103 ∷ 114 ∷ 101 ∷ 101 ∷ 44 ∷ 32 ∷ []
+
+-- " differ" and LF
+abbrev pub differWord : List ℕ
+differWord = 32 ∷ 100 ∷ 105 ∷ 102 ∷ 102 ∷ 101 ∷ 114 ∷ 10 ∷ []
+
+-- The group's name, how many answers agree, and how many differ.
+unfoldable pub tallyLine : List ℕ → Tally → List ℕ
+tallyLine group t = group ++ (colon ++ (decimal (t .agreeing) ++ (agreeWord ++ (decimal (t .differing) ++ differWord))))

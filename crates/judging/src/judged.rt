@@ -1,0 +1,29 @@
+// The four questions about a table, compared.
+ghost use mathlib.Core.Path.{_≡_};
+ghost use mathlib.Core.Bool.{true};
+ghost use Rattle.semigroups.specs.Questions.{tableRefusal};
+ghost use Rattle.plain.specs.Said.{saidOf};
+ghost use Rattle.judging.specs.Said.{sameSaid};
+ghost use Rattle.judging.specs.Tally.{counted};
+use crate::said::said_of;
+use crate::said::same_said;
+use crate::tally::Tally;
+use crate::tally::counted;
+use plain::Said;
+use plain::judge;
+
+// The four questions, compared with the second search: they agree for every table.
+pub fn compared(cells: &[u8], n: usize, tally: Tally) -> Tally
+    ensures same { λ r. ⌜ r ≡ counted tally true ⌝ }
+{
+    let said = said_of(tables::check(cells, n));
+    counted(tally, same_said(said, judge(cells, n)))
+}
+
+// The four questions, compared with what 01 says of the table, and with the second search.
+pub fn judged(cells: &[u8], n: usize, said: Said, tally: Tally) -> Tally
+    ensures answer { λ r. ⌜ r ≡ counted (counted tally (sameSaid (saidOf (tableRefusal n (now (cells .entry)))) said)) true ⌝ }
+{
+    let answered = counted(tally, same_said(said_of(tables::check(cells, n)), said));
+    compared(cells, n, answered)
+}
