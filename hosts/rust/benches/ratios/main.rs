@@ -14,8 +14,8 @@ use std::fmt::Debug;
 use std::hint::black_box;
 use std::time::{Duration, Instant};
 use tables::{
-    chain, cyclic_group, dihedral_group, left_zero, nilpotent, null, rectangular_band, relabelled, two_group, unions,
-    Table,
+    chain, cyclic_group, dihedral_group, left_zero, nilpotent, null, rectangular_band, relabelled, turned, two_group,
+    unions, Table,
 };
 use tickdrizzle::Copies;
 
@@ -37,6 +37,7 @@ fn main() {
     time_transformations();
     time_texts();
     println!("\n{beside_full}");
+    time_reversed();
     time_copies();
     time_families();
 }
@@ -261,6 +262,39 @@ fn time_isomorphisms() {
     let sums = nilpotent(8, 8, |i, j| (i + j) % 8);
     let exclusive_ors = nilpotent(8, 8, |i, j| i ^ j);
     time("nilpotent of order 17, none", &sums, &exclusive_ors);
+}
+
+/// Reversed isomorphisms beside plain ones onto the turned target, which make the same search.
+fn time_reversed() {
+    println!("\n| {:<82} | reversed µs | plain, µs | ratio |", "call");
+    println!("|:{:-<82}-|-----------:|----------:|------:|", "");
+    for order in [1, 2, 3, 6, 12, 60, 120] {
+        time_turned(&format!("left zeros of order {order}"), &left_zero(order));
+    }
+    time_turned("degree 3", &transformations());
+    for corners in [3, 6, 15, 16, 60] {
+        time_turned(&format!("dihedral group of order {}", 2 * corners), &dihedral_group(corners));
+    }
+}
+
+fn time_turned(name: &str, target: &Table) {
+    let n = target.order;
+    let across = turned(target);
+    let source = relabelled(&across);
+    let (mut map, mut scratch) = (vec![0; n], vec![0; tickdrizzle::scratch_size(n, n)]);
+    let (mut other_map, mut other_scratch) = (map.clone(), scratch.clone());
+    row(
+        &format!("first_reversed_isomorphism, {name}"),
+        || {
+            let cells = black_box(&source.cells);
+            tickdrizzle::first_reversed_isomorphism(cells, n, &target.cells, n, &mut map, &mut scratch)
+        },
+        || {
+            let cells = black_box(&source.cells);
+            tickdrizzle::first_isomorphism(cells, n, &across.cells, n, &mut other_map, &mut other_scratch)
+        },
+    );
+    assert_eq!((map, scratch), (other_map, other_scratch), "{name}");
 }
 
 fn time_transformations() {

@@ -76,3 +76,8 @@ pub fn relabelled(old: &Table) -> Table {
     }
     Table { order: n, cells }
 }
+
+/// The table with rows and columns exchanged.
+pub fn turned(old: &Table) -> Table {
+    table(old.order, |i, j| usize::from(old.cells[j * old.order + i]) - 1)
+}
