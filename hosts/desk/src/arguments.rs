@@ -172,7 +172,7 @@ Example: a sheet that a spreadsheet saved with semicolons
 
 #[derive(Debug, Args)]
 pub struct MendArguments {
-    /// Sheets, or a folder with source.csv and target.csv
+    /// Sheets, or a folder with source.csv, target.csv and their name sheets
     #[arg(value_name = "SHEET or FOLDER", required = true)]
     pub paths: Vec<PathBuf>,
     /// Says what would change and writes nothing

@@ -17,7 +17,7 @@ pub fn run(arguments: &CheckArguments) -> Result<Report, Failure> {
                 report.text += &failure.message;
                 report.status = Status::Refused;
             }
-            Err(failure) => return Err(failure),
+            Err(failure) => return Err(failure.after(report.text)),
         }
     }
     Ok(report)

@@ -130,7 +130,7 @@ fn pages_need_nothing_else() {
     let page = fs::read_to_string(here.join("move.html")).expect("it was written");
     let marked = page.matches("<td class=").count();
     assert_eq!((page.matches("<td").count(), marked), (31 * 31 + 59 * 59, 2 * 31 * 31));
-    assert!(page.contains("<li><b class=\"c31\">31</b> → 20"));
+    assert!(page.contains("<li><b class=\"c31\">31</b> <span>→ 20</span>"));
 }
 
 #[test]
@@ -169,7 +169,9 @@ fn cues_by_name() {
     assert_eq!(run_in(&here, &["positions", "."]), answer(lands, 0));
     assert_eq!(run_in(&here, &["move", ".", "--html", "page.html"]).status, 0);
     let page = fs::read_to_string(here.join("page.html")).expect("it was written");
-    assert!(page.contains("<li><b class=\"c2\">2 &quot;second link, up&quot;</b> → 3 &quot;say \\now&quot;"));
+    assert!(
+        page.contains("<li><b class=\"c2\">2 &quot;second link, up&quot;</b> <span>→ 3 &quot;say \\now&quot;</span>")
+    );
     assert!(page.contains("title=\"&lt;b&gt;\"") && !page.contains("<b>\""));
 }
 
@@ -183,6 +185,16 @@ fn names_of_a_mended_sheet() {
     put(&here, "source.mended.names.csv", "1,other\r\n");
     let output = run_in(&here, &["move", "source.mended.csv", "target.csv"]).output;
     assert!(output.contains("  1 \"other\"  ->  2 \"T2 half\"\n  2          ->  3 \"say \\now\"\n"));
+}
+
+#[test]
+fn mended_names_of_a_sheet_that_loads() {
+    let here = with_names("mended-names");
+    put(&here, "source.names.csv", "1,half\n2,up\n");
+    assert_eq!(run_in(&here, &["move", "."]).status, 2);
+    assert_eq!(run_in(&here, &["mend", "source.names.csv"]).status, 0);
+    let output = run_in(&here, &["move", "."]).output;
+    assert!(output.contains("  1 \"half\"  ->  2 \"T2 half\"\n  2 \"up\"    ->  3 \"say \\now\"\n"));
 }
 
 #[test]

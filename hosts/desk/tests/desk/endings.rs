@@ -52,6 +52,22 @@ fn what_cannot_be_read() {
     for command in ["move", "check", "classes", "copies", "positions", "mend"] {
         assert_eq!(run_in(&here, &[command, "nowhere"]), failure(no_folder, 4));
     }
+    let long = File::create(here.join("long.csv")).expect("files can be made");
+    long.set_len((1 << 26) + 1).expect("it may be long");
+    let too_long = "tickdrizzle: long.csv: reading failed: the file is too long for a sheet\n";
+    assert_eq!(run_in(&here, &["check", "long.csv"]), failure(too_long, 4));
+}
+
+#[test]
+fn what_was_answered_before_a_failure_is_said() {
+    let here = folder("before");
+    put(&here, "one.csv", "1\n");
+    put(&here, "two.csv", "1\r\n");
+    let checked = run_in(&here, &["check", "two.csv", "nowhere"]);
+    assert_eq!((checked.output.as_str(), checked.status), ("two.csv: a linking table of 1 cue.\n", 4));
+    let mended = run_in(&here, &["mend", "one.csv", "nowhere"]);
+    assert!(mended.output.ends_with("Written: one.mended.csv\n") && mended.errors.contains("nowhere"));
+    assert_eq!(mended.status, 4);
 }
 
 #[test]
