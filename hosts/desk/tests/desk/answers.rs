@@ -94,6 +94,8 @@ fn a_part() {
     let arguments = ["cut", table.to_str().expect("the path is text"), "--cues", "3", "--output", "act.csv"];
     assert_eq!(run_in(&here, &arguments), answer(words, 0));
     assert_eq!(names(&here), ["act.csv"]);
+    let two = "The part has 2 of the 4 cues:\n  1  is  2\n  2  is  3\n";
+    assert_eq!(run(&["cut", "examples/found/target.csv", "--cues", "3, 2"]), answer(two, 0));
     assert_eq!(fs::read(here.join("act.csv")).expect("it was written"), b"1,2\r\n2,1\r\n");
 }
 
