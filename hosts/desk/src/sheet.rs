@@ -7,7 +7,7 @@ use std::path::{Path, PathBuf};
 use tickdrizzle::{Refusal, Table, GREATEST_ORDER};
 
 /// A longer file is not read: a table has less than 60,000 bytes, and blank rows and columns may follow it.
-const MOST_BYTES: u64 = 1 << 26;
+const MOST_BYTES: u64 = 1 << 24;
 
 /// The bytes of a file.
 #[derive(Debug)]

@@ -59,10 +59,13 @@ fn one(path: &Path, arguments: &MendArguments, report: &mut Report) -> Result<Pa
     Ok(beside(path))
 }
 
-/// How to go on with a folder: its sheets no longer go by their own names where one was mended.
+/// How to go on with a folder of two linking tables, one of them mended: they no longer go by the names of the folder's sheets.
 fn next(paths: &[PathBuf], loading: &[PathBuf]) -> String {
+    let is_table = |path: &Path| Sheet::read(path).is_ok_and(|sheet| sheet.table().is_ok());
     match (paths, loading) {
-        ([folder], [show, rig, ..]) if folder.is_dir() && (is_mended(show) || is_mended(rig)) => {
+        ([folder], [show, rig, ..])
+            if folder.is_dir() && (is_mended(show) || is_mended(rig)) && is_table(show) && is_table(rig) =>
+        {
             format!("Next: tickdrizzle move {} {}\n", typed(show), typed(rig))
         }
         _ => String::new(),

@@ -57,7 +57,7 @@ fn what_cannot_be_read() {
         assert_eq!(run_in(&here, &[command, "nowhere"]), failure(no_folder, 4));
     }
     let long = File::create(here.join("long.csv")).expect("files can be made");
-    long.set_len((1 << 26) + 1).expect("it may be long");
+    long.set_len((1 << 24) + 1).expect("it may be long");
     let too_long = "tickdrizzle: long.csv: reading failed: the file is too long for a sheet\n";
     assert_eq!(run_in(&here, &["check", "long.csv"]), failure(too_long, 4));
 }

@@ -177,4 +177,6 @@ fn of_a_folder() {
          ./target.names.csv: 1 row of 2 cells.\n  {LF}\nAlready there: ./target.mended.names.csv\n"
     );
     assert_eq!(run_in(&here, &["mend", "."]), answer(&words, 0));
+    put(&here, "source.csv", "2\n");
+    assert!(!run_in(&here, &["mend", "--replace", "."]).output.contains("Next"));
 }
