@@ -9,7 +9,9 @@ PAGES := docs/man/recue.1 docs/man/classes.1 docs/man/tickdrizzle.1
 
 all: $(PROGRAMS)
 
+# By its stamp rt takes a program for built that was moved away.
 target/bin/%:
+	rm -f target/stamp/$*
 	rt check $*
 
 target/desk/release/tickdrizzle:
