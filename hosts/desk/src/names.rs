@@ -75,22 +75,24 @@ fn helps(bytes: &[u8]) -> bool {
     mend_names::mend(bytes).is_ok_and(|mended| loaded(&mended.text).is_ok())
 }
 
-/// Asks whether the text is a name sheet.
-pub fn check(sheet: &Sheet) -> Result<(), Explanation> {
-    loaded(&sheet.bytes).map(|_| ()).map_err(|refusal| explained(sheet, refusal))
+/// How many names a name sheet has, or why it is none.
+pub fn check(sheet: &Sheet) -> Result<usize, Explanation> {
+    loaded(&sheet.bytes).map(|names| names.names.len()).map_err(|refusal| explained(sheet, refusal))
 }
 
 /// Why a name sheet is refused.
 fn explained(sheet: &Sheet, refusal: Refusal) -> Explanation {
     let (place, there, expected) = match refusal.question {
         Question::Sheet { place } => {
-            let row = 1 + sheet.bytes[..place].iter().filter(|&&byte| byte == b'\n').count();
+            let before = &sheet.bytes[..place];
+            let row = 1 + before.iter().filter(|&&byte| byte == b'\n').count();
+            let character = place - before.iter().rposition(|&byte| byte == b'\n').map_or(0, |last| last + 1) + 1;
             let there = if place < sheet.bytes.len() { sheet.cell_at(place).text } else { "the end".into() };
-            (format!("row {row}, byte {}", place + 1), there, "a number, a comma, a name and CR LF in each row")
+            (format!("row {row}, character {character}"), there, "a number, a comma, a name and CR LF in each row")
         }
-        Question::Name { place } => (format!("row {place}"), String::new(), "a name of 1 to 40 plain characters"),
+        Question::Name { place } => (format!("row {place}"), sheet.row(place), "a name of 1 to 40 plain characters"),
         Question::NameNumber { place } => {
-            (format!("row {place}"), String::new(), "the next number, counted from 1, at most 120")
+            (format!("row {place}"), sheet.row(place), "the next number, counted from 1, at most 120")
         }
         _ => (String::new(), refusal.to_string(), ""),
     };

@@ -60,6 +60,11 @@ impl Sheet {
         rows
     }
 
+    /// What stands in a row, counted from 1.
+    pub fn row(&self, row: usize) -> String {
+        format!("\"{}\"", String::from_utf8_lossy(self.rows()[row - 1]).replace(char::is_control, " "))
+    }
+
     /// The cells of the sheet, row after row.
     fn cells(&self) -> impl Iterator<Item = Cell> + '_ {
         self.rows().into_iter().enumerate().flat_map(|(row, cells)| {
@@ -98,6 +103,7 @@ fn character(bytes: &[u8]) -> String {
     match bytes {
         [0xEF, 0xBB, 0xBF, ..] => "a byte order mark".into(),
         [0xFF, 0xFE, ..] | [0xFE, 0xFF, ..] => "the mark of UTF-16 text".into(),
+        [b'\r', b'\n', ..] => "a line break".into(),
         [b'\n', ..] => "a line break LF without CR".into(),
         [b'\r', ..] => "a line break CR without LF".into(),
         [b'\t', ..] => "a tab".into(),

@@ -2,7 +2,7 @@
 
 use crate::arguments::MendArguments;
 use crate::mend::{self, is_mended, mended_path, Fault, Mended};
-use crate::mend_names;
+use crate::mend_names::{self, is_name_sheet};
 use crate::names::{self, name_sheet, Names};
 use crate::output;
 use crate::sheet::{self, Sheet};
@@ -72,10 +72,6 @@ fn next(paths: &[PathBuf], loading: &[PathBuf]) -> String {
     }
 }
 
-fn is_name_sheet(path: &Path) -> bool {
-    path.to_string_lossy().ends_with(mend_names::ENDING)
-}
-
 /// A sheet that loads; nothing where it does as it is.
 fn mended(sheet: &Sheet) -> Result<Option<Mended>, Explanation> {
     if loads(sheet).is_ok() {
@@ -90,7 +86,7 @@ fn mended(sheet: &Sheet) -> Result<Option<Mended>, Explanation> {
 /// Asks whether a sheet loads.
 fn loads(sheet: &Sheet) -> Result<(), Explanation> {
     if is_name_sheet(&sheet.path) {
-        return names::check(sheet);
+        return names::check(sheet).map(|_| ());
     }
     match tickdrizzle::load(&sheet.bytes, &mut vec![0; MOST_CELLS]) {
         Ok(_) => Ok(()),

@@ -178,6 +178,13 @@ fn cues_by_name() {
 }
 
 #[test]
+fn name_sheets_that_are_fine() {
+    let here = with_names("names-checked");
+    let words = "source.names.csv: a name sheet of 2 cues.\n";
+    assert_eq!(run_in(&here, &["check", "source.names.csv"]), answer(words, 0));
+}
+
+#[test]
 fn names_of_a_mended_sheet() {
     let here = with_names("names-mended");
     put(&here, "source.csv", "1;2\n2;1\n");
@@ -215,14 +222,26 @@ fn a_name_sheet_that_is_refused() {
         (
             "1,a\n",
             40,
-            "where:     row 1, byte 4\n  there:     a line break LF without CR\n  expected:  a number, a comma, a name and CR LF in each row", "run: tickdrizzle mend ./source.names.csv",
+            "where:     row 1, character 4\n  there:     a line break LF without CR\n  expected:  a number, a comma, a name and CR LF in each row", "run: tickdrizzle mend ./source.names.csv",
         ),
-        ("1,", 41, "where:     row 1\n  expected:  a name of 1 to 40 plain characters", correct),
-        ("1,a\r\n3,b\r\n", 42, "where:     row 2\n  expected:  the next number, counted from 1, at most 120", correct),
+        ("1,", 41, "where:     row 1\n  there:     \"1,\"\n  expected:  a name of 1 to 40 plain characters", correct),
+        ("1,a\r\n3,b\r\n", 42, "where:     row 2\n  there:     \"3,b\"\n  expected:  the next number, counted from 1, at most 120", correct),
+        (
+            "1,a\r\n\r\n2,b\r\n",
+            40,
+            "where:     row 2, character 1\n  there:     a line break\n  expected:  a number, a comma, a name and CR LF in each row",
+            correct,
+        ),
+        (
+            "1,a\r\n2,b,c\r\n",
+            40,
+            "where:     row 2, character 4\n  there:     \",\"\n  expected:  a number, a comma, a name and CR LF in each row", correct,
+        ),
     ] {
         put(&here, "source.names.csv", sheet);
         let words = format!("./source.names.csv: refused (question {number}).\n  {says}\n  to do:     {to_do}\n");
         assert_eq!(run_in(&here, &["move", "."]), answer(&words, 2));
+        assert_eq!(run_in(&here, &["check", "./source.names.csv"]), answer(&words, 2));
         assert_eq!(run_in(&here, &["move", "--csv", "."]).status, 0);
     }
 }
