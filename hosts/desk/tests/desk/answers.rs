@@ -19,7 +19,7 @@ fn a_show_that_does_not_fit() {
 
 #[test]
 fn records_are_those_of_recue() {
-    for (example, status) in [("found", 0), ("none", 1), ("refused", 2), ("touring", 0)] {
+    for (example, status) in [("found", 0), ("named", 0), ("none", 1), ("refused", 2), ("touring", 0)] {
         let path = format!("examples/{example}");
         let records = fs::read_to_string(root().join(&path).join("output.csv")).expect("the example has an output");
         assert_eq!(run(&["move", "--csv", &path]), answer(&records, status), "{example}");
@@ -156,6 +156,13 @@ fn with_names(name: &str) -> PathBuf {
     put(&here, "source.names.csv", "1,House to half\r\n2,\"second link, up\"\r\n");
     put(&here, "target.names.csv", "1,dark\r\n2,T2 half\r\n3,say \\now\r\n4,<b>\r\n");
     here
+}
+
+#[test]
+fn the_example_with_names() {
+    let words = "The show fits: its 2 cues go to 2 of the rig's 4.\n  \
+                 1 \"hold\"             ->  2 \"stay\"\n  2 \"second link, up\"  ->  3 \"change places\"\n";
+    assert_eq!(run(&["move", "examples/named"]), answer(words, 0));
 }
 
 #[test]
