@@ -38,27 +38,107 @@ static void explain_table(const struct table *table, const uint64_t *answer)
     }
 }
 
-/* Says what is wrong with a text. */
-static void explain_text(const uint64_t *answer)
+/* Prints the row and the column in which a byte stands. */
+static void print_place(const uint8_t *text, size_t byte)
 {
+    size_t row = 1, column = 1;
+    for (size_t i = 0; i < byte; i++) {
+        if (text[i] == '\n') {
+            row++;
+            column = 1;
+        } else if (text[i] == ',') {
+            column++;
+        }
+    }
+    fprintf(stderr, "row %zu, column %zu: ", row, column);
+}
+
+/* How many digits stand there. */
+static size_t digits(const uint8_t *text, size_t length, size_t byte)
+{
+    size_t end = byte;
+    while (end < length && text[end] >= '0' && text[end] <= '9')
+        end++;
+    return end - byte;
+}
+
+/* Whether these digits are no cell: none, more than three, a leading 0, or a number above the greatest order. */
+static int is_bad(const uint8_t *cell, size_t length)
+{
+    int number = 0;
+    if (length == 0 || length > 3 || cell[0] == '0')
+        return 1;
+    for (size_t i = 0; i < length; i++)
+        number = 10 * number + (cell[i] - '0');
+    return number > TICKDRIZZLE_GREATEST_ORDER;
+}
+
+/* Where the first bad cell starts, in a text of digits, commas and CR LF that has one. */
+static size_t first_bad_cell(const uint8_t *text, size_t length)
+{
+    size_t byte = 0, end = digits(text, length, 0);
+    while (!is_bad(text + byte, end - byte) && end < length) {
+        byte = end + (text[end] == ',' ? 1 : 2);
+        end = byte + digits(text, length, byte);
+    }
+    return byte;
+}
+
+/* How many cells the row has that starts at a byte; the byte behind its CR LF, or the length. */
+static size_t row_cells(const uint8_t *text, size_t length, size_t *byte)
+{
+    size_t cells = 1;
+    while (*byte < length && text[*byte] != '\n')
+        cells += text[(*byte)++] == ',';
+    *byte += *byte < length;
+    return cells;
+}
+
+/* Says which row is not as long as the first, or how many rows there are. */
+static void explain_rows(const uint8_t *text, size_t length)
+{
+    size_t byte = 0, rows = 1, first = row_cells(text, length, &byte), cells = first;
+    while (byte < length && cells == first) {
+        cells = row_cells(text, length, &byte);
+        rows++;
+    }
+    if (cells != first)
+        fprintf(stderr, "row %zu has %zu cells, the first has %zu\n", rows, cells, first);
+    else
+        fprintf(stderr, "%zu rows of %zu cells: expected %zu rows\n", rows, first, first);
+}
+
+/* Says what is wrong with a text. */
+static void explain_text(const uint8_t *text, size_t length, const uint64_t *answer)
+{
+    switch (answer[0]) {
+    case TICKDRIZZLE_NO_TEXT_BYTE:
+        print_place(text, (size_t)answer[2]);
+        break;
+    case TICKDRIZZLE_NO_FIELD_START:
+    case TICKDRIZZLE_NO_FIELD_LENGTH:
+    case TICKDRIZZLE_NO_FIELD_RANGE:
+        print_place(text, first_bad_cell(text, length));
+        break;
+    }
     switch (answer[0]) {
     case TICKDRIZZLE_NO_TEXT_LENGTH:
         fprintf(stderr, "the file is empty or longer than %d bytes\n", TICKDRIZZLE_LONGEST_TEXT);
         break;
     case TICKDRIZZLE_NO_TEXT_BYTE:
-        fprintf(stderr, "byte %" PRIu64 " is no digit, comma or part of CR LF\n", answer[2] + 1);
+        fputs("expected digits, a comma, or CR LF\n", stderr);
         break;
     case TICKDRIZZLE_NO_FIELD_START:
         fputs("a number starts with 0\n", stderr);
         break;
     case TICKDRIZZLE_NO_FIELD_LENGTH:
-        fputs("a cell is empty or has more than three digits\n", stderr);
+        fputs("the cell is empty or has more than three digits\n", stderr);
         break;
     case TICKDRIZZLE_NO_FIELD_RANGE:
-        fprintf(stderr, "a number is above %d\n", TICKDRIZZLE_GREATEST_ORDER);
+        fprintf(stderr, "the number is above %d\n", TICKDRIZZLE_GREATEST_ORDER);
         break;
     case TICKDRIZZLE_NO_SQUARE:
-        fputs("the rows are not as many, or not as long, as the first row\n", stderr);
+        explain_rows(text, length);
         break;
     default:
         fprintf(stderr, "more than %d rows\n", TICKDRIZZLE_GREATEST_ORDER);
@@ -85,7 +165,7 @@ static int load(const char *name, struct table *table)
     tickdrizzle_load(text, length, table->cells, sizeof table->cells, answer);
     if (answer[0] != 0) {
         fprintf(stderr, "%s: refused: ", name);
-        explain_text(answer);
+        explain_text(text, length, answer);
         return REFUSED;
     }
     table->name = name;

@@ -1,6 +1,7 @@
 //! The command line.
 
 use clap::{Args, Parser, Subcommand};
+use std::num::ParseIntError;
 use std::path::PathBuf;
 
 const STATUSES: &str = "\
@@ -127,7 +128,7 @@ pub struct CutArguments {
     #[arg(value_name = "SHEET or FOLDER")]
     pub path: PathBuf,
     /// The chosen cues, with commas between
-    #[arg(long, value_name = "NUMBERS", value_delimiter = ',', required = true)]
+    #[arg(long, value_name = "NUMBERS", value_delimiter = ',', value_parser = cue, required = true)]
     pub cues: Vec<usize>,
     /// Writes the part as a sheet of its own
     #[arg(long, short, value_name = "FILE")]
@@ -135,6 +136,11 @@ pub struct CutArguments {
     /// Writes a page with the part and the whole table, the part marked
     #[arg(long, value_name = "FILE")]
     pub html: Option<PathBuf>,
+}
+
+/// The number of a cue, with or without blanks around it.
+fn cue(text: &str) -> Result<usize, ParseIntError> {
+    text.trim().parse()
 }
 
 const COPIES_EXAMPLE: &str = "\
@@ -172,7 +178,7 @@ Example: a sheet that a spreadsheet saved with semicolons
 
 #[derive(Debug, Args)]
 pub struct MendArguments {
-    /// Sheets, or a folder with source.csv and target.csv
+    /// Sheets, or a folder with source.csv, target.csv and their name sheets
     #[arg(value_name = "SHEET or FOLDER", required = true)]
     pub paths: Vec<PathBuf>,
     /// Says what would change and writes nothing

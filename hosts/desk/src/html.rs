@@ -1,6 +1,7 @@
 //! The pages: tables as coloured grids, partner lists, classes. A page needs no other file and prints well.
 
 use crate::names::Names;
+use crate::words::count;
 use std::fmt::Write;
 use tickdrizzle::Table;
 
@@ -101,7 +102,8 @@ pub fn partners(head: &str, map: &[u8], source: &Names, target: &Names) -> Strin
     let mut list = format!("<section><h2>{}</h2>\n<ol class=\"{class}\">\n", escaped(head));
     for (element, &image) in map.iter().enumerate() {
         let (from, to) = (source.label(element + 1), target.label(image.into()));
-        let _ = writeln!(list, "<li><b class=\"c{}\">{}</b> → {}", element + 1, escaped(&from), escaped(&to));
+        let _ =
+            writeln!(list, "<li><b class=\"c{}\">{}</b> <span>→ {}</span>", element + 1, escaped(&from), escaped(&to));
     }
     list + "</ol></section>\n"
 }
@@ -119,9 +121,9 @@ pub fn classes_page(says: &str, classes: &[Class], refused: &[String]) -> String
         let colour = place % 120 + 1;
         let _ = write!(
             body,
-            "<div class=\"class\"><h3><b class=\"c{colour}\">{}</b> {} cues</h3><ul>",
+            "<div class=\"class\"><h3><b class=\"c{colour}\">{}</b> {}</h3><ul>",
             place + 1,
-            class.order
+            count(class.order, "cue")
         );
         for member in &class.members {
             let _ = write!(body, "<li>{}", escaped(member));
@@ -183,8 +185,9 @@ h3{font-size:1rem;margin:0 0 .3rem}
 .corner{z-index:1}
 .grid+.grid .corner,.grid+.grid tbody th{display:none}
 .partners{columns:7rem;padding:0;margin:0;list-style:none}
-.named{columns:18rem}
+.named{columns:24rem}
 .partners li{break-inside:avoid;padding:.1rem 0}
+.partners b,.partners span{display:inline-block}
 .partners b,h3 b{border:1px solid #555;border-radius:3px;padding:0 .4em;font-weight:600}
 .class{break-inside:avoid;margin:0 0 1rem}
 .class ul{margin:0;columns:18rem}
@@ -196,7 +199,7 @@ body{margin:0;font-size:10pt}
 .grids,.blocks{display:block;overflow:visible;max-height:none;max-width:none}
 .grids .large{break-before:page}
 .grid{font-size:6pt}
-.grid td,.grid th{min-width:0;width:4.4mm;height:4.4mm;padding:0;position:static}
+.grid td,.grid th{min-width:0;width:4.4mm;height:4mm;padding:0;position:static}
 .grid tr{break-inside:avoid}
 .grid+.grid{break-before:page}
 .grid+.grid .corner,.grid+.grid tbody th{display:table-cell}

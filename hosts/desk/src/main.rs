@@ -50,6 +50,7 @@ fn finish(done: Result<Report, Failure>) -> Status {
         Ok(report) => print(&report.text, report.status),
         Err(refusal) if refusal.status == Status::Refused => print(&refusal.message, Status::Refused),
         Err(failure) => {
+            print(&failure.said, failure.status);
             let _ = writeln!(io::stderr(), "tickdrizzle: {}", failure.message);
             failure.status
         }

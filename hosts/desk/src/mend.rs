@@ -3,6 +3,7 @@
 //! No number is changed, and nothing is guessed: where a sheet can be read as numbers in two ways, it is refused.
 
 use crate::words::{count, row_and_column};
+use std::path::{Path, PathBuf};
 use tickdrizzle::MOST_CELLS;
 
 /// The numbers of a sheet, row after row.
@@ -29,10 +30,35 @@ pub struct Fault {
     pub expected: String,
 }
 
+/// `show.csv` is mended as `show.mended.csv`.
+pub fn mended_path(path: &Path) -> PathBuf {
+    path.with_extension("mended.csv")
+}
+
+/// Whether a path is that of a mended table.
+pub fn is_mended(path: &Path) -> bool {
+    path.with_extension("").extension().is_some_and(|ending| ending == "mended")
+}
+
 /// Whether a sheet that does not load would load when mended.
 pub fn helps(bytes: &[u8]) -> bool {
     let loads = |text: &[u8]| tickdrizzle::load(text, &mut vec![0; MOST_CELLS]).is_ok();
     !loads(bytes) && mend(bytes).is_ok_and(|mended| loads(&mended.text))
+}
+
+/// Whether sheets that are mended may have this byte, and those that load may not.
+pub fn reads(byte: u8) -> bool {
+    b"\0\t\n\r \";.\xA0\xC2\xEF\xFE\xFF".contains(&byte)
+}
+
+/// Rows and columns, whatever stands in the cells and without blank ones at the end, with the separator that parts the most.
+pub fn size(bytes: &[u8]) -> (usize, usize) {
+    let text = decode(bytes).map_or_else(|_| String::from_utf8_lossy(bytes).into_owned(), |(text, _)| text);
+    let is_empty = |character| SEPARATORS.contains(&character) || is_blank(character);
+    let lines: Vec<_> = split_lines(&text).iter().map(|line| line.trim_end_matches(is_empty).to_owned()).collect();
+    let rows = lines.iter().rposition(|line| !line.is_empty()).map_or(0, |last| last + 1);
+    let widths = SEPARATORS.iter().flat_map(|separator| lines.iter().map(|line| line.split(*separator).count()));
+    (rows, widths.max().unwrap_or(0))
 }
 
 /// Reads a sheet and writes it anew.
@@ -73,7 +99,7 @@ fn utf8(bytes: &[u8]) -> Result<String, Fault> {
 
 fn utf16(bytes: &[u8], unit: fn([u8; 2]) -> u16) -> Result<String, Fault> {
     let units: Vec<u16> = bytes.chunks_exact(2).map(|pair| unit([pair[0], pair[1]])).collect();
-    let whole = bytes.len().is_multiple_of(2);
+    let whole = bytes.len() % 2 == 0;
     String::from_utf16(&units).ok().filter(|_| whole).ok_or_else(|| no_text("UTF-16 text that is cut short".into()))
 }
 

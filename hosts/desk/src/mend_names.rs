@@ -2,9 +2,15 @@
 
 use crate::mend::{decode, line_changes, separator_change, split_lines, Fault, Mended, SEPARATORS};
 use crate::words::{count, row_and_column};
+use std::path::Path;
 
 /// The ending of a name sheet's file name.
 pub const ENDING: &str = ".names.csv";
+
+/// Whether a path is that of a name sheet.
+pub fn is_name_sheet(path: &Path) -> bool {
+    path.to_string_lossy().ends_with(ENDING)
+}
 
 /// Reads a name sheet and writes it anew.
 pub fn mend(bytes: &[u8]) -> Result<Mended, Fault> {

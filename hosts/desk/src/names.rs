@@ -1,9 +1,10 @@
 //! The names of cues, from a name sheet that stands beside the table's: `show.names.csv` beside `show.csv`.
 
+use crate::mend::{is_mended, mended_path};
 use crate::mend_names;
 use crate::sheet::Sheet;
 use crate::status::Failure;
-use crate::words::Explanation;
+use crate::words::{typed, Explanation};
 use std::path::{Path, PathBuf};
 use tickdrizzle::{load_names, Question, Refusal, LONGEST_NAME, MOST_NAMES};
 
@@ -14,13 +15,17 @@ pub struct Names {
 }
 
 impl Names {
-    /// The names beside a sheet; none where there is no name sheet.
+    /// The names beside a sheet, of the first name sheet that loads; none where there is no name sheet.
     pub fn beside(path: &Path) -> Result<Names, Failure> {
-        let Some(path) = places(path).into_iter().find(|place| place.exists()) else {
-            return Ok(Names::default());
-        };
-        let sheet = Sheet::read(&path)?;
-        loaded(&sheet.bytes).map_err(|refusal| Failure::refused(explained(&sheet, refusal)))
+        let mut refused = None;
+        for place in places(path).iter().filter(|place| place.exists()) {
+            let sheet = Sheet::read(place)?;
+            match loaded(&sheet.bytes) {
+                Ok(names) => return Ok(names),
+                Err(refusal) => refused = refused.or(Some(explained(&sheet, refusal))),
+            }
+        }
+        refused.map_or(Ok(Names::default()), |explanation| Err(Failure::refused(explanation)))
     }
 
     /// The name of a cue.
@@ -41,12 +46,15 @@ impl Names {
     }
 }
 
-/// Where the names of a sheet may stand: beside it, and for a mended sheet beside the original.
-fn places(path: &Path) -> Vec<PathBuf> {
-    let beside = |path: &Path| path.with_extension(&mend_names::ENDING[1..]);
-    let bare = path.with_extension("");
-    let is_mended = bare.extension().is_some_and(|ending| ending == "mended");
-    [Some(beside(path)), is_mended.then(|| beside(&bare))].into_iter().flatten().collect()
+/// Where the names of a sheet may stand: beside it, for a mended sheet also beside the original, and the other way round.
+fn places(path: &Path) -> [PathBuf; 2] {
+    let other = if is_mended(path) { path.with_extension("").with_extension("csv") } else { mended_path(path) };
+    [name_sheet(path), name_sheet(&other)]
+}
+
+/// The name sheet of `show.csv`: `show.names.csv`.
+pub fn name_sheet(path: &Path) -> PathBuf {
+    path.with_extension(&mend_names::ENDING[1..])
 }
 
 fn loaded(text: &[u8]) -> Result<Names, Refusal> {
@@ -67,27 +75,29 @@ fn helps(bytes: &[u8]) -> bool {
     mend_names::mend(bytes).is_ok_and(|mended| loaded(&mended.text).is_ok())
 }
 
-/// Asks whether the text is a name sheet.
-pub fn check(sheet: &Sheet) -> Result<(), Explanation> {
-    loaded(&sheet.bytes).map(|_| ()).map_err(|refusal| explained(sheet, refusal))
+/// How many names a name sheet has, or why it is none.
+pub fn check(sheet: &Sheet) -> Result<usize, Explanation> {
+    loaded(&sheet.bytes).map(|names| names.names.len()).map_err(|refusal| explained(sheet, refusal))
 }
 
 /// Why a name sheet is refused.
 fn explained(sheet: &Sheet, refusal: Refusal) -> Explanation {
     let (place, there, expected) = match refusal.question {
         Question::Sheet { place } => {
-            let row = 1 + sheet.bytes[..place].iter().filter(|&&byte| byte == b'\n').count();
+            let before = &sheet.bytes[..place];
+            let row = 1 + before.iter().filter(|&&byte| byte == b'\n').count();
+            let character = place - before.iter().rposition(|&byte| byte == b'\n').map_or(0, |last| last + 1) + 1;
             let there = if place < sheet.bytes.len() { sheet.cell_at(place).text } else { "the end".into() };
-            (format!("row {row}, byte {}", place + 1), there, "a number, a comma, a name and CR LF in each row")
+            (format!("row {row}, character {character}"), there, "a number, a comma, a name and CR LF in each row")
         }
-        Question::Name { place } => (format!("row {place}"), String::new(), "a name of 1 to 40 plain characters"),
+        Question::Name { place } => (format!("row {place}"), sheet.row(place), "a name of 1 to 40 plain characters"),
         Question::NameNumber { place } => {
-            (format!("row {place}"), String::new(), "the next number, counted from 1, at most 120")
+            (format!("row {place}"), sheet.row(place), "the next number, counted from 1, at most 120")
         }
         _ => (String::new(), refusal.to_string(), ""),
     };
     let to_do = if helps(&sheet.bytes) {
-        format!("run: tickdrizzle mend {}", sheet.path.display())
+        format!("run: tickdrizzle mend {}", typed(&sheet.path))
     } else {
         "correct the name sheet, or take it away".into()
     };

@@ -6,8 +6,8 @@ use std::io::Read;
 use std::path::{Path, PathBuf};
 use tickdrizzle::{Refusal, Table, GREATEST_ORDER};
 
-/// No sheet is looked at beyond this: a table has less than 60,000 bytes, in UTF-16 twice as many.
-const MOST_BYTES: u64 = 1 << 20;
+/// A longer file is not read: a table has less than 60,000 bytes, and blank rows and columns may follow it.
+const MOST_BYTES: u64 = 1 << 24;
 
 /// The bytes of a file.
 #[derive(Debug)]
@@ -29,8 +29,11 @@ impl Sheet {
     pub fn read(path: &Path) -> Result<Sheet, Failure> {
         let mut bytes = Vec::new();
         File::open(path)
-            .and_then(|file| file.take(MOST_BYTES).read_to_end(&mut bytes))
+            .and_then(|file| file.take(MOST_BYTES + 1).read_to_end(&mut bytes))
             .map_err(|error| Failure::file("reading", path, error))?;
+        if bytes.len() as u64 > MOST_BYTES {
+            return Err(Failure::file("reading", path, "the file is too long for a sheet"));
+        }
         Ok(Sheet { path: path.to_owned(), bytes })
     }
 
@@ -55,6 +58,11 @@ impl Sheet {
         }
         rows.push(rest);
         rows
+    }
+
+    /// What stands in a row, counted from 1.
+    pub fn row(&self, row: usize) -> String {
+        format!("\"{}\"", String::from_utf8_lossy(self.rows()[row - 1]).replace(char::is_control, " "))
     }
 
     /// The cells of the sheet, row after row.
@@ -95,6 +103,7 @@ fn character(bytes: &[u8]) -> String {
     match bytes {
         [0xEF, 0xBB, 0xBF, ..] => "a byte order mark".into(),
         [0xFF, 0xFE, ..] | [0xFE, 0xFF, ..] => "the mark of UTF-16 text".into(),
+        [b'\r', b'\n', ..] => "a line break".into(),
         [b'\n', ..] => "a line break LF without CR".into(),
         [b'\r', ..] => "a line break CR without LF".into(),
         [b'\t', ..] => "a tab".into(),

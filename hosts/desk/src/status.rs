@@ -23,23 +23,34 @@ pub struct Report {
 /// Why a command has no answer. A refusal is said on standard output, as answers are; what else fails on standard error.
 #[derive(Debug)]
 pub struct Failure {
+    /// The answers before it, of a command that takes several sheets.
+    pub said: String,
     pub message: String,
     pub status: Status,
 }
 
 impl Failure {
+    fn new(message: String, status: Status) -> Failure {
+        Failure { said: String::new(), message, status }
+    }
+
+    /// The same failure, behind these answers.
+    pub fn after(self, said: String) -> Failure {
+        Failure { said, ..self }
+    }
+
     /// A file that could not be read or written.
     pub fn file(doing: &str, path: &Path, error: impl Display) -> Failure {
-        Failure { message: format!("{}: {doing} failed: {error}", path.display()), status: Status::Failed }
+        Failure::new(format!("{}: {doing} failed: {error}", path.display()), Status::Failed)
     }
 
     /// A sheet that cannot be used.
     pub fn refused(explanation: impl Display) -> Failure {
-        Failure { message: explanation.to_string(), status: Status::Refused }
+        Failure::new(explanation.to_string(), Status::Refused)
     }
 
     /// Arguments that do not say what to do.
     pub fn usage(message: impl Into<String>) -> Failure {
-        Failure { message: message.into(), status: Status::Usage }
+        Failure::new(message.into(), Status::Usage)
     }
 }

@@ -4,6 +4,7 @@ use crate::mend;
 use crate::names::Names;
 use crate::sheet::{is_too_large, Cell, Sheet};
 use std::fmt;
+use std::path::Path;
 use tickdrizzle::{Question, Refusal, GREATEST_ORDER, LONGEST_TEXT};
 
 /// Where a sheet fails, what stands there, what was expected, and what to do.
@@ -39,6 +40,16 @@ pub fn row_and_column(row: usize, column: usize) -> String {
     format!("row {row}, column {column}")
 }
 
+/// A path as it is typed at a prompt.
+pub fn typed(path: &Path) -> String {
+    let text = path.display().to_string();
+    if text.chars().all(|character| character.is_alphanumeric() || "._-/".contains(character)) {
+        text
+    } else {
+        format!("'{}'", text.replace('\'', "'\\''"))
+    }
+}
+
 /// A number of things.
 pub fn count(number: usize, thing: &str) -> String {
     format!("{number} {thing}{}", if number == 1 { "" } else { "s" })
@@ -52,14 +63,14 @@ pub fn explain(sheet: &Sheet, refusal: Refusal, names: &Names) -> Explanation {
     };
     let head = format!("{}: refused (question {}).", sheet.path.display(), refusal.question.number());
     let [place, there, expected, to_do] = told;
-    Explanation { head, place, there, expected, to_do: to_do.replace("SHEET", &sheet.path.display().to_string()) }
+    Explanation { head, place, there, expected, to_do: to_do.replace("SHEET", &typed(&sheet.path)) }
 }
 
 /// Rows and columns, as a spreadsheet would count them.
 fn size_of(sheet: &Sheet) -> (usize, usize) {
     match mend::mend(&sheet.bytes) {
         Ok(mended) => (mended.rows, mended.columns),
-        Err(_) => (sheet.widths().len(), sheet.widths()[0]),
+        Err(_) => mend::size(&sheet.bytes),
     }
 }
 
@@ -79,7 +90,11 @@ fn told(sheet: &Sheet, question: Question, names: &Names, mends: bool) -> [Strin
         Question::TextLength => text_length(sheet),
         Question::TextByte { place } => {
             let cell = sheet.cell_at(place);
-            let to_do = if mends { correct } else { "correct the cell, or take away what is no number" };
+            let to_do = match sheet.bytes[place] {
+                _ if mends => correct,
+                byte if mend::reads(byte) => "run: tickdrizzle mend SHEET, which tells what else is wrong",
+                _ => "correct the cell, or take away what is no number",
+            };
             let expected = "digits, a comma between cells, CR LF behind each row";
             [row_and_column(cell.row, cell.column), cell.text, expected.into(), to_do.into()]
         }

@@ -19,7 +19,7 @@
 //! assert_eq!(map, [2, 3]);
 //! ```
 
-#![warn(missing_docs)]
+#![warn(missing_docs, clippy::missing_errors_doc)]
 
 #[allow(missing_docs)]
 pub mod abi;
@@ -273,6 +273,9 @@ pub fn save_names(names: &[u8], lengths: &[u8], text: &mut [u8]) -> Result<usize
 /// The number of different copies of the source in the target, that is of the image sets of its embeddings, up to 65,535, or that
 /// there are more. Each copy comes from as many embeddings as the source has isomorphisms onto itself. After both, `scratch` is
 /// as after [`first_embedding`].
+///
+/// # Errors
+/// The earliest of the questions 1 to 4 of the source, of the target, and 6 that fails.
 pub fn copies(
     source: &[u8],
     source_order: usize,

@@ -89,7 +89,8 @@ fn sentence(source: &Table, target: &Table, outcome: &Outcome) -> String {
     let counted = |trials: &Option<u32>| trials.map_or(String::new(), |trials| format!(" {}.", tried(trials)));
     match outcome {
         Outcome::Found { trials, .. } => {
-            format!("The show fits: its {cues} go to {} of the rig's {order}.{}", source.order(), counted(trials))
+            let go = if source.order() == 1 { "goes" } else { "go" };
+            format!("The show fits: its {cues} {go} to {} of the rig's {order}.{}", source.order(), counted(trials))
         }
         Outcome::None { trials } => format!(
             "The show does not fit: there is no way to give its {cues} partners among the rig's {order}.{}",

@@ -19,7 +19,7 @@ fn a_show_that_does_not_fit() {
 
 #[test]
 fn records_are_those_of_recue() {
-    for (example, status) in [("found", 0), ("none", 1), ("refused", 2), ("touring", 0)] {
+    for (example, status) in [("found", 0), ("named", 0), ("none", 1), ("refused", 2), ("touring", 0)] {
         let path = format!("examples/{example}");
         let records = fs::read_to_string(root().join(&path).join("output.csv")).expect("the example has an output");
         assert_eq!(run(&["move", "--csv", &path]), answer(&records, status), "{example}");
@@ -94,6 +94,8 @@ fn a_part() {
     let arguments = ["cut", table.to_str().expect("the path is text"), "--cues", "3", "--output", "act.csv"];
     assert_eq!(run_in(&here, &arguments), answer(words, 0));
     assert_eq!(names(&here), ["act.csv"]);
+    let two = "The part has 2 of the 4 cues:\n  1  is  2\n  2  is  3\n";
+    assert_eq!(run(&["cut", "examples/found/target.csv", "--cues", "3, 2"]), answer(two, 0));
     assert_eq!(fs::read(here.join("act.csv")).expect("it was written"), b"1,2\r\n2,1\r\n");
 }
 
@@ -130,7 +132,7 @@ fn pages_need_nothing_else() {
     let page = fs::read_to_string(here.join("move.html")).expect("it was written");
     let marked = page.matches("<td class=").count();
     assert_eq!((page.matches("<td").count(), marked), (31 * 31 + 59 * 59, 2 * 31 * 31));
-    assert!(page.contains("<li><b class=\"c31\">31</b> → 20"));
+    assert!(page.contains("<li><b class=\"c31\">31</b> <span>→ 20</span>"));
 }
 
 #[test]
@@ -157,6 +159,13 @@ fn with_names(name: &str) -> PathBuf {
 }
 
 #[test]
+fn the_example_with_names() {
+    let words = "The show fits: its 2 cues go to 2 of the rig's 4.\n  \
+                 1 \"hold\"             ->  2 \"stay\"\n  2 \"second link, up\"  ->  3 \"change places\"\n";
+    assert_eq!(run(&["move", "examples/named"]), answer(words, 0));
+}
+
+#[test]
 fn cues_by_name() {
     let here = with_names("names");
     let words = "The show fits: its 2 cues go to 2 of the rig's 4.\n  \
@@ -169,8 +178,17 @@ fn cues_by_name() {
     assert_eq!(run_in(&here, &["positions", "."]), answer(lands, 0));
     assert_eq!(run_in(&here, &["move", ".", "--html", "page.html"]).status, 0);
     let page = fs::read_to_string(here.join("page.html")).expect("it was written");
-    assert!(page.contains("<li><b class=\"c2\">2 &quot;second link, up&quot;</b> → 3 &quot;say \\now&quot;"));
+    assert!(
+        page.contains("<li><b class=\"c2\">2 &quot;second link, up&quot;</b> <span>→ 3 &quot;say \\now&quot;</span>")
+    );
     assert!(page.contains("title=\"&lt;b&gt;\"") && !page.contains("<b>\""));
+}
+
+#[test]
+fn name_sheets_that_are_fine() {
+    let here = with_names("names-checked");
+    let words = "source.names.csv: a name sheet of 2 cues.\n";
+    assert_eq!(run_in(&here, &["check", "source.names.csv"]), answer(words, 0));
 }
 
 #[test]
@@ -183,6 +201,16 @@ fn names_of_a_mended_sheet() {
     put(&here, "source.mended.names.csv", "1,other\r\n");
     let output = run_in(&here, &["move", "source.mended.csv", "target.csv"]).output;
     assert!(output.contains("  1 \"other\"  ->  2 \"T2 half\"\n  2          ->  3 \"say \\now\"\n"));
+}
+
+#[test]
+fn mended_names_of_a_sheet_that_loads() {
+    let here = with_names("mended-names");
+    put(&here, "source.names.csv", "1,half\n2,up\n");
+    assert_eq!(run_in(&here, &["move", "."]).status, 2);
+    assert_eq!(run_in(&here, &["mend", "source.names.csv"]).status, 0);
+    let output = run_in(&here, &["move", "."]).output;
+    assert!(output.contains("  1 \"half\"  ->  2 \"T2 half\"\n  2 \"up\"    ->  3 \"say \\now\"\n"));
 }
 
 #[test]
@@ -201,14 +229,26 @@ fn a_name_sheet_that_is_refused() {
         (
             "1,a\n",
             40,
-            "where:     row 1, byte 4\n  there:     a line break LF without CR\n  expected:  a number, a comma, a name and CR LF in each row", "run: tickdrizzle mend ./source.names.csv",
+            "where:     row 1, character 4\n  there:     a line break LF without CR\n  expected:  a number, a comma, a name and CR LF in each row", "run: tickdrizzle mend ./source.names.csv",
         ),
-        ("1,", 41, "where:     row 1\n  expected:  a name of 1 to 40 plain characters", correct),
-        ("1,a\r\n3,b\r\n", 42, "where:     row 2\n  expected:  the next number, counted from 1, at most 120", correct),
+        ("1,", 41, "where:     row 1\n  there:     \"1,\"\n  expected:  a name of 1 to 40 plain characters", correct),
+        ("1,a\r\n3,b\r\n", 42, "where:     row 2\n  there:     \"3,b\"\n  expected:  the next number, counted from 1, at most 120", correct),
+        (
+            "1,a\r\n\r\n2,b\r\n",
+            40,
+            "where:     row 2, character 1\n  there:     a line break\n  expected:  a number, a comma, a name and CR LF in each row",
+            correct,
+        ),
+        (
+            "1,a\r\n2,b,c\r\n",
+            40,
+            "where:     row 2, character 4\n  there:     \",\"\n  expected:  a number, a comma, a name and CR LF in each row", correct,
+        ),
     ] {
         put(&here, "source.names.csv", sheet);
         let words = format!("./source.names.csv: refused (question {number}).\n  {says}\n  to do:     {to_do}\n");
         assert_eq!(run_in(&here, &["move", "."]), answer(&words, 2));
+        assert_eq!(run_in(&here, &["check", "./source.names.csv"]), answer(&words, 2));
         assert_eq!(run_in(&here, &["move", "--csv", "."]).status, 0);
     }
 }

@@ -1,7 +1,11 @@
 //! How the program ends where something fails.
 
-use crate::run::{answer, failure, folder, names, program, put, root, run, run_in};
+use crate::run::{answer, failure, folder, graph, names, program, put, root, run, run_in};
 use std::fs::File;
+use std::os::unix::process::ExitStatusExt;
+use std::process::Stdio;
+use std::thread::sleep;
+use std::time::Duration;
 
 #[test]
 fn help_has_an_example() {
@@ -52,6 +56,22 @@ fn what_cannot_be_read() {
     for command in ["move", "check", "classes", "copies", "positions", "mend"] {
         assert_eq!(run_in(&here, &[command, "nowhere"]), failure(no_folder, 4));
     }
+    let long = File::create(here.join("long.csv")).expect("files can be made");
+    long.set_len((1 << 24) + 1).expect("it may be long");
+    let too_long = "tickdrizzle: long.csv: reading failed: the file is too long for a sheet\n";
+    assert_eq!(run_in(&here, &["check", "long.csv"]), failure(too_long, 4));
+}
+
+#[test]
+fn what_was_answered_before_a_failure_is_said() {
+    let here = folder("before");
+    put(&here, "one.csv", "1\n");
+    put(&here, "two.csv", "1\r\n");
+    let checked = run_in(&here, &["check", "two.csv", "nowhere"]);
+    assert_eq!((checked.output.as_str(), checked.status), ("two.csv: a linking table of 1 cue.\n", 4));
+    let mended = run_in(&here, &["mend", "one.csv", "nowhere"]);
+    assert!(mended.output.ends_with("Written: one.mended.csv\n") && mended.errors.contains("nowhere"));
+    assert_eq!(mended.status, 4);
 }
 
 #[test]
@@ -72,4 +92,21 @@ fn a_file_is_written_whole_or_not_at_all() {
     let message = "tickdrizzle: nowhere/part.csv: writing failed: No such file or directory (os error 2)\n";
     assert_eq!(run_in(&here, &["cut", "table.csv", "--cues", "1", "-o", "nowhere/part.csv"]), failure(message, 4));
     assert_eq!(names(&here), ["table.csv"]);
+}
+
+#[test]
+fn an_interrupt_leaves_nothing_behind() {
+    let here = folder("interrupt");
+    put(&here, "source.csv", graph(20, 1));
+    put(&here, "target.csv", graph(118, 2));
+    let mut command = program(&here, &["move", ".", "--html", "page.html"]);
+    let search = command.stdout(Stdio::piped()).stderr(Stdio::piped()).spawn().expect("the program runs");
+    sleep(Duration::from_millis(800));
+    let id = search.id().try_into().expect("the number is small");
+    // SAFETY: the process was started above and has not been waited for.
+    assert_eq!(unsafe { libc::kill(id, libc::SIGINT) }, 0);
+    let done = search.wait_with_output().expect("the program ends");
+    assert_eq!(done.status.signal(), Some(libc::SIGINT));
+    assert_eq!((done.stdout, done.stderr), (Vec::new(), Vec::new()));
+    assert_eq!(names(&here), ["source.csv", "target.csv"]);
 }

@@ -56,7 +56,18 @@ fn by_21() {
     mendable("21-cr", "1,2\r2,1\r", 21, ["row 1, column 2", "a line break CR without LF", expected]);
     mendable("21-semicolon", "1;2\r\n2;1\r\n", 21, ["row 1, column 1", "\";\"", expected]);
     mendable("21-quotes", "1,2\r\n\"2\",1\r\n", 21, ["row 2, column 1", "a quote mark", expected]);
+    let first = "run: tickdrizzle mend ./source.csv, which tells what else is wrong";
+    let there = ["row 1, column 2", "a line break LF without CR", expected, first];
+    refused("21-lf-and-x", "1,2\n2,x\n", 21, there);
     mendable("21-mark", "\u{FEFF}1\r\n", 21, ["row 1, column 1", "a byte order mark", expected]);
+}
+
+#[test]
+fn a_path_that_needs_quotes_has_them() {
+    let here = folder("quotes");
+    put(&here, "act 1's.csv", "1\n");
+    let output = run_in(&here, &["check", "act 1's.csv"]).output;
+    assert!(output.ends_with("  to do:     run: tickdrizzle mend 'act 1'\\''s.csv'\n"), "{output}");
 }
 
 #[test]
@@ -94,7 +105,15 @@ fn by_1_and_whatever_else_is_asked_of_a_large_table() {
     refused("1-by-25", first, 25, ["the whole sheet", "121 rows of 121 cells", AT_MOST, TOO_LARGE]);
     refused("1-by-20", constant(200, 100), 20, ["the whole sheet", "200 rows of 200 cells", AT_MOST, TOO_LARGE]);
     let unix = constant(121, 1).replace('\r', "");
-    refused("1-by-21", unix, 21, ["the whole sheet", "121 rows of 121 cells", AT_MOST, TOO_LARGE]);
+    refused("1-by-21", &unix, 21, ["the whole sheet", "121 rows of 121 cells", AT_MOST, TOO_LARGE]);
+    let bad = "x".to_string() + &unix[1..].replace(',', ";");
+    refused("1-by-21-and-x", bad, 21, ["the whole sheet", "121 rows of 121 cells", AT_MOST, TOO_LARGE]);
+    let halves = unix.replace('1', "1.5");
+    refused("1-by-20-halves", halves, 20, ["the whole sheet", "121 rows of 121 cells", AT_MOST, TOO_LARGE]);
+    let blanks = "x".to_string() + &",".repeat(200) + &"\n".repeat(200);
+    let to_do = "correct the cell, or take away what is no number";
+    let expected = "digits, a comma between cells, CR LF behind each row";
+    refused("1-blanks", blanks, 21, ["row 1, column 1", "\"x\"", expected, to_do]);
 }
 
 #[test]

@@ -78,3 +78,20 @@ pub fn constant(order: usize, cell: usize) -> String {
     let row = vec![cell.to_string(); order].join(",") + "\r\n";
     row.repeat(order)
 }
+
+/// The sheet of a table that holds a graph: the product of two points is the last element but one where an edge joins them, and
+/// else the last. The edges look random, so that searches between such tables take long.
+pub fn graph(points: usize, seed: u64) -> String {
+    let order = points + 2;
+    let is_edge =
+        |i: usize, j: usize| i != j && i.max(j) < points && coin(seed << 20 | (i.min(j) << 10 | i.max(j)) as u64);
+    let cell = |i: usize, j: usize| (order - usize::from(is_edge(i, j))).to_string();
+    let row = |i: usize| (0..order).map(|j| cell(i, j)).collect::<Vec<_>>().join(",") + "\r\n";
+    (0..order).map(row).collect()
+}
+
+/// Heads or tails, always the same for the same number.
+fn coin(number: u64) -> bool {
+    let mixed = number.wrapping_mul(0x9E37_79B9_7F4A_7C15);
+    (mixed ^ mixed >> 30).wrapping_mul(0xBF58_476D_1CE4_E5B9) >> 63 == 1
+}

@@ -131,6 +131,8 @@ fn beside_one_that_is_already_there() {
     assert_eq!(fs::read(here.join("sheet.mended.csv")).expect("it is there"), b"mine");
     assert_eq!(run_in(&here, &["mend", "--replace", "sheet.csv"]).status, 0);
     assert_eq!(fs::read(here.join("sheet.mended.csv")).expect("it is there"), b"1\r\n");
+    let again = format!("sheet.csv: 1 row of 1 cell.\n  {LF}\nAlready there: sheet.mended.csv\n");
+    assert_eq!(run_in(&here, &["mend", "sheet.csv"]), answer(&again, 0));
 }
 
 #[test]
@@ -143,9 +145,38 @@ fn of_names() {
     assert_eq!(mended, b"1,House to half\r\n2,\"say \"\"go\"\"\"\r\n");
     let again = "show.mended.names.csv: loads as it is; nothing to mend.\n";
     assert_eq!(run_in(&here, &["mend", "show.mended.names.csv"]), answer(again, 0));
+    put(&here, "calc.names.csv", fs::read(sheets().join("libreoffice.names.csv")).expect("the sheet is there"));
+    let words = format!("calc.names.csv: 2 rows of 2 cells.\n  {LF}\nWritten: calc.mended.names.csv\n");
+    assert_eq!(run_in(&here, &["mend", "calc.names.csv"]), answer(&words, 0));
+    let mended = fs::read(here.join("calc.mended.names.csv")).expect("it was written");
+    assert_eq!(mended, b"1,House to half\r\n2,\"second link, up\"\r\n");
     put(&here, "bad.names.csv", "go,1\n");
     let refused =
         "bad.names.csv: cannot be mended.\n  where:     row 1, column 1\n  there:     \"go,1\"\n  expected:  a \
                    number and a name\n  to do:     correct this in the spreadsheet and save it again\n";
     assert_eq!(run_in(&here, &["mend", "bad.names.csv"]), answer(refused, 2));
+}
+
+#[test]
+fn of_a_folder() {
+    let here = folder("mend-folder");
+    put(&here, "source.csv", "1\n");
+    put(&here, "target.csv", "1\r\n");
+    put(&here, "target.names.csv", "1,half\n");
+    let words = format!(
+        "./source.csv: 1 row of 1 cell.\n  {LF}\nWritten: ./source.mended.csv\n./target.csv: loads as it is; nothing to \
+         mend.\n./target.names.csv: 1 row of 2 cells.\n  {LF}\nWritten: ./target.mended.names.csv\nNext: tickdrizzle move \
+         ./source.mended.csv ./target.csv\n"
+    );
+    assert_eq!(run_in(&here, &["mend", "."]), answer(&words, 0));
+    let moved = "The show fits: its 1 cue goes to 1 of the rig's 1.\n  1  ->  1 \"half\"\n";
+    assert_eq!(run_in(&here, &["move", "source.mended.csv", "target.csv"]), answer(moved, 0));
+    put(&here, "source.csv", "1\r\n");
+    let words = format!(
+        "./source.csv: loads as it is; nothing to mend.\n./target.csv: loads as it is; nothing to mend.\n\
+         ./target.names.csv: 1 row of 2 cells.\n  {LF}\nAlready there: ./target.mended.names.csv\n"
+    );
+    assert_eq!(run_in(&here, &["mend", "."]), answer(&words, 0));
+    put(&here, "source.csv", "2\n");
+    assert!(!run_in(&here, &["mend", "--replace", "."]).output.contains("Next"));
 }
