@@ -3,10 +3,10 @@ use mathlib.Core.Path.{_≡_, refl, sym, ap, _∙_}
 use mathlib.Core.Bool.{Bool, true, false, _&&_}
 use mathlib.Core.List.{List, [], _∷_}
 use Prim.Native.Nat.{ℕ}
-use native.Mathlib.Omega.{arith}
 use borrow.Author.Tests.{eq-eqb, eqb-true}
 use lib.Dec.{eqb}
 use Rattle.cases.specs.Answering.{sameBytes}
+use Rattle.semigroups.proofs.Booleans.{impossible}
 
 same-itself : (a : List ℕ) → sameBytes a a ≡ true
 unfolding sameBytes
@@ -15,13 +15,13 @@ same-itself (x ∷ a) = rw (eq-eqb x x refl, same-itself a)
 
 both-true : (p q : Bool) → (p && q) ≡ true → (p ≡ true) × (q ≡ true)
 both-true true q e = (refl, e)
-both-true false q e = let z : _≡_ {A = ℕ} 0 1 = cc in let w : ⊥ = omega arith in absurd w
+both-true false q e = impossible (cc)
 
 same-equal : (a b : List ℕ) → sameBytes a b ≡ true → a ≡ b
 unfolding sameBytes
 same-equal [] [] e = refl
-same-equal [] (y ∷ b) e = let z : _≡_ {A = ℕ} 0 1 = cc in let w : ⊥ = omega arith in absurd w
-same-equal (x ∷ a) [] e = let z : _≡_ {A = ℕ} 0 1 = cc in let w : ⊥ = omega arith in absurd w
+same-equal [] (y ∷ b) e = impossible (cc)
+same-equal (x ∷ a) [] e = impossible (cc)
 same-equal (x ∷ a) (y ∷ b) e =
     let p = both-true (eqb x y) (sameBytes a b) e in
     let h : x ≡ y = eqb-true x y (p .0) in

@@ -4,7 +4,6 @@ use mathlib.Core.Bool.{true, false}
 use mathlib.Core.List.{List, [], _∷_}
 use mathlib.Core.Option.{Option, none, some}
 use Prim.Native.Nat.{ℕ, _≤_}
-use native.Mathlib.Omega.{arith}
 use lib.ListN.{length}
 use denote.Enum.Declared.{tagOf}
 use types.Run.{OneOf, miss}
@@ -15,6 +14,7 @@ use Rattle.semigroups.specs.Maps.{isomorphisms, maps, first, earliest, Sought, 
 use Rattle.semigroups.specs.Calls.{Answer, gives}
 use Rattle.semigroups.proofs.Tables.{no-refusal}
 use Rattle.semigroups.proofs.Maps.{no-isomorphism}
+use Rattle.semigroups.proofs.Booleans.{impossible}
 use Rattle.tables.proofs.Questions.{both-pass}
 use Rattle.search.specs.Calls.{Called, theFirst, lend, call}
 use Rattle.search.specs.Answers.{searchAnswerSays}
@@ -31,7 +31,7 @@ module _ (o : Option (List ℕ)) where
   found-some = go o
     where
       go : (o : Option (List ℕ)) → gives found ≡ gives (sought o) → isSome o ≡ true
-      go none e = let z : _≡_ {A = ℕ} 0 1 = cc in let w : ⊥ = omega arith in absurd w
+      go none e = impossible (cc)
       go (some f) e = refl
 
   other-none : (said : SearchAnswer) → (said ≡ Found → ⊥) → searchAnswerSays said ≡ gives (sought o) → isSome o ≡ false
@@ -40,10 +40,10 @@ module _ (o : Option (List ℕ)) where
       go : (o : Option (List ℕ)) (said : SearchAnswer) → (said ≡ Found → ⊥) → searchAnswerSays said ≡ gives (sought o) → isSome o ≡ false
       go none said h e = refl
       go (some f) Found h e = absurd (h refl)
-      go (some f) Nothing h e = let z : _≡_ {A = ℕ} 0 1 = cc in let w : ⊥ = omega arith in absurd w
-      go (some f) (Refused side fault) h e = let z : _≡_ {A = ℕ} 0 1 = cc in let w : ⊥ = omega arith in absurd w
-      go (some f) MapLength h e = let z : _≡_ {A = ℕ} 0 1 = cc in let w : ⊥ = omega arith in absurd w
-      go (some f) ScratchLength h e = let z : _≡_ {A = ℕ} 0 1 = cc in let w : ⊥ = omega arith in absurd w
+      go (some f) Nothing h e = impossible (cc)
+      go (some f) (Refused side fault) h e = impossible (cc)
+      go (some f) MapLength h e = impossible (cc)
+      go (some f) ScratchLength h e = impossible (cc)
 
 -- What is not the first case is not found.
 other : (said : SearchAnswer) → OneOf (1 ∷ 2 ∷ 3 ∷ 4 ∷ []) (tagOf search-answer.the-type said) → said ≡ Found → ⊥

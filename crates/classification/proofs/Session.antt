@@ -13,7 +13,7 @@ use lib.ListN.{length, getD}
 use Rattle.semigroups.specs.Lists.{range, elements}
 use Rattle.semigroups.specs.Tables.{Element, Accepted}
 use Rattle.semigroups.specs.Questions.{Refusal}
-use Rattle.semigroups.proofs.Booleans.{clash, both, and-right, equal-or-not, at-most-or-above}
+use Rattle.semigroups.proofs.Booleans.{clash, both, and-right, equal-or-not, at-most-or-above, impossible}
 use Rattle.semigroups.proofs.Lists.{length-snoc}
 use Rattle.csv.specs.Tables.{orderOf, cellsOf}
 use Rattle.files.specs.Files.{fileRefusal, room}
@@ -201,7 +201,7 @@ step-knows folder notes (comparing n cells j) s w (files, R, (t, C)) o e = go o 
     few = let l = notes-length folder files notes R in let s0 = s .0 in omega arith
 
     go : (o : Option (List ℕ)) → o ≡ some (file files j) → Knows folder (stepIn notes (comparing n cells j) o)
-    go none q = absurd (let z : _≡_ {A = ℕ} 0 1 = cc in let y : ⊥ = omega arith in y)
+    go none q = impossible (cc)
     go (some u) q =
         let same : u ≡ file files j = cc in
         compared-knows folder files notes R n cells t j few there C (holdsLike u n cells) (ap (λ (v : List ℕ). holdsLike v n cells) (sym same))

@@ -27,6 +27,7 @@ use Rattle.search.specs.Answers.{requestOf}
 use Rattle.search.proofs.Answering.{none-refused}
 use Rattle.search.proofs.Calls.{not-refused}
 use Rattle.semigroups.specs.Questions.{Refusal, tableRefusal}
+use Rattle.semigroups.proofs.Booleans.{impossible}
 use Rattle.plain.specs.declared.Said.{Said as SaidOf}
 use Rattle.plain.specs.Said.{saidOf}
 use Rattle.plain.specs.Enumeration.{numbered, isFound, kindOf}
@@ -149,7 +150,7 @@ less-there b f x l h g e = rw (h, g) (omega arith)
 
 -- In a list that increases, the entries later than the first one after b are those later than b but for that one.
 one-less : (b f : List ℕ) (l : List (List ℕ)) → Increasing l → find (earlier b) l ≡ some f → count (earlier b) l ≡ suc (count (earlier f) l)
-one-less b f [] s e = unfold find in let z : _≡_ {A = ℕ} 0 1 = cc in let w : ⊥ = omega arith in absurd w
+one-less b f [] s e = unfold find in impossible (cc)
 one-less b f (x ∷ l) s e = go (earlier b x) refl (λ h. one-less b f l (s .1) h)
   where
     go : (t : Bool) → earlier b x ≡ t → (find (earlier b) l ≡ some f → count (earlier b) l ≡ suc (count (earlier f) l)) → count (earlier b) (x ∷ l) ≡ suc (count (earlier f) (x ∷ l))
@@ -184,7 +185,7 @@ module _ (isomorphisms : Bool) (source : List ℕ) (m : ℕ) (target : List ℕ)
   left-found h = go next-answer refl
     where
       go : (o : Option (List ℕ)) → next-answer ≡ o → count (earlier (take m map)) (fullList isomorphisms source m target n) ≡ suc (count (earlier (take m (next-call .mapBytes ++ drop m map))) (fullList isomorphisms source m target n))
-      go none e = let f : true ≡ false = sym h ∙ said-next none e in let z : _≡_ {A = ℕ} 0 1 = cc in let w : ⊥ = omega arith in absurd w
+      go none e = let f : true ≡ false = sym h ∙ said-next none e in impossible (cc)
       go (some f) e =
           let s = product m source in
           let t = product n target in
@@ -202,7 +203,7 @@ module _ (isomorphisms : Bool) (source : List ℕ) (m : ℕ) (target : List ℕ)
     where
       go : (o : Option (List ℕ)) → next-answer ≡ o → count (earlier (take m map)) (fullList isomorphisms source m target n) ≡ 0
       go none e = no-more (take m map) (fullList isomorphisms source m target n) (find-none (earlier (take m map)) (fullList isomorphisms source m target n) e)
-      go (some f) e = let g : true ≡ false = sym (said-next (some f) e) ∙ h in let z : _≡_ {A = ℕ} 0 1 = cc in let w : ⊥ = omega arith in absurd w
+      go (some f) e = let g : true ≡ false = sym (said-next (some f) e) ∙ h in impossible (cc)
 
 -- ---- every table of order 1 to 3
 

@@ -12,6 +12,7 @@ use borrow.Author.Tests.{eq-eqb, ne-eqb, not-true, not-false}
 use Rattle.semigroups.specs.Lists.{all, firstOf}
 use Rattle.semigroups.specs.Questions.{Refusal, no, firstNo}
 use Rattle.semigroups.proofs.Questions.{failed-before, passed-before}
+use Rattle.semigroups.proofs.Booleans.{impossible}
 use Rattle.csv.specs.Decimals.{digits}
 use Rattle.csv.specs.Records.{rows}
 use Rattle.csv.specs.Cursor.{commaBehind, nextField, fieldFollows}
@@ -44,14 +45,14 @@ pub count-turn : {t : List ℕ} {n at : ℕ} {comma : Bool} (k : Counting t n at
 count-turn {t} {n} {at} {comma} k c = go (k .fields) (sym (k .goes-on) ∙ c) (k .left)
   where
     go : (fs : List (List ℕ)) → goesOn fs ≡ true → {m : Bool} → Left t at m (behind fs (k .later)) → Turn t at (behind fs (k .later))
-    go [] e l = let z : _≡_ {A = ℕ} 0 1 = cc in let w : ⊥ = omega arith in absurd w
+    go [] e l = impossible (cc)
     go (g ∷ gs) e l = turn (left-true l) l
 
 pub count-more : {t : List ℕ} {n at : ℕ} {comma : Bool} → Counting t n at comma → comma ≡ true → Counting t (n + 1) (nextField t at) (commaBehind t at)
 count-more {t} {n} {at} {comma} k c = go (k .fields) (sym (k .goes-on) ∙ c) (k .order) (count-turn k c)
   where
     go : (fs : List (List ℕ)) → goesOn fs ≡ true → orderOf t ≡ n + length fs → Turn t at (behind fs (k .later)) → Counting t (n + 1) (nextField t at) (commaBehind t at)
-    go [] e o x = let z : _≡_ {A = ℕ} 0 1 = cc in let w : ⊥ = omega arith in absurd w
+    go [] e o x = impossible (cc)
     go (g ∷ gs) e o x =
         let few = k .few in
         let p : gs ≡ x .fields = cc (x .here) in
@@ -62,7 +63,7 @@ count-last {t} {n} k c = go (k .fields) (sym (k .goes-on) ∙ c) (k .order)
   where
     go : (fs : List (List ℕ)) → goesOn fs ≡ false → orderOf t ≡ n + length fs → n ≡ orderOf t
     go [] e o = omega arith
-    go (g ∷ gs) e o = let z : _≡_ {A = ℕ} 0 1 = cc in omega arith
+    go (g ∷ gs) e o = impossible (cc)
 
 -- ---- questions 23 to 26
 
@@ -177,7 +178,7 @@ module _ {t : List ℕ} {n at row column : ℕ} {square more : Bool} (k : Judgin
         where
           go : (fs : List (List ℕ)) → goesOn fs ≡ true
               → (square && squareLeft n row column ((digits (drop at t) ∷ fs) ∷ here .later)) ≡ (square && squareLeft n row (column + 1) (behind fs (here .later)))
-          go [] e = let z : _≡_ {A = ℕ} 0 1 = cc in let w : ⊥ = omega arith in absurd w
+          go [] e = impossible (cc)
           go (g ∷ gs) e = let m : column + suc (suc (length gs)) ≡ column + 1 + suc (length gs) = omega arith in rw m
 
       module _ (c : commaBehind t at ≡ false) where
@@ -192,7 +193,7 @@ module _ {t : List ℕ} {n at row column : ℕ} {square more : Bool} (k : Judgin
             go [] e =
                 let m : row + suc (length (here .later)) ≡ row + 1 + length (here .later) = omega arith in
                 same (row + suc (length (here .later))) (all (λ r. eqb (length r) n) (here .later)) ∙ rw (m, even-zero)
-            go (g ∷ gs) e = let z : _≡_ {A = ℕ} 0 1 = cc in let w : ⊥ = omega arith in absurd w
+            go (g ∷ gs) e = impossible (cc)
 
         pub judge-break : column + 1 ≡ n → Judging t n (nextField t at) (row + 1) 0 square (fieldFollows t at)
         judge-break e = at-break square (λ m x. simp (eq-eqb (column + 1) n e))

@@ -18,6 +18,7 @@ use Rattle.csv.specs.Questions.{bytesRefusal}
 use Rattle.csv.proofs.Records.{ends, closing, missing}
 use Rattle.csv.proofs.Bytes.{other-clean, no-other, ends-break}
 use Rattle.csv.proofs.Rows.{Digits, Rows, rowsText-cons, rowsText-rows, clean-rows, rows-some}
+use Rattle.semigroups.proofs.Booleans.{impossible}
 
 -- ---- a field and what follows it
 
@@ -88,8 +89,7 @@ bytes-left t end k a b h l = go (ends t) refl a b (h ∙ length-append t (closin
         let x′ = sym (List·getD-append t m 0 end (omega arith)) ∙ x in
         let y′ = sym (List·getD-append t m 0 (end + 1) (omega arith)) ∙ y in
         let c = ends-at t end (omega arith) x′ y′ in
-        let z : _≡_ {A = ℕ} 0 1 = cc in
-        omega arith
+        impossible (cc)
 
     go : (e : Bool) → ends t ≡ e → getD (t ++ closing e) end 0 ≡ 13 → getD (t ++ closing e) (end + 1) 0 ≡ 10
         → end + 2 + k ≡ length t + length (closing e) → end + 2 < length t
@@ -212,7 +212,7 @@ module _ (t : List ℕ) (at : ℕ) (inside : at ≤ length t) where
       record { inside = inside; fields = []; later = rs; here = rw d; comma = b; left = rw (w, p) (rows-behind f rs r (l .1)) }
 
 pub turn : {t : List ℕ} {at : ℕ} {more : Bool} {rs : List (List (List ℕ))} → more ≡ true → Left t at more rs → Turn t at rs
-turn e done = let z : _≡_ {A = ℕ} 0 1 = cc in let w : ⊥ = omega arith in absurd w
+turn e done = impossible (cc)
 turn {t} {at} e (begins {f = f} {fs = []} {rs = rs} i r l) = break-turn t at i f rs r l
 turn {t} {at} e (begins {f = f} {fs = g ∷ gs} {rs = rs} i r l) = comma-turn t at i f g gs rs r l
 
@@ -229,7 +229,7 @@ left-true (begins i r l) = refl
 
 pub left-none : {t : List ℕ} {at : ℕ} {more : Bool} {rs : List (List (List ℕ))} → more ≡ false → Left t at more rs → rs ≡ []
 left-none e done = refl
-left-none e (begins i r l) = let z : _≡_ {A = ℕ} 0 1 = cc in let w : ⊥ = omega arith in absurd w
+left-none e (begins i r l) = impossible (cc)
 
 -- The cursor goes forward.
 pub next-later : (t : List ℕ) (at : ℕ) → at + 1 ≤ nextField t at

@@ -4,11 +4,11 @@ use mathlib.Core.Path.{_≡_, refl, ap, _∙_}
 use mathlib.Core.Bool.{Bool, true, false, _&&_, cond}
 use mathlib.Core.List.{List, [], _∷_, _++_, flatMap, append-nil}
 use Prim.Native.Nat.{ℕ}
-use native.Mathlib.Omega.{arith}
 use lib.Dec.{eqb}
 use borrow.Author.Tests.{eqb-true}
 use Rattle.csv.specs.Records.{isBreak, onto, records, fields, recordText}
 use Rattle.csv.specs.Every.{Every}
+use Rattle.semigroups.proofs.Booleans.{impossible}
 
 -- ---- fields
 
@@ -99,8 +99,8 @@ break-bytes b c h = go (eqb b 13) (eqb c 10) refl refl h
   where
     go : (x y : Bool) → eqb b 13 ≡ x → eqb c 10 ≡ y → (x && y) ≡ true → (b ≡ 13) × (c ≡ 10)
     go true true e f g = (eqb-true b 13 e, eqb-true c 10 f)
-    go true false e f g = let z : _≡_ {A = ℕ} 0 1 = cc in let w : ⊥ = omega arith in absurd w
-    go false y e f g = let z : _≡_ {A = ℕ} 0 1 = cc in let w : ⊥ = omega arith in absurd w
+    go true false e f g = impossible (cc)
+    go false y e f g = impossible (cc)
 
 -- The line break that the last record lacks.
 abbrev pub closing : Bool → List ℕ

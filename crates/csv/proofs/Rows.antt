@@ -9,7 +9,7 @@ use native.Mathlib.Omega.{arith}
 use lib.Dec.{eqb, leb}
 use lib.ListN.{length, length-append}
 use borrow.Author.Tests.{eqb-true, ne-eqb, leb-true}
-use Rattle.semigroups.proofs.Booleans.{and-left, and-right}
+use Rattle.semigroups.proofs.Booleans.{and-left, and-right, impossible}
 use Rattle.csv.specs.Decimals.{isDigit}
 use Rattle.csv.specs.Records.{isBreak, onto, records, fields, rows, recordText, lineText, rowsText}
 use Rattle.csv.specs.Every.{Every}
@@ -141,10 +141,10 @@ fields-digits (b ∷ r) h = go (fields-digits r (h .1)) (isDigit b) refl (eqb b 
     go : Every Digits (fields r) → (d : Bool) → isDigit b ≡ d → (e : Bool) → (d || e) ≡ true → Every Digits (cond e ([] ∷ fields r) (onto b (fields r)))
     go ih d q true g = (tt, ih)
     go ih true q false g = onto-digits b (fields r) q ih
-    go ih false q false g = let z : _≡_ {A = ℕ} 0 1 = cc in let w : ⊥ = omega arith in absurd w
+    go ih false q false g = impossible (cc)
 
 row-of : (l : List (List ℕ)) → Cons l → Every Digits l → Row l
-row-of [] c h = let z : _≡_ {A = ℕ} 0 1 = cc (c .2) in let w : ⊥ = omega arith in absurd w
+row-of [] c h = impossible (cc (c .2))
 row-of (f ∷ fs) c h = h
 
 rows-in : (l : List (List ℕ)) → Every InRecord l → Rows (map fields l)

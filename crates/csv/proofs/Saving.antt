@@ -62,9 +62,6 @@ module _ (n : ℕ) (cells : List ℕ) where
     pub room-next : (j at room x : ℕ) → x ≡ product n cells i j → j ≤ n → at + length (fieldsLeft j) ≤ room → at + 1 + length (numeral x) ≤ room
     room-next j at room x e h r = rw e (omega (arith, simp length-append at (ap length (row-step j h))))
 
-    pub room-comma : (j at room : ℕ) → j ≤ n → at + length (fieldsLeft j) ≤ room → at + 1 ≤ room
-    room-comma j at room h r = let k = room-next j at room (product n cells i j) refl h r in omega arith
-
     pub room-last : (j at room : ℕ) → n < j → at + length (fieldsLeft j) ≤ room → at + 2 ≤ room
     room-last j at room h r = omega (arith, ap length (row-end j h))
 
@@ -105,22 +102,20 @@ module _ (n : ℕ) (cells : List ℕ) (i : ℕ) where
   -- A comma and field j.
   pub row-more : {first text : List ℕ} {behind at : ℕ} (j x : ℕ) {later : List ℕ} {next : ℕ} → j ≤ n → x ≡ product n cells i j
       → Writing first behind (fieldsLeft n cells i 2) (fieldsLeft n cells i j) text at
-      → later ≡ sets (set text at 44) (at + 1) (numeral x) → next ≡ at + 1 + length (numeral x)
+      → later ≡ sets text at (44 ∷ numeral x) → next ≡ at + length (44 ∷ numeral x)
       → Writing first behind (fieldsLeft n cells i 2) (fieldsLeft n cells i (j + 1)) later next
-  row-more {at = at} j x h e w placed next =
-      let p = numeral (product n cells i j) in
-      let m : at + 1 + length p ≡ at + suc (length p) = omega arith in
-      rw (placed, next, e, m, add-one at) (write-next w (44 ∷ p) (fieldsLeft n cells i (j + 1)) (row-step n cells i j h))
+  row-more j x h e w placed next = rw (placed, next, e) (write-next w (44 ∷ numeral (product n cells i j)) (fieldsLeft n cells i (j + 1)) (row-step n cells i j h))
 
-  -- The line break is left.
-  pub row-done : {before first text : List ℕ} {start behind at : ℕ} (j : ℕ) → n < j
+  -- The line break.
+  pub row-done : {before first text : List ℕ} {start behind at : ℕ} (j : ℕ) {later : List ℕ} {next : ℕ} → n < j
       → Writing before start (lineText (rowFields n cells i)) (fieldsLeft n cells i 2) first behind
       → Writing first behind (fieldsLeft n cells i 2) (fieldsLeft n cells i j) text at
-      → (at + 2 ≡ start + length (lineText (rowFields n cells i))) × (set (set text at 13) (at + 1) 10 ≡ sets before start (lineText (rowFields n cells i)))
-  row-done {at = at} j h b w =
+      → later ≡ sets text at (13 ∷ 10 ∷ []) → next ≡ at + 2
+      → (next ≡ start + length (lineText (rowFields n cells i))) × (later ≡ sets before start (lineText (rowFields n cells i)))
+  row-done j h b w placed next =
       let all = write-last (write-next w (13 ∷ 10 ∷ []) [] (row-end n cells i j h)) refl in
       let whole = write-last (write-next b (fieldsLeft n cells i 2) [] (sym (append-nil (fieldsLeft n cells i 2)))) refl in
-      (all .1 ∙ whole .1, rw (add-one at) (all .0 ∙ whole .0))
+      (next ∙ all .1 ∙ whole .1, placed ∙ all .0 ∙ whole .0)
 
 -- ---- the rows are written
 

@@ -9,7 +9,7 @@ use lib.ListN.{getD}
 use Rattle.semigroups.specs.Lists.{at, member}
 use Rattle.semigroups.specs.Tables.{Product, Element, badCell}
 use Rattle.semigroups.specs.Generated.{Inside}
-use Rattle.semigroups.proofs.Booleans.{both}
+use Rattle.semigroups.proofs.Booleans.{both, impossible}
 use Rattle.semigroups.proofs.NoRepeats.{mem-place, place-mem}
 use Rattle.semigroups.proofs.Tables.{cells-in-range, no-bad-cell}
 use Rattle.tables.proofs.Triples.{fails, no-failing, failing}
@@ -21,8 +21,7 @@ module _ (n : ℕ) (l : List ℕ) where
   pub entry-outside : (k : ℕ) → badCell n l ≡ some k → Inside n l → ⊥
   entry-outside k e h =
       let q : badCell n l ≡ none = no-bad-cell n l (λ i u. h (getD l i 0) (place-mem 0 l i u)) in
-      let z : _≡_ {A = ℕ} 0 1 = cc in
-      let y : ⊥ = omega arith in y
+      impossible (cc)
 
 -- ---- triples with their middle on the list
 

@@ -16,9 +16,3 @@ abbrev pub orderFits : maps.Kind → ℕ → ℕ → Bool
 orderFits maps.embeddings m n = leb m n
 orderFits maps.isomorphisms m n = eqb m n
 orderFits maps.reversed m n = eqb m n
-
--- The kind of the maps onto the target as a search meets it: a reversed isomorphism is an isomorphism onto the target turned.
-abbrev pub facing : maps.Kind → maps.Kind
-facing maps.embeddings = maps.embeddings
-facing maps.isomorphisms = maps.isomorphisms
-facing maps.reversed = maps.isomorphisms

@@ -6,7 +6,8 @@ ghost use Rattle.semigroups.specs.Tables.{product, Accepted};
 ghost use Rattle.semigroups.specs.Scratch.{scratchSize};
 ghost use Rattle.semigroups.specs.Calls.{scratchAfter};
 ghost use Rattle.semigroups.specs.Candidates.{candidate};
-ghost use Rattle.kinds.specs.Kinds.{kindOf, orderFits, facing};
+ghost use Rattle.kinds.specs.Kinds.{kindOf, orderFits};
+ghost use Rattle.kinds.specs.Facing.{facing};
 
 pub enum Kind {
     Embeddings,

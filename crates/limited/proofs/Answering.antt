@@ -22,7 +22,8 @@ use Rattle.backtrack.specs.State.{foundIn, remaining, within, outcomeOf}
 use Rattle.backtrack.proofs.Limits.{within-stopped, within-ended}
 use Rattle.search.specs.Calls.{Lent, theFirst, answerOf, marksOf}
 use Rattle.search.specs.Wanted.{Passes}
-use Rattle.kinds.specs.Kinds.{orderFits, facing}
+use Rattle.kinds.specs.Kinds.{orderFits}
+use Rattle.kinds.specs.Facing.{facing}
 use Rattle.search.proofs.Calls.{passed}
 use Rattle.search.proofs.Answering.{answer-none, answer-some}
 use Rattle.limited.specs.Calls.{Called, firstWork, limitedCall}

@@ -16,7 +16,7 @@ use Rattle.semigroups.specs.Search.{fits, passes}
 use Rattle.semigroups.specs.Trials.{Work, work, inTurn, tried, workAt, counted, stopped, ended}
 use Rattle.semigroups.specs.Transformations.{transformations, transformationOrder, transformation, numberOf, transformationProduct, transformationCells}
 use Rattle.semigroups.specs.Cases.{Table, swap, two}
-use Rattle.semigroups.proofs.Booleans.{at-most-or-above}
+use Rattle.semigroups.proofs.Booleans.{at-most-or-above, impossible}
 use Rattle.semigroups.proofs.Candidates.{size-most}
 use Rattle.semigroups.proofs.Cases.{worked}
 use Rattle.search.specs.Calls as searches
@@ -30,7 +30,7 @@ use Rattle.limited.proofs.Works.{work-unfit, work-finds}
 
 -- A search that ends is not stopped.
 not-stopped : (o : Sought) (k : ℕ) → gives (ended o k) ≡ gives stopped → ⊥
-not-stopped o k e = let z : _≡_ {A = ℕ} 0 1 = cc in omega arith
+not-stopped o k e = impossible (cc)
 
 module _ (kind : Kind) (l : Lent) (p : Passes l) where
   abbrev w : Work

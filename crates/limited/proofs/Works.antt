@@ -17,7 +17,8 @@ use Rattle.semigroups.proofs.Candidates.{marked-candidate}
 use Rattle.semigroups.proofs.Trials.{counted-finds, counted-same, counted-agrees}
 use Rattle.search.specs.Calls.{Lent, theFirst, answerOf}
 use Rattle.search.specs.Wanted.{Passes}
-use Rattle.kinds.specs.Kinds.{orderFits, facing}
+use Rattle.kinds.specs.Kinds.{orderFits}
+use Rattle.kinds.specs.Facing.{facing}
 use Rattle.search.proofs.Answering.{finds, unfit}
 use Rattle.search.proofs.Turned.{around, around-passes, same-candidate, same-answer}
 use Rattle.limited.specs.Calls.{readBy, firstWork}

@@ -17,6 +17,7 @@ use Rattle.semigroups.proofs.Maps.{embedding-order}
 use Rattle.semigroups.proofs.Questions.{failed-before, passed-before}
 use Rattle.semigroups.proofs.Passing.{room-asked, joined, table-passes}
 use Rattle.semigroups.proofs.Calls.{refused-keeps}
+use Rattle.semigroups.proofs.Booleans.{impossible}
 use Rattle.planning.specs.Degrees.{degreeProduct, Fit, leastFit, leastDegree, fitPositions, degreeRefusal, DegreePasses}
 use Rattle.planning.specs.Answers.{degreeSays, positionsAfter, PositionsKept}
 use Rattle.planning.proofs.Degrees.{no-fit}
@@ -96,4 +97,4 @@ positions-kept m cells before = (
     nothing : (q : Option Refusal) (o : Option Fit) → givenUnless q (Option·map (λ (x : Fit). x .degree) o) ≡ gives none → writtenUnless q (fitPositions m o) before ≡ before
     nothing (some r) o e = refl
     nothing none none e = refl
-    nothing none (some x) e = absurd (let z : _≡_ {A = ℕ} 0 1 = cc in let w : ⊥ = omega arith in w)
+    nothing none (some x) e = impossible (cc)

@@ -18,6 +18,7 @@ use Rattle.semigroups.proofs.Candidates.{size-most}
 use Rattle.semigroups.proofs.Maps.{embedding-list, first-earliest}
 use Rattle.semigroups.proofs.Passing.{transformations-pass}
 use Rattle.semigroups.proofs.Transformations.{length-cells, degrees-accepted}
+use Rattle.semigroups.proofs.Booleans.{impossible}
 use Rattle.transformations.specs.Answers.{transformationSays, transformationCellsAfter, transformationAnswerSays}
 use Rattle.transformations.specs.declared.TransformationAnswer.{TransformationAnswer}
 use Rattle.transformations.specs.declared.TransformationAnswer.the-variants.{Degree, Cells, Order}
@@ -56,8 +57,8 @@ module _ (d : ℕ) (h : Element 3 d) (before : List ℕ) (size : length before �
   order-filled answer e n q = let w : gives n ≡ gives (transformationOrder d) = sym (ap transformationAnswerSays q) ∙ e ∙ fill-says in cc
 
   pub always-filled : (answer : TransformationAnswer) → ((n : ℕ) → answer ≡ Order n → ⊥) → transformationAnswerSays answer ≡ transformationSays d (length before) → ⊥
-  always-filled Degree other e = let w = e ∙ fill-says in let z : _≡_ {A = ℕ} 0 1 = cc in omega arith
-  always-filled Cells other e = let w = e ∙ fill-says in let z : _≡_ {A = ℕ} 0 1 = cc in omega arith
+  always-filled Degree other e = let w = e ∙ fill-says in impossible (cc)
+  always-filled Cells other e = let w = e ∙ fill-says in impossible (cc)
   always-filled (Order n) other e = other n refl
 
   module _ (left : List ℕ) (e : left ≡ transformationCellsAfter d before) (n : ℕ) (order : n ≡ transformationOrder d) where
@@ -99,16 +100,16 @@ module _ (m : ℕ) (cells : List ℕ) (table : Accepted m cells) (few : m ≤ 27
       ∙ not-refused embeddings lent theFirst (passed embeddings lent theFirst passes) (firstAt m (product m cells) d) refl
 
   found-map : (o : Option (List ℕ)) (left : List ℕ) → gives found ≡ gives (sought o) → left ≡ mapUnless none o image → some left ≡ o
-  found-map none left e q = absurd (let z : _≡_ {A = ℕ} 0 1 = cc in let w : ⊥ = omega arith in w)
+  found-map none left e q = impossible (cc)
   found-map (some f) left e q = ap {B = Option (List ℕ)} some q
 
   no-map : (o : Option (List ℕ)) (said : SearchAnswer) → (said ≡ Found → ⊥) → searchAnswerSays said ≡ gives (sought o) → none ≡ o
   no-map none said other e = refl
   no-map (some f) Found other e = absurd (other refl)
-  no-map (some f) Nothing other e = absurd (let z : _≡_ {A = ℕ} 0 1 = cc in let w : ⊥ = omega arith in w)
-  no-map (some f) (Refused side fault) other e = absurd (let z : _≡_ {A = ℕ} 0 1 = cc in let w : ⊥ = omega arith in w)
-  no-map (some f) MapLength other e = absurd (let z : _≡_ {A = ℕ} 0 1 = cc in let w : ⊥ = omega arith in w)
-  no-map (some f) ScratchLength other e = absurd (let z : _≡_ {A = ℕ} 0 1 = cc in let w : ⊥ = omega arith in w)
+  no-map (some f) Nothing other e = impossible (cc)
+  no-map (some f) (Refused side fault) other e = impossible (cc)
+  no-map (some f) MapLength other e = impossible (cc)
+  no-map (some f) ScratchLength other e = impossible (cc)
 
   -- Found: what is left in the map buffer is the first embedding.
   pub found-first : (said : SearchAnswer) → said ≡ Found → searchAnswerSays said ≡ call embeddings theFirst (lend cells m target n image scratch) .says

@@ -26,7 +26,8 @@ use Rattle.backtrack.specs.State.{foundIn, bounded}
 use Rattle.backtrack.proofs.Extending.{none-found}
 use Rattle.search.specs.Calls.{Lent, Called, Request, askOf, answerOf, call}
 use Rattle.search.specs.Wanted.{Passes}
-use Rattle.kinds.specs.Kinds.{orderFits, facing}
+use Rattle.kinds.specs.Kinds.{orderFits}
+use Rattle.kinds.specs.Facing.{facing}
 use Rattle.search.specs.Answers.{requestOf}
 use Rattle.search.proofs.Calls.{not-refused, passed}
 

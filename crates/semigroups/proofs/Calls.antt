@@ -4,18 +4,18 @@ use mathlib.Core.Logic.{_⊎_, inl, inr, _↔_}
 use mathlib.Core.List.{List}
 use mathlib.Core.Option.{Option, none, some, Option·none-ne-some, Option·some-ne-none}
 use Prim.Native.Nat.{ℕ}
-use native.Mathlib.Omega.{arith}
 use Rattle.semigroups.specs.Questions.{Refusal}
 use Rattle.semigroups.specs.Maps.{found, nothing}
 use Rattle.semigroups.specs.Calls.{Answer, refused, gives, givenUnless, writtenUnless}
+use Rattle.semigroups.proofs.Booleans.{impossible}
 
 pub found-ne-nothing : gives found ≡ gives nothing → ⊥
-found-ne-nothing e = let z : _≡_ {A = ℕ} 0 1 = cc in omega arith
+found-ne-nothing e = impossible (cc)
 
 module _ {A : Type 0} (value : A) where
   -- What is given is no refusal.
   pub gives-ne-refused : (r : Refusal) → gives value ≡ refused r → ⊥
-  gives-ne-refused r e = let z : _≡_ {A = ℕ} 0 1 = cc in omega arith
+  gives-ne-refused r e = impossible (cc)
 
   pub given-or-refused : (q : Option Refusal) → (givenUnless q value ≡ gives value) ⊎ ((r : Refusal) × (givenUnless q value ≡ refused r))
   given-or-refused none = inl refl

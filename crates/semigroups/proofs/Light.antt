@@ -16,7 +16,7 @@ use Rattle.semigroups.specs.Questions.{Question, ask, seek, Refusal, no,
 use Rattle.semigroups.specs.Questions as full
 use Rattle.semigroups.specs.Generated.{Inside, setOf, products, grown, generated}
 use Rattle.semigroups.specs.Light.{Generates, AssociativeThrough, FailingThrough, badTripleThrough, generatorsRefusal, GeneratorsRefused, wrong-cells, wrong-entry, not-generated, wrong-triple, GeneratorsPass, LightsLaw, LightsTheorem, LightsExamples}
-use Rattle.semigroups.proofs.Booleans.{clash, untrue, both, and-left, and-right, not-of-false}
+use Rattle.semigroups.proofs.Booleans.{clash, untrue, both, and-left, and-right, not-of-false, impossible}
 use Rattle.semigroups.proofs.Lists.{none-find, member-mem, mem-member, all-at, all-of, is-element, element-is}
 use Rattle.semigroups.proofs.ListOrder.{mem-lists, find-earliest, find-nowhere, earliest-unique}
 use Rattle.semigroups.proofs.Questions.{failed-before, passed-before}
@@ -207,7 +207,7 @@ module _ (n : ℕ) (cells l : List ℕ) where
       go (at-elements f i h) = subst (GeneratorsRefused n cells l) (same (no 51 []) (too-few f i h)) (not-generated f i h)
       go (at-triple f i g t b) =
           subst (GeneratorsRefused n cells l) (same (no 4 t) (triple-decides f i g ∙ ap (Option·map (λ t. no 4 t)) b)) (wrong-triple t f i g (bad-through-first n s l t b))
-      go (to-end f i g b) = absurd (let q = triple-decides f i g ∙ ap (Option·map (λ t. no 4 t)) b in let z : _≡_ {A = ℕ} 0 1 = cc in let y : ⊥ = omega arith in y)
+      go (to-end f i g b) = let q = triple-decides f i g ∙ ap (Option·map (λ t. no 4 t)) b in impossible (cc)
 
   refusal-said : (r : Refusal) → GeneratorsRefused n cells l r → generatorsRefusal n cells l ≡ some r
   refusal-said r (wrong-cells q c) = cells-refused q c

@@ -6,7 +6,7 @@ use Prim.Native.Nat.{ℕ}
 use native.Mathlib.Omega.{arith}
 use lib.Dec.{eqb}
 use borrow.Author.Tests.{eqb-true, not-true}
-use Rattle.semigroups.proofs.Booleans.{and-left, and-right}
+use Rattle.semigroups.proofs.Booleans.{and-left, and-right, impossible}
 use Rattle.sheets.specs.Grammar.{isPrintable, isTextData, isQuotable}
 
 pub bare-text : (b : ℕ) → isTextData b ≡ true → isPrintable b ≡ true
@@ -29,5 +29,5 @@ inside-quote b h = go (isPrintable b) (eqb b 34) (eqb b 13) (eqb b 10) refl refl
     go x false z w e f g k = refl
     go x true true w e f g k = let p = eqb-true b 34 e in let q = eqb-true b 13 f in let r : ⊥ = omega arith in absurd r
     go x true false true e f g k = let p = eqb-true b 34 e in let q = eqb-true b 10 g in let r : ⊥ = omega arith in absurd r
-    go true true false false e f g k = let z : _≡_ {A = ℕ} 0 1 = cc in let w : ⊥ = omega arith in absurd w
-    go false true false false e f g k = let z : _≡_ {A = ℕ} 0 1 = cc in let w : ⊥ = omega arith in absurd w
+    go true true false false e f g k = impossible (cc)
+    go false true false false e f g k = impossible (cc)

@@ -323,13 +323,10 @@ fn put_row(cells: &[u8], n: usize, i: usize, text: &mut [u8], start: usize) -> u
     let mut at = lines::put_number(text, start, tables::times(cells, n, i, 1));
     let mut j: usize = 2;
     while j <= n {
-        text[at] = 44;
-        at = lines::put_number(text, at + 1, tables::times(cells, n, i, j));
+        at = lines::put_field(text, at, tables::times(cells, n, i, j));
         j += 1;
     }
-    text[at] = 13;
-    text[at + 1] = 10;
-    at + 2
+    lines::put_break(text, at)
 }
 
 // Writes the text of a table to the start of `text`. Answers its length.

@@ -5,7 +5,8 @@ use Rattle.semigroups.specs.Tables.{product}
 use Rattle.semigroups.specs.Calls.{scratchAfter}
 use Rattle.semigroups.specs.Candidates.{candidate}
 use Rattle.kinds.specs.declared.Kind.{Kind}
-use Rattle.kinds.specs.Kinds.{kindOf, facing}
+use Rattle.kinds.specs.Kinds.{kindOf}
+use Rattle.kinds.specs.Facing.{facing}
 use Rattle.kinds.proofs.fill.Statement.{statement}
 use Rattle.kinds.proofs.fill.Tie as tie
 

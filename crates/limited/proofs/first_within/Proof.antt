@@ -11,7 +11,8 @@ use Rattle.tables.specs.Answers.{pairRefusal}
 use Rattle.tables.proofs.Questions.{tables-accepted}
 use Rattle.search.specs.Calls.{lend}
 use Rattle.kinds.specs.declared.Kind.{Kind}
-use Rattle.kinds.specs.Kinds.{kindOf, facing}
+use Rattle.kinds.specs.Kinds.{kindOf}
+use Rattle.kinds.specs.Facing.{facing}
 use Rattle.search.proofs.Answering.{tables-refused, map-refused, scratch-refused}
 use Rattle.limited.specs.Calls.{Called, limitedCall}
 use Rattle.limited.proofs.Calls.{refused-unchanged, as-called}

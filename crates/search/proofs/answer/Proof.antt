@@ -7,7 +7,8 @@ use lib.ListN.{take}
 use Rattle.semigroups.proofs.Tables.{accepted-closed}
 use Rattle.search.specs.Calls.{Lent, lend}
 use Rattle.search.specs.Wanted.{Passes}
-use Rattle.kinds.specs.Kinds.{kindOf, facing}
+use Rattle.kinds.specs.Kinds.{kindOf}
+use Rattle.kinds.specs.Facing.{facing}
 use Rattle.search.specs.Answers.{requestOf}
 use Rattle.search.proofs.Answering.{fits-facing, answer-unfit, answer-none, answer-some, left}
 use Rattle.search.proofs.answer.Statement.{statement}

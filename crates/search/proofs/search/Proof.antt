@@ -10,7 +10,8 @@ use Rattle.semigroups.specs.Scratch.{scratchSize}
 use Rattle.tables.specs.Answers.{pairRefusal}
 use Rattle.tables.proofs.Questions.{tables-accepted}
 use Rattle.search.specs.Calls.{Called, lend, call}
-use Rattle.kinds.specs.Kinds.{kindOf, facing}
+use Rattle.kinds.specs.Kinds.{kindOf}
+use Rattle.kinds.specs.Facing.{facing}
 use Rattle.search.specs.Answers.{requestOf}
 use Rattle.kinds.specs.declared.Kind.{Kind}
 use Rattle.search.proofs.Answering.{tables-refused, map-refused, scratch-refused}

@@ -4,12 +4,12 @@ use mathlib.Core.Path.{_∙_}
 use mathlib.Core.List.{List}
 use Prim.Native.Nat.{ℕ, _+_, _-_, _≤_}
 use native.Mathlib.Omega.{arith}
-use lib.ListN.{length, length-set}
+use lib.ListN.{length}
 use denote.Ref.{now}
 use Rattle.csv.specs.Records.{lineText}
 use Rattle.csv.specs.Tables.{rowFields}
 use Rattle.csv.proofs.Writing.{Writing, write-first, write-length, write-room}
-use Rattle.csv.proofs.Saving.{fieldsLeft, row-begun, row-more, row-done, room-first, room-next, room-comma, room-last}
+use Rattle.csv.proofs.Saving.{fieldsLeft, row-begun, row-more, row-done, room-first, room-next, room-last}
 use Rattle.text.proofs.put_row.Statement.{statement}
 use Rattle.text.proofs.put_row.Tie as tie
 
@@ -61,12 +61,6 @@ loop-holds c =
     let o = one c in
     (write-first _ _ _, omega arith, omega arith)
 
-slice-write-text : tie.Need-slice-write-text Inv-loop μ-loop
-slice-write-text c = omega (arith, room-comma _ _ _ _ _ _ (c .loop-test .taken) (room (c .before)))
-
-add-put-number : tie.Need-add-put-number Inv-loop μ-loop
-add-put-number c = omega (arith, room-comma _ _ _ _ _ _ (c .before .loop-test .taken) (room (c .before .before)), write-length (c .before .before .loop .inv .0), write-length (begun (c .before .before .before)))
-
 times-requires-2 : tie.Need-times-requires-2 Inv-loop μ-loop
 times-requires-2 c κs =
     let s = start-of (c .before .before .before) in
@@ -75,13 +69,13 @@ times-requires-2 c κs =
     let last = c .before .loop-test .taken in
     (s .pre .0, (omega arith, omega arith))
 
-put-number-requires-2 : tie.Need-put-number-requires-2 Inv-loop μ-loop
-put-number-requires-2 c κs =
+put-field-requires : tie.Need-put-field-requires Inv-loop μ-loop
+put-field-requires c κs =
     let l = c .before .before .before in
     let s = start-of (l .before) in
     let small = s .pre .0 .order in
     let r = c .times2 .ensures .1 in
-    (omega arith, rw length-set (room-next _ _ _ _ _ _ _ (c .times2 .ensures .0) (c .before .before .loop-test .taken) (room l)))
+    (omega arith, room-next _ _ _ _ _ _ _ (c .times2 .ensures .0) (c .before .before .loop-test .taken) (room l))
 
 add-j : tie.Need-add-j Inv-loop μ-loop
 add-j c =
@@ -94,29 +88,23 @@ loop-less c = omega arith
 loop-again : tie.Need-loop-again Inv-loop μ-loop
 loop-again c =
     let l = c .before .before .before .before .before .before in
-    let h = c .before .before .before .before .before .loop-test .taken in (
-      row-more _ _ _ _ _ h (c .before .before .before .times2 .ensures .0) (l .loop .inv .0) (c .before .before .put-number2 .ensures .1) (c .before .before .put-number2 .ensures .0),
-      omega arith,
-      omega arith,
-    )
+    let h = c .before .before .before .before .before .loop-test .taken in
+    let put = c .before .before .put-field .ensures in
+    (row-more _ _ _ _ _ h (c .before .before .before .times2 .ensures .0) (l .loop .inv .0) (put .1) (put .0), omega arith, omega arith)
 
-slice-write-text-2 : tie.Need-slice-write-text-2 Inv-loop μ-loop
-slice-write-text-2 c = omega (arith, ending c)
-
-add-text : tie.Need-add-text Inv-loop μ-loop
-add-text c = omega (arith, ending c, write-length (c .before .loop .inv .0), write-length (begun (c .before .before)))
-
-slice-write-text-3 : tie.Need-slice-write-text-3 Inv-loop μ-loop
-slice-write-text-3 c = rw length-set (omega (arith, ending c))
-
-add-result : tie.Need-add-result Inv-loop μ-loop
-add-result c = omega (arith, ending c, write-length (c .before .loop .inv .0), write-length (begun (c .before .before)))
+put-break-requires : tie.Need-put-break-requires Inv-loop μ-loop
+put-break-requires c κs = ending (c .before)
 
 same-length : tie.Need-same-length Inv-loop μ-loop
-same-length c = simp length-set (write-length (c .before .loop .inv .0) ∙ write-length (begun (c .before .before)))
+same-length c =
+    let l = c .before .before .before .before .before in
+    c .before .before .put-break .kept .0 ∙ write-length (l .loop .inv .0) ∙ write-length (begun (l .before))
 
 returns : tie.Need-returns Inv-loop μ-loop
-returns c = row-done _ _ _ _ (c .loop-test .left) (begun (c .before .before)) (c .before .loop .inv .0)
+returns c =
+    let l = c .before .before .before .before in
+    let put = c .before .before .put-break .ensures in
+    row-done _ _ _ _ (l .loop-test .left) (begun (l .before .before)) (l .before .loop .inv .0) (put .1) (put .0)
 
 pub put-row-spec : {M : Type 1} → statement M
 put-row-spec =
@@ -127,16 +115,11 @@ put-row-spec =
     times-requires
     put-number-requires
     loop-holds
-    slice-write-text
-    add-put-number
     times-requires-2
-    put-number-requires-2
+    put-field-requires
     add-j
     loop-less
     loop-again
-    slice-write-text-2
-    add-text
-    slice-write-text-3
-    add-result
+    put-break-requires
     same-length
     returns)

@@ -14,6 +14,7 @@ use Rattle.judging.proofs.Counting.{walk-ends, walk-goes}
 use Rattle.comparisons.proofs.Walking.{left-found, left-none}
 use Rattle.comparisons.proofs.walk.walk.Statement.{statement}
 use Rattle.comparisons.proofs.walk.walk.Tie as tie
+use Rattle.semigroups.proofs.Booleans.{impossible}
 
 abbrev Inv-loop : tie.InvT-loop
 Inv-loop isomorphisms source m target n tally₀ buffer₀ tally buffer = (agreed (suc (laterMaps isomorphisms source m target n buffer)) tally ≡ agreed (suc (laterMaps isomorphisms source m target n buffer₀)) tally₀) × (length buffer ≡ 5)
@@ -22,12 +23,12 @@ abbrev μ-loop : tie.MeasureT-loop
 μ-loop isomorphisms source m target n tally₀ buffer₀ tally buffer = laterMaps isomorphisms source m target n buffer
 
 not-true : (b : Bool) → not b ≡ true → b ≡ false
-not-true true e = let z : _≡_ {A = ℕ} 0 1 = cc in let w : ⊥ = omega arith in absurd w
+not-true true e = impossible (cc)
 not-true false e = refl
 
 not-false : (b : Bool) → not b ≡ false → b ≡ true
 not-false true e = refl
-not-false false e = let z : _≡_ {A = ℕ} 0 1 = cc in let w : ⊥ = omega arith in absurd w
+not-false false e = impossible (cc)
 
 module _ (c : tie.After-counted2 Inv-loop μ-loop) where
   abbrev at-loop : tie.At-loop Inv-loop μ-loop
