@@ -1,5 +1,5 @@
 -- The least degree and the landing positions are what the plain statements say. Assumes nothing.
-use mathlib.Core.Path.{_≡_, refl, sym, ap, _∙_, subst}
+use mathlib.Core.Path.{_≡_, refl, sym, ap, _∙_, subst, subst₂}
 use mathlib.Core.List.{List}
 use mathlib.Core.Option.{Option, none, some, Option·map, map-eq-none-iff, map-eq-some-iff}
 use Prim.Native.Nat.{ℕ, _*_, _≤_}
@@ -10,8 +10,9 @@ use Rattle.semigroups.specs.Tables.{Product, cellPlace, Element}
 use Rattle.semigroups.specs.Maps.{Embedding, embeddings}
 use Rattle.semigroups.specs.Transformations.{transformationOrder, transformation, numberOf, transformationProduct}
 use Rattle.semigroups.proofs.Lists.{mem-elements, elements-mem, sorted-range, ext-at}
+use Rattle.semigroups.proofs.ListOrder.{earliest-unique}
 use Rattle.semigroups.proofs.Completions.{first-answer, no-answer}
-use Rattle.semigroups.proofs.Tables.{list-at, length-grid, grid-at}
+use Rattle.semigroups.proofs.Tables.{list-at, length-grid, grid-at, grid-only}
 use Rattle.semigroups.proofs.Maps.{first-earliest, first-none, embedding-agrees}
 use Rattle.semigroups.proofs.Transformations.{transformation-list, number-transformation, product-point}
 use Rattle.planning.specs.Degrees.{degreeProduct, Fit, fit, firstAt, leastFit, leastDegree, position, landings, fitPositions, EmbedsAt, IsLeastDegree, LandingPositions, LeastDegreeTheorem, NoDegreeTheorem, PositionsTheorem}
@@ -133,8 +134,18 @@ module _ (m d : ℕ) (f : List ℕ) where
   unfolding landings
   length-landings = length-grid m d (position d f)
 
+  -- No other bytes have these positions.
+  landings-only : (bytes : List ℕ) → length bytes ≡ m * d → ((i x : ℕ) → Element m i → Element d x → getD bytes (cellPlace d i x) 0 ≡ position d f i x) → bytes ≡ landings m d f
+  unfolding landings
+  landings-only bytes size same = grid-only m d (position d f) bytes size same
+
 pub landing-positions : PositionsTheorem
-landing-positions m s closed x e = subst (λ (o : Option Fit). LandingPositions m s d f (fitPositions m o)) (sym e) landed
+landing-positions m s closed x e g bytes = (
+  (λ q. subst₂ (λ (f bytes : List ℕ). LandingPositions m s d f bytes) (sym (q .0)) (sym (q .1 ∙ ap (fitPositions m) e)) landed),
+  λ L.
+      let same = earliest-unique (L .first-embedding) (landed .first-embedding) in
+      (same, landings-only m d g bytes (L .size) (λ i p hi hp. L .byte i p hi hp ∙ (unfold position in refl)) ∙ ap (landings m d) same ∙ sym (ap (fitPositions m) e)),
+)
   where
     d : ℕ
     d = x .degree

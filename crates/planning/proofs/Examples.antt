@@ -69,7 +69,7 @@ degree-examples =
     record {
       mat5-three = unfold leastDegree in ap (Option·map (λ (x : Fit). x .degree)) mat5-fit;
       mat5-positions = ap (fitPositions 5) mat5-fit ∙ mat5-landings;
-      mat5-lands = landing-positions 5 (product 5 (mat5 .cells)) (closed .0) (fit 3 (1 ∷ 3 ∷ 2 ∷ 9 ∷ 5 ∷ [])) mat5-fit;
+      mat5-lands = landing-positions 5 (product 5 (mat5 .cells)) (closed .0) (fit 3 (1 ∷ 3 ∷ 2 ∷ 9 ∷ 5 ∷ [])) mat5-fit (1 ∷ 3 ∷ 2 ∷ 9 ∷ 5 ∷ []) (fitPositions 5 (leastFitOf mat5)) .0 (refl, refl);
       one-first = others .0;
       swap-second = others .1;
       swap-larger = larger-degree 2 (product 2 (swap .cells)) (closed .1) 2 3 (omega arith) (swap-embeds .embedding) (swap-embeds .embeds);

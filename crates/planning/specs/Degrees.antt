@@ -103,10 +103,11 @@ LeastDegreeTheorem = (m : ℕ) (s : Product) (d : ℕ) → (leastDegree m s ≡ 
 abbrev pub NoDegreeTheorem : Type 0
 NoDegreeTheorem = (m : ℕ) (s : Product) → (leastDegree m s ≡ none) ↔ ((d : ℕ) (f : List ℕ) → Element 3 d → EmbedsAt m s d f → ⊥)
 
--- With a degree come the landing positions, in an accepted table or any whose products are elements.
+-- With a degree come the landing positions, and no other bytes, in an accepted table or any whose products are elements.
 abbrev pub PositionsTheorem : Type 0
 PositionsTheorem =
-    (m : ℕ) (s : Product) → Closed m s → (x : Fit) → leastFit m s ≡ some x → LandingPositions m s (x .degree) (x .embedding) (fitPositions m (leastFit m s))
+    (m : ℕ) (s : Product) → Closed m s → (x : Fit) → leastFit m s ≡ some x → (f bytes : List ℕ)
+    → ((f ≡ x .embedding) × (bytes ≡ fitPositions m (leastFit m s))) ↔ LandingPositions m s (x .degree) f bytes
 
 -- The table of degree d embeds in that of degree d + 1, for any d.
 abbrev pub NextDegreeTheorem : Type 0

@@ -1,13 +1,15 @@
 -- Candidates lose no map: an embedding keeps the index-period, an isomorphism the profile. Scratch marks read back as the candidates. Assumes nothing.
-use mathlib.Core.Path.{_≡_, refl, sym, ap, _∙_, subst}
+use mathlib.Core.Path.{_≡_, refl, sym, ap, _∙_, subst, subst₂}
 use mathlib.Core.Bool.{Bool, true, false, cond, _&&_}
-use mathlib.Core.Logic.{⊎-elim}
+use mathlib.Core.Logic.{_⊎_, inl, inr, ⊎-elim, _↔_}
 use mathlib.Core.List.{List, [], _++_, flatMap, append-nil}
 use Prim.Native.Nat.{ℕ, _+_, _*_, _/_, _%_, _≤_, _<_}
 use native.Mathlib.Nat.{le-refl, mul-le-mul, mul-le-mul-right}
 use native.Mathlib.Omega.{arith}
+use borrow.Author.Tests.{eqb-true, eqb-false, eq-eqb, ne-eqb}
 use lib.Dec.{eqb}
 use lib.ListN.{length, getD, drop, length-map, length-append, length-drop, List·getD-append, List·getD-eq-default}
+use lib.Seq.{ext-getD}
 use Rattle.semigroups.specs.Lists.{range, elements, sum}
 use Rattle.semigroups.specs.Tables.{Product, Element, Closed, cellPlace, grid}
 use Rattle.semigroups.specs.Scratch.{packedByte, bit, scratchSize, pairMarks, marks, marked, AreMarks}
@@ -15,12 +17,12 @@ use Rattle.semigroups.specs.Calls.{scratchAfter, ScratchExamples}
 use Rattle.semigroups.specs.Invariants.{index, period, indexPeriod, sameIndexPeriod}
 use Rattle.semigroups.specs.Maps.{embeddings, isomorphisms}
 use Rattle.semigroups.specs.Candidates.{candidate}
-use Rattle.semigroups.proofs.Booleans.{at-most-or-above}
+use Rattle.semigroups.proofs.Booleans.{at-most-or-above, equal-or-not}
 use Rattle.semigroups.proofs.Lists.{length-range, getD-range, getD-map}
 use Rattle.semigroups.proofs.Tables.{place-below, place-of, place-elements, length-grid, grid-at}
 use Rattle.semigroups.proofs.IndexPeriod.{index-period-kept}
 use Rattle.semigroups.proofs.Frequencies.{profile-kept}
-use Rattle.semigroups.proofs.Packing.{packed-below, packed-bit}
+use Rattle.semigroups.proofs.Packing.{packed-below, packed-bit, bit-small, bits-tell}
 use Rattle.semigroups.proofs.Search.{Sound}
 
 -- Candidates for embeddings have equal index and equal period; nothing else is compared.
@@ -68,6 +70,11 @@ unfolding scratchSize
 byte-below m n i j hi hj = let h = place-below m n i j hi hj in omega arith
 
 -- ---- the marks
+
+-- Two numbers of at most 1 are equal where both or neither are 1.
+one-of-two : (x y : ℕ) → x ≤ 1 → y ≤ 1 → eqb x 1 ≡ eqb y 1 → x ≡ y
+one-of-two x y hx hy e =
+    ⊎-elim (λ (h : x ≡ 1). let z = eqb-true y 1 (sym e ∙ eq-eqb x 1 h) in omega arith) (λ (h : x ≡ 1 → ⊥). let z = eqb-false y 1 (sym e ∙ ne-eqb x 1 h) in omega arith) (equal-or-not x 1)
 
 module _ (m n : ℕ) (p : ℕ → ℕ → Bool) where
   pub length-pairs : length (pairMarks m n p) ≡ m * n
@@ -128,6 +135,38 @@ module _ (m n : ℕ) (p : ℕ → ℕ → Bool) where
         mark = λ i j hi hj. subst (λ (l : List ℕ). marked n l i j ≡ p i j) (append-nil (marks m n p)) (marked-front [] i j hi hj);
         unused = λ b r hb hr h. marks-bit b r (omega arith) hr ∙ pair-past (8 * b + r) h;
       }
+
+  -- No other bytes are the marks.
+  module _ (l : List ℕ) (a : AreMarks m n p l) where
+    same-size : length l ≡ length (marks m n p)
+    unfolding scratchSize
+    same-size = let low = a .enough in let high = a .no-more in let e = length-marks in omega arith
+
+    same-mark : (k i j : ℕ) → cellPlace n i j ≡ k → Element m i → Element n j → eqb (bit (getD l (k / 8) 0) (k % 8)) 1 ≡ eqb (bit (getD (marks m n p) (k / 8) 0) (k % 8)) 1
+    unfolding marked
+    same-mark k i j e hi hj =
+        subst (λ (x : ℕ). eqb (bit (getD l (x / 8) 0) (x % 8)) 1 ≡ eqb (bit (getD (marks m n p) (x / 8) 0) (x % 8)) 1) e (a .mark i j hi hj ∙ sym (are-marks .mark i j hi hj))
+
+    same-bit : (b r : ℕ) → b < length l → r < 8 → (m * n ≤ 8 * b + r) ⊎ (8 * b + r < m * n) → bit (getD l b 0) r ≡ bit (getD (marks m n p) b 0) r
+    same-bit b r hb hr (inl h) = let e = same-size in a .unused b r hb hr h ∙ sym (are-marks .unused b r (omega arith) hr h)
+    same-bit b r hb hr (inr h) =
+        let k = 8 * b + r in
+        let w = place-elements m n k h in
+        let byte : k / 8 ≡ b = omega arith in
+        let worth : k % 8 ≡ r = omega arith in
+        one-of-two (bit (getD l b 0) r) (bit (getD (marks m n p) b 0) r) (bit-small (getD l b 0) r) (bit-small (getD (marks m n p) b 0) r)
+        (subst₂ (λ (x y : ℕ). eqb (bit (getD l x 0) y) 1 ≡ eqb (bit (getD (marks m n p) x 0) y) 1) byte worth (same-mark k (k / n + 1) (k % n + 1) (place-of n k) (w .0) (w .1)))
+
+    only-marks : l ≡ marks m n p
+    only-marks =
+        ext-getD 0 l (marks m n p) same-size
+        (λ b h.
+        let e = same-size in
+        bits-tell 8 (getD l b 0) (getD (marks m n p) b 0) (a .byte b h) (are-marks .byte b (omega arith)) (λ r hr. same-bit b r h hr (at-most-or-above (m * n) (8 * b + r))))
+
+  -- The bytes are the marks exactly where the plain words say so.
+  pub marks-exactly : (l : List ℕ) → (l ≡ marks m n p) ↔ AreMarks m n p l
+  marks-exactly l = ((λ e. subst (AreMarks m n p) (sym e) are-marks), only-marks l)
 
   module _ (scratch : List ℕ) where
     -- The buffer keeps its length.

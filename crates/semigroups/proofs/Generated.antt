@@ -1,9 +1,9 @@
 -- What a list generates: the list that n steps of growing make is the smallest set that holds the list and every product of its own members, for any
 -- product that stays within the order. The idea: while the set does not hold all its products, each step adds an element. Assumes nothing.
-use mathlib.Core.Path.{_≡_, refl, ap₂, subst, _∙_}
+use mathlib.Core.Path.{_≡_, refl, sym, ap₂, subst, _∙_}
 use mathlib.Core.Bool.{Bool, cond}
 use mathlib.Core.Logic.{_⊎_, inl, inr, ⊎-elim, _↔_}
-use mathlib.Core.List.{List, [], _∷_, _++_, map, List·Memᴰ, List·Memᴰ·head, List·Memᴰ·tail, List·Memᴰ·cases-cons, List·Memᴰ·append-cases, Memᴰ·append-left, Memᴰ·append-right, Memᴰ·map, Memᴰ·of-map, Memᴰ·cast}
+use mathlib.Core.List.{List, [], _∷_, _++_, map, List·Memᴰ, List·Memᴰ·head, List·Memᴰ·tail, List·Memᴰ·not-nil, List·Memᴰ·cases-cons, List·Memᴰ·append-cases, Memᴰ·append-left, Memᴰ·append-right, Memᴰ·map, Memᴰ·of-map, Memᴰ·cast}
 use Prim.Native.Nat.{ℕ, zero, suc, _≤_, _<_, zero-le}
 use native.Mathlib.Omega.{arith}
 use lib.ListN.{length}
@@ -19,6 +19,24 @@ use Rattle.semigroups.proofs.NoRepeats.{length-inside, elements-no-repe
 
 pub rising-no-repeats : (r : List ℕ) → Sorted _<_ r → NoRepeats r
 rising-no-repeats r u = sorted-weaken _<_ (λ (x y : ℕ). x ≡ y → ⊥) (λ x y h e. let z : ⊥ = omega arith in z) r u
+
+-- What stands behind the first of a rising list stands behind the first of another one that holds it, where both begin alike.
+rising-behind : (x y : ℕ) (p q : List ℕ) → x ≡ y → Sorted _<_ (x ∷ p) → ((z : ℕ) → List·Memᴰ z (x ∷ p) → List·Memᴰ z (y ∷ q)) → (z : ℕ) → List·Memᴰ z p → List·Memᴰ z q
+rising-behind x y p q e u to z k =
+    ⊎-elim (λ (h : z ≡ y). let l = u .0 z k in absurd (let c : ⊥ = omega arith in c)) (λ (h : List·Memᴰ z q). h) (List·Memᴰ·cases-cons (to z (List·Memᴰ·tail k)))
+
+-- Two rising lists with the same members are equal.
+pub rising-same : (p q : List ℕ) → Sorted _<_ p → Sorted _<_ q → ((x : ℕ) → List·Memᴰ x p → List·Memᴰ x q) → ((x : ℕ) → List·Memᴰ x q → List·Memᴰ x p) → p ≡ q
+rising-same [] [] u v to from = refl
+rising-same [] (y ∷ q) u v to from = absurd (List·Memᴰ·not-nil (from y (List·Memᴰ·head refl)))
+rising-same (x ∷ p) [] u v to from = absurd (List·Memᴰ·not-nil (to x (List·Memᴰ·head refl)))
+rising-same (x ∷ p) (y ∷ q) u v to from =
+    let first : x ≡ y =
+    ⊎-elim (λ (e : x ≡ y). e)
+    (λ (k : List·Memᴰ x q).
+    ⊎-elim (λ (e : y ≡ x). sym e) (λ (h : List·Memᴰ y p). let a = v .0 x k in let b = u .0 y h in omega arith) (List·Memᴰ·cases-cons (from y (List·Memᴰ·head refl))))
+    (List·Memᴰ·cases-cons (to x (List·Memᴰ·head refl))) in
+    ap₂ (λ (z : ℕ) (r : List ℕ). z ∷ r) first (rising-same p q (u .1) (v .1) (rising-behind x y p q first u to) (rising-behind y x q p (sym first) v from))
 
 -- A list inside one that is no longer is all of it.
 fills : (p q : List ℕ) → NoRepeats p → ((x : ℕ) → List·Memᴰ x p → List·Memᴰ x q) → length q ≤ length p → (x : ℕ) → List·Memᴰ x q → List·Memᴰ x p
@@ -197,7 +215,7 @@ module _ (n : ℕ) (s : Product) (l : List ℕ) where
   )
 
 -- There is one smallest set.
-smallest-unique : (s : Product) (l : List ℕ) (P Q : ℕ → Type 0) → Smallest s l P → Smallest s l Q → (x : ℕ) → P x ↔ Q x
+pub smallest-unique : (s : Product) (l : List ℕ) (P Q : ℕ → Type 0) → Smallest s l P → Smallest s l Q → (x : ℕ) → P x ↔ Q x
 smallest-unique s l P Q p q x = (p .inside-others Q (q .holds) x, q .inside-others P (p .holds) x)
 
 pub generated-theorem : GeneratedTheorem

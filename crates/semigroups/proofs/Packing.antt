@@ -3,7 +3,7 @@ use mathlib.Core.Path.{_≡_, refl, sym, ap, _∙_, subst}
 use mathlib.Core.Logic.{⊎-elim}
 use mathlib.Core.List.{List}
 use Prim.Native.Nat.{ℕ, zero, suc, _+_, _-_, _*_, _/_, _%_, _^_, _≤_, _<_}
-use native.Mathlib.Nat.{pow-suc, pow-succ', eq-or-lt-of-le, add-mul-div-right, mul-assoc, mul-le-mul-right, one-mul}
+use native.Mathlib.Nat.{pow-suc, pow-succ', div-one, div-div-eq-div-mul, eq-or-lt-of-le, add-mul-div-right, mul-assoc, mul-le-mul-right, one-mul}
 use native.Mathlib.Omega.{arith}
 use lib.ListN.{getD}
 use lib.Pow.{pow-pos, pow-add, high}
@@ -71,3 +71,22 @@ module _ (l : List ℕ) (small : (k : ℕ) → getD l k 0 ≤ 1) (b : ℕ) where
   pub packed-bit : (r : ℕ) → r < 8 → bit (packedByte l b) r ≡ getD l (8 * b + r) 0
   unfolding bit
   packed-bit r h = ap (λ (x : ℕ). x / 2 ^ r % 2) (sym (worth-all l b)) ∙ digit 8 r h
+
+-- ---- a number is told by its bits
+
+bit-next : (x r : ℕ) → bit x (suc r) ≡ bit (x / 2) r
+unfolding bit
+bit-next x r = ap (λ (p : ℕ). x / p % 2) (pow-succ' 2 r) ∙ ap (λ (p : ℕ). p % 2) (sym (div-div-eq-div-mul x 2 (2 ^ r)))
+
+pub bit-small : (x r : ℕ) → bit x r ≤ 1
+unfolding bit
+bit-small x r = let q = x / 2 ^ r in let z : q % 2 ≤ 1 = omega arith in z
+
+-- Two numbers of k bits whose bits are equal are equal.
+pub bits-tell : (k x y : ℕ) → x < 2 ^ k → y < 2 ^ k → ((r : ℕ) → r < k → bit x r ≡ bit y r) → x ≡ y
+bits-tell zero x y hx hy e = omega arith
+bits-tell (suc k) x y hx hy e =
+    let p = pow-suc 2 k in
+    let half = bits-tell k (x / 2) (y / 2) (omega arith) (omega arith) (λ r h. sym (bit-next x r) ∙ e (suc r) (omega arith) ∙ bit-next y r) in
+    let last : x % 2 ≡ y % 2 = unfold bit in ap (λ (q : ℕ). q % 2) (sym (div-one x)) ∙ e 0 (omega arith) ∙ ap (λ (q : ℕ). q % 2) (div-one y) in
+    omega arith

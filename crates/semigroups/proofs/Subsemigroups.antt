@@ -1,5 +1,5 @@
 -- The part of a table that a list generates: its table is accepted where the whole is, and its elements embed it. Assumes nothing.
-use mathlib.Core.Path.{_≡_, refl, sym, ap, _∙_}
+use mathlib.Core.Path.{_≡_, refl, sym, ap, _∙_, subst₂}
 use mathlib.Core.Bool.{Bool, true, false, _&&_}
 use mathlib.Core.Logic.{_↔_}
 use mathlib.Core.Option.{none, some, orElse}
@@ -14,14 +14,15 @@ use Rattle.semigroups.specs.Tables.{Product, product, grid, Element, Clo
 use Rattle.semigroups.specs.Questions.{Question, ask, Refusal, no, firstNo, tableQuestions, tableRefusal}
 use Rattle.semigroups.specs.Maps.{Embedding}
 use Rattle.semigroups.specs.Generated.{Inside, setOf, products, grown, generated}
-use Rattle.semigroups.specs.Subsemigroups.{numberIn, renumbered, partCells, subsemigroupRefusal, SubsemigroupPasses, SubsemigroupTheorem, SubsemigroupExamples}
+use Rattle.semigroups.specs.Subsemigroups.{numberIn, renumbered, partCells, subsemigroupRefusal, SubsemigroupPasses, Subsemigroup, SubsemigroupTheorem, SubsemigroupExamples}
+use Rattle.semigroups.specs.Cases.{mat5}
 use Rattle.semigroups.proofs.Booleans.{untrue, both, and-left, and-right}
 use Rattle.semigroups.proofs.Lists.{length-elements, elements-mem, at-suc, least-first, all-at, all-of, is-element, element-is}
-use Rattle.semigroups.proofs.NoRepeats.{length-inside, one-to-one, mem-place, place-mem}
-use Rattle.semigroups.proofs.Tables.{product-grid, grid-accepted, accepted-closed}
+use Rattle.semigroups.proofs.NoRepeats.{length-inside, one-to-one, mem-place, place-mem, within-mem}
+use Rattle.semigroups.proofs.Tables.{product-grid, grid-only, grid-accepted, accepted-closed}
 use Rattle.semigroups.proofs.Questions.{failed-before, passed-before}
 use Rattle.semigroups.proofs.Passing.{asked, room-asked, joined, table-passes}
-use Rattle.semigroups.proofs.Generated.{ClosedList, generated-inside, generated-rising, generated-no-repeats, generated-closed, generated-holds, generated-smallest}
+use Rattle.semigroups.proofs.Generated.{ClosedList, rising-no-repeats, rising-same, generated-inside, generated-rising, generated-no-repeats, generated-closed, generated-holds, generated-smallest, smallest-unique}
 
 -- ---- the entries of a list by their numbers
 
@@ -100,19 +101,51 @@ generated-some n s closed (x ∷ l) inside h = some (generated n s (x ∷ l)) (g
     some [] m = absurd (List·Memᴰ·not-nil m)
     some (y ∷ r) m = omega arith
 
+module _ (n : ℕ) (table l : List ℕ) (a : Accepted n table) (inside : Inside n l) where
+  abbrev s : Product
+  s = product n table
+
+  abbrev closed : Closed n s
+  closed = accepted-closed n table a
+
+  the-part : 1 ≤ length l → Subsemigroup n table l (generated n s l) (partCells s (generated n s l))
+  the-part h =
+      let e = generated n s l in
+      let apart = generated-no-repeats n s l in
+      let products = generated-closed n s l closed in
+      record {
+        smallest = generated-smallest n s l closed inside;
+        rising = generated-rising n s l;
+        embeds = part-embeds n s e (generated-inside n s l) apart products;
+        accepted = part-accepted n s e (generated-inside n s l) apart products (a .filled .order) (generated-some n s closed l inside h) (a .associative);
+      }
+
+  module _ (e cells : List ℕ) (S : Subsemigroup n table l e cells) where
+    -- There is one smallest set, and it has one rising list.
+    only-elements : e ≡ generated n s l
+    only-elements =
+        let w = smallest-unique s l (λ x. List·Memᴰ x e) (λ x. List·Memᴰ x (generated n s l)) (S .smallest) (generated-smallest n s l closed inside) in
+        rising-same e (generated n s l) (S .rising) (generated-rising n s l) (λ x m. w x .0 m) (λ x m. w x .1 m)
+
+    -- Its elements embed one table alone: a cell is told by its image.
+    only-table : cells ≡ partCells s e
+    unfolding partCells product
+    only-table =
+        let k = length e in
+        let F = S .embeds .homomorphism in
+        let within : Inside n e = within-mem k n e refl (F .within) in
+        let apart = rising-no-repeats e (S .rising) in
+        let products = S .smallest .holds .holds-products in
+        grid-only k k (renumbered s e) cells (S .accepted .filled .size)
+        (λ i j hi hj.
+        S .embeds .one-to-one (product k cells i j) (renumbered s e i j) (accepted-closed k cells (S .accepted) i j hi hj) (part-closed n s e within apart products i j hi hj)
+        (F .keeps-product i j hi hj ∙ sym (part-product n s e within apart products i j hi hj)))
+
 pub subsemigroup-theorem : SubsemigroupTheorem
-subsemigroup-theorem n table l a inside h =
-    let s = product n table in
-    let closed = accepted-closed n table a in
-    let e = generated n s l in
-    let apart = generated-no-repeats n s l in
-    let products = generated-closed n s l closed in
-    record {
-      smallest = generated-smallest n s l closed inside;
-      rising = generated-rising n s l;
-      embeds = part-embeds n s e (generated-inside n s l) apart products;
-      accepted = part-accepted n s e (generated-inside n s l) apart products (a .filled .order) (generated-some n s closed l inside h) (a .associative);
-    }
+subsemigroup-theorem n table l a inside h e cells = (
+  (λ q. subst₂ (λ (e cells : List ℕ). Subsemigroup n table l e cells) (sym (q .0)) (sym (q .1)) (the-part n table l a inside h)),
+  λ S. let f = only-elements n table l a inside e cells S in (f, only-table n table l a inside e cells S ∙ ap (partCells (product n table)) f),
+)
 
 -- ---- the questions
 
@@ -183,3 +216,11 @@ module _ (n : ℕ) (cells l : List ℕ) (cellsLength elementsLength : ℕ) where
 pub subsemigroup-examples : SubsemigroupExamples
 unfolding subsemigroupRefusal firstOf orElse isElement badCell badTriple generated grown setOf products associates product grid partCells renumbered numberIn least lists elements range at all find keep member flatMap
 subsemigroup-examples = (refl, refl, refl, refl, refl, refl, refl)
+
+-- The part of mat5 that stands there, in plain words.
+mat5-part : Subsemigroup 5 (mat5 .cells) (5 ∷ 2 ∷ []) (1 ∷ 2 ∷ 3 ∷ 5 ∷ []) (1 ∷ 1 ∷ 1 ∷ 1 ∷ 1 ∷ 2 ∷ 3 ∷ 3 ∷ 1 ∷ 1 ∷ 1 ∷ 3 ∷ 1 ∷ 1 ∷ 1 ∷ 4 ∷ [])
+mat5-part =
+    let passes = subsemigroup-passes 5 (mat5 .cells) (5 ∷ 2 ∷ []) 16 4 .0 (subsemigroup-examples .2) in
+    let e = subsemigroup-examples .0 in
+    subsemigroup-theorem 5 (mat5 .cells) (5 ∷ 2 ∷ []) (passes .table) (passes .inside) (passes .one) (1 ∷ 2 ∷ 3 ∷ 5 ∷ [])
+    (1 ∷ 1 ∷ 1 ∷ 1 ∷ 1 ∷ 2 ∷ 3 ∷ 3 ∷ 1 ∷ 1 ∷ 1 ∷ 3 ∷ 1 ∷ 1 ∷ 1 ∷ 4 ∷ []) .0 (sym e, sym (ap (partCells (product 5 (mat5 .cells))) e ∙ subsemigroup-examples .1))

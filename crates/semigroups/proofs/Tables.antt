@@ -11,6 +11,7 @@ use native.Mathlib.Omega.{arith}
 use borrow.Author.Tests.{eqb-true, eqb-false, eq-eqb, ne-eqb, not-true, not-false}
 use lib.Dec.{eqb}
 use lib.ListN.{length, getD, length-map}
+use lib.Seq.{ext-getD}
 use Rattle.semigroups.specs.Lists.{range, elements, at, firstOf, lists, Earliest}
 use Rattle.semigroups.specs.Tables.{Product, product, grid, Element, IsList, Closed, Associative, FailingTriple, Filled, Accepted, isElement, associates, badCell, badTriple, cellPlace}
 use Rattle.semigroups.specs.Questions.{Refusal, no, cellsQuestions, tripleQuestion, cellsRefusal, tableRefusal, Refused, wrong-order, wrong-size, wrong-cell, wrong-triple}
@@ -56,6 +57,14 @@ module _ (m n : ℕ) (f : ℕ → ℕ → ℕ) where
       getD-flatMap (λ i. map (f i) (elements n)) n row-long (elements m) 0 0 (i - 1) (j - 1) (omega (arith, length-elements m)) (omega arith)
       ∙ getD-map (f (getD (elements m) (i - 1) 0)) (elements n) 0 (j - 1) (omega (arith, length-elements n))
       ∙ ap₂ f (unfold at in at-elements m i hi) (unfold at in at-elements n j hj)
+
+  -- No other cells have these at each row and column.
+  pub grid-only : (cells : List ℕ) → length cells ≡ m * n → ((i j : ℕ) → Element m i → Element n j → getD cells (cellPlace n i j) 0 ≡ f i j) → cells ≡ grid m n f
+  grid-only cells size same =
+      ext-getD 0 cells (grid m n f) (size ∙ sym length-grid)
+      (λ k h.
+      let w = place-elements m n k (omega arith) in
+      subst (λ (p : ℕ). getD cells p 0 ≡ getD (grid m n f) p 0) (place-of n k) (same (k / n + 1) (k % n + 1) (w .0) (w .1) ∙ sym (grid-at (k / n + 1) (k % n + 1) (w .0) (w .1))))
 
 -- The product of the table with these cells.
 pub product-grid : (n : ℕ) (s : Product) (i j : ℕ) → Element n i → Element n j → product n (grid n n s) i j ≡ s i j

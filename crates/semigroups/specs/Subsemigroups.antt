@@ -2,6 +2,7 @@
 -- (source document 000, section 2); its elements are renumbered in rising order. Assumes nothing.
 use mathlib.Core.Path.{_≡_}
 use mathlib.Core.Bool.{_&&_}
+use mathlib.Core.Logic.{_↔_}
 use mathlib.Core.List.{List, [], _∷_, _++_, List·Memᴰ}
 use mathlib.Core.Option.{Option, none, some}
 use Prim.Native.Nat.{ℕ, _*_, _≤_, _<_}
@@ -56,11 +57,11 @@ pub record Subsemigroup (n : ℕ) (table l e cells : List ℕ) : Type 1 where
   pub embeds : Embedding (length e) (product (length e) cells) n (product n table) e
   pub accepted : Accepted (length e) cells
 
--- This holds for every accepted table and every list of its elements that is not empty.
+-- For every accepted table and every list of its elements that is not empty: what is given is that part, and nothing else is.
 abbrev pub SubsemigroupTheorem : Type 1
 SubsemigroupTheorem =
-    (n : ℕ) (table l : List ℕ) → Accepted n table → Inside n l → 1 ≤ length l
-    → Subsemigroup n table l (generated n (product n table) l) (partCells (product n table) (generated n (product n table) l))
+    (n : ℕ) (table l : List ℕ) → Accepted n table → Inside n l → 1 ≤ length l → (e cells : List ℕ)
+    → ((e ≡ generated n (product n table) l) × (cells ≡ partCells (product n table) (generated n (product n table) l))) ↔ Subsemigroup n table l e cells
 
 -- ---- examples
 
