@@ -20,6 +20,7 @@ use Rattle.sheets.specs.Automaton.{step, openingStep, bareStep, afterFie
 use Rattle.sheets.specs.Rounds.{SavedNamesLoad, LoadsClosed}
 use Rattle.sheets.proofs.Places.{place-offending}
 use Rattle.sheets.proofs.Readings.{same-reading}
+use Rattle.sheets.proofs.Passing.{save-names-pass, load-keeps}
 use Rattle.sheets.proofs.RoundTrips.{saved-names-load, loads-closed}
 
 -- ---- bytes
@@ -87,6 +88,11 @@ short-names : loadNamesAnswer (passes sheet) (replicate 4 7) (replicate 3 7) ≡
 unfolding loadNamesAnswer loadNamesRefusal rowsQuestions firstOf orElse rowsNames sheetRows entriesRows entryRow fieldValue itemsValue itemValue sheet isNumber isName isElement all isDigit isPrintable value valueFrom flatten
 short-names = refl
 
+-- Both buffers stay as they were.
+short-kept : (namesAfter (passes sheet) (replicate 4 7) (replicate 3 7) ≡ replicate 4 7) × (lengthsAfter (passes sheet) (replicate 4 7) (replicate 3 7) ≡ replicate 3 7)
+unfolding loadNamesRefusal rowsQuestions firstOf orElse rowsNames sheetRows entriesRows entryRow fieldValue itemsValue itemValue sheet isNumber isName isElement all isDigit isPrintable value valueFrom flatten
+short-kept = load-keeps (34 ∷ 49 ∷ 34 ∷ 44 ∷ 34 ∷ 97 ∷ 34 ∷ 34 ∷ 98 ∷ 44 ∷ 34 ∷ 13 ∷ 10 ∷ 50 ∷ 44 ∷ 92 ∷ []) (passes sheet) (replicate 4 7) (replicate 3 7) (no 27 []) refl
+
 -- Saved again, the number has no quote marks and the last break is there.
 saved : (saveNamesAnswer (97 ∷ 34 ∷ 98 ∷ 44 ∷ 92 ∷ 7 ∷ []) (4 ∷ 1 ∷ []) (replicate 17 7) ≡ gives 16)
     × (sheetAfter (97 ∷ 34 ∷ 98 ∷ 44 ∷ 92 ∷ 7 ∷ []) (4 ∷ 1 ∷ []) (replicate 17 7) ≡ 49 ∷ 44 ∷ 34 ∷ 97 ∷ 34 ∷ 34 ∷ 98 ∷ 44 ∷ 34 ∷ 13 ∷ 10 ∷ 50 ∷ 44 ∷ 92 ∷ 13 ∷ 10 ∷ 7 ∷ [])
@@ -103,7 +109,8 @@ refused-names = (refl, refl)
 -- The names saved above load again as the same names.
 saved-back : SavedNamesLoad (97 ∷ 34 ∷ 98 ∷ 44 ∷ 92 ∷ 7 ∷ []) (4 ∷ 1 ∷ []) (replicate 17 7) (replicate 6 7) (replicate 3 7)
 unfolding saveNamesRefusal namesQuestions firstOf orElse isName isElement all isPrintable namesAt namesText namesTextFrom nameText needsQuotes doubled flatMap numeral numeralWithin flatten
-saved-back = saved-names-load (97 ∷ 34 ∷ 98 ∷ 44 ∷ 92 ∷ 7 ∷ []) (4 ∷ 1 ∷ []) (replicate 17 7) (replicate 6 7) (replicate 3 7) refl (leb-true 5 6 refl) (leb-true 2 3 refl)
+saved-back =
+    saved-names-load (97 ∷ 34 ∷ 98 ∷ 44 ∷ 92 ∷ 7 ∷ []) (4 ∷ 1 ∷ []) (replicate 17 7) (replicate 6 7) (replicate 3 7) (save-names-pass (97 ∷ 34 ∷ 98 ∷ 44 ∷ 92 ∷ 7 ∷ []) (4 ∷ 1 ∷ []) 17 .0 refl) (leb-true 5 6 refl) (leb-true 2 3 refl)
 
 -- The sheet above has no last line break, and loads as if it were there.
 sheet-closed : LoadsClosed (34 ∷ 49 ∷ 34 ∷ 44 ∷ 34 ∷ 97 ∷ 34 ∷ 34 ∷ 98 ∷ 44 ∷ 34 ∷ 13 ∷ 10 ∷ 50 ∷ 44 ∷ 92 ∷ []) (replicate 6 7) (replicate 3 7)

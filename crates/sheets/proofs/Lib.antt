@@ -7,6 +7,7 @@ pub mod Readings
 pub mod Saving
 pub mod Numbers
 pub mod Questions
+pub mod Passing
 pub mod Cursor
 pub mod Records
 pub mod Scan

@@ -2,7 +2,7 @@
 -- Assumes nothing.
 use mathlib.Core.Path.{_≡_, refl, ap, sym, _∙_}
 use mathlib.Core.Bool.{Bool, true, false, _&&_, not}
-use mathlib.Core.Logic.{_⊎_, inl, inr}
+use mathlib.Core.Logic.{_⊎_, inl, inr, _↔_}
 use mathlib.Core.List.{List, [], _∷_}
 use Prim.Native.Nat.{ℕ, _+_, _-_, _*_, _^_, _≤_, _<_}
 use native.Mathlib.Numerals.{add-one}
@@ -17,10 +17,12 @@ use Rattle.semigroups.proofs.Booleans.{clash, both, and-left, and-right, untrue
 use Rattle.semigroups.proofs.Lists.{is-element, element-is}
 use Rattle.csv.specs.Decimals.{isDigit, valueFrom, value, numeral}
 use Rattle.csv.specs.Every.{Every}
+use Rattle.csv.proofs.Every.{every-mem, mem-every}
 use Rattle.csv.proofs.Fields.{is-digit, empty, bound-more, bound-two}
 use Rattle.csv.proofs.Decimals.{numeral-digits, numeral-value, value-numeral, numeral-long, numeral-leading, digits-few}
 use Rattle.sheets.specs.Grammar.{isPrintable}
 use Rattle.sheets.specs.Names.{isName, isNumber}
+use Rattle.sheets.specs.Passing.{Name}
 
 -- ---- tests of every byte
 
@@ -37,16 +39,32 @@ module _ (p : ℕ → Bool) where
 
 -- ---- a name
 
-pub record Nameworthy (s : List ℕ) : Type 0 where
-  pub some-byte : 1 ≤ length s
-  pub short : length s ≤ 40
-  pub printable : Every (λ b. isPrintable b ≡ true) s
+printable-range : (b : ℕ) → (isPrintable b ≡ true) ↔ ((32 ≤ b) × (b ≤ 126))
+unfolding isPrintable
+printable-range b = (
+  (λ e. (leb-true 32 b (and-left (leb 32 b) (leb b 126) e), leb-true b 126 (and-right (leb 32 b) (leb b 126) e))),
+  λ h. both (leb 32 b) (leb b 126) (le-leb 32 b (h .0)) (le-leb b 126 (h .1)),
+)
 
-pub name-is : (s : List ℕ) → isName s ≡ true → Nameworthy s
-unfolding isName
-name-is s h =
-    let size = is-element 40 (length s) (and-left (isElement 40 (length s)) (all isPrintable s) h) in
-    record { some-byte = size .0; short = size .1; printable = all-every isPrintable s (and-right (isElement 40 (length s)) (all isPrintable s) h) }
+module _ (s : List ℕ) where
+  pub name-printable : isName s ≡ true → Every (λ b. isPrintable b ≡ true) s
+  unfolding isName
+  name-printable h = all-every isPrintable s (and-right (isElement 40 (length s)) (all isPrintable s) h)
+
+  pub name-is : isName s ≡ true → Name s
+  unfolding isName
+  name-is h =
+      let size = is-element 40 (length s) (and-left (isElement 40 (length s)) (all isPrintable s) h) in
+      record { some-byte = size .0; short = size .1; allowed = λ b m. printable-range b .0 (every-mem (λ b. isPrintable b ≡ true) s (name-printable h) b m) }
+
+  is-name : Name s → isName s ≡ true
+  unfolding isName
+  is-name h =
+      both (isElement 40 (length s)) (all isPrintable s) (element-is 40 (length s) (h .some-byte, h .short))
+      (every-all isPrintable s (mem-every (λ b. isPrintable b ≡ true) s (λ b m. printable-range b .1 (h .allowed b m))))
+
+  pub name-exactly : (isName s ≡ true) ↔ Name s
+  name-exactly = (name-is, is-name)
 
 -- ---- a number
 

@@ -9,9 +9,11 @@ use native.Mathlib.Omega.{arith}
 use lib.ListN.{length, take, drop, length-append, take-append-drop, length-map}
 use lib.Seq.{take-append-seam, drop-append-seam, length-take-le, take-at}
 use borrow.Author.Tests.{le-leb}
+use Rattle.semigroups.specs.Lists.{sum}
 use Rattle.semigroups.specs.Tables.{Element}
 use Rattle.semigroups.specs.Questions.{Refusal, firstNo, Passed}
 use Rattle.semigroups.specs.Calls.{Answer, gives, givenUnless, overwritten, writtenUnless}
+use Rattle.semigroups.proofs.Sums.{sum-map}
 use Rattle.semigroups.proofs.Questions.{all-passed}
 use Rattle.csv.specs.Every.{Every}
 use Rattle.csv.specs.Rounds.{given}
@@ -24,8 +26,9 @@ use Rattle.sheets.specs.Questions.{rowsQuestions, namesQuestions, loadNa
 use Rattle.sheets.specs.Calls.{loadNamesAnswer, namesAfter, lengthsAfter, saveNamesAnswer, sheetAfter}
 use Rattle.sheets.specs.Rounds.{NameBuffers, sheetHeld, namesSaved, nameRound, nameRounds, SheetUnchanged, SavedNamesAreLoaded, LastBreakMayLack, SavedSheetStays, LoadedSheetStays}
 use Rattle.sheets.proofs.Readings.{same-reading}
-use Rattle.sheets.proofs.Numbers.{name-is}
+use Rattle.sheets.proofs.Numbers.{name-printable}
 use Rattle.sheets.proofs.Saving.{Text, namesRows, saved-reading, names-of-rows}
+use Rattle.sheets.proofs.Passing.{save-names-pass}
 use Rattle.sheets.proofs.Questions.{Names, names-numbered, load-passes, LoadPassed, load-passed, name-held, save-passes, SavePassed, save-passed}
 
 -- ---- names that can be kept
@@ -36,7 +39,7 @@ record Kept (l : List (List ℕ)) : Type 0 where
 
 texts : (l : List (List ℕ)) → Names l → Every Text l
 texts [] h = tt
-texts (s ∷ l) h = (name-is s (h .0) .printable, texts l (h .1))
+texts (s ∷ l) h = (name-printable s (h .0), texts l (h .1))
 
 -- ---- loading the text of names
 
@@ -106,6 +109,11 @@ memory-saves l k rest text r =
 
 -- ---- names saved load as the same names
 
+length-flatten : (l : List (List ℕ)) → length (flatten l) ≡ sum length l
+unfolding flatten sum
+length-flatten [] = refl
+length-flatten (s ∷ l) = length-append s (flatten l) ∙ ap (λ (k : ℕ). length s + k) (length-flatten l)
+
 record InMemory (bytes lengths : List ℕ) : Type 0 where
   pub names : Names (namesAt bytes lengths)
   pub sizes : map length (namesAt bytes lengths) ≡ lengths
@@ -140,8 +148,9 @@ saves names lengths text h =
     (ap (λ (q : Option Refusal). givenUnless q (length (namesText (namesAt names lengths)))) h, ap (λ (q : Option Refusal). writtenUnless q (namesText (namesAt names lengths)) text) h)
 
 pub saved-names-load : SavedNamesAreLoaded
-saved-names-load names lengths text namesBuffer lengthsBuffer h m u =
+saved-names-load names lengths text namesBuffer lengthsBuffer pass m u =
     let l = namesAt names lengths in
+    let h = save-names-pass names lengths (length text) .1 pass in
     let p = save-passed names lengths (length text) h in
     let memory = in-memory 1 names lengths (p .names) in
     let g = saves names lengths text h in
@@ -155,6 +164,7 @@ saved-names-load names lengths text namesBuffer lengthsBuffer h m u =
       bytes = flatten l;
       rest = memory .rest;
       whole = memory .whole;
+      up-to-last = length-flatten l ∙ sym (sum-map (λ (n : ℕ). n) length l) ∙ ap (sum (λ (n : ℕ). n)) (memory .sizes);
       loaded = record {
         count = λ w. back w .answer ∙ ap {B = Answer ℕ} gives e;
         names-same = λ w. back w .names-now;
@@ -216,10 +226,28 @@ module _ (l : List (List ℕ)) (k : Kept l) where
     unchanged : (first b : NameBuffers) → Settled l before first → Settled l before b → SheetUnchanged first b
     unchanged first b s u = record { text = u .text ∙ sym (s .text); size = u .size ∙ sym (s .size) }
 
+    -- Where the names stand in their buffers already, a round changes no byte of any buffer.
+    module _ (read : Readable) (b : NameBuffers) (s : Settled l before b) (names lengths : List ℕ) (ns : b .names ≡ overwritten (flatten l) names) (ls : b .lengths ≡ overwritten (map length l) lengths) where
+      round-same : nameRound b (read (sheetHeld b)) ≡ b
+      unfolding nameRound namesSaved
+      round-same =
+          let w = read (sheetHeld b) in
+          let back = saved-loads l k (sheetHeld b) (held-is b s) (b .names) (b .lengths) (s .names-room) (s .lengths-room) w in
+          let same = unchanged b (nameRound b w) s (settled-round b w s) in
+          let n : namesAfter w (b .names) (b .lengths) ≡ b .names = back .names-now ∙ ap (overwritten (flatten l)) ns ∙ overwritten-twice (flatten l) names ∙ sym ns in
+          let m : lengthsAfter w (b .names) (b .lengths) ≡ b .lengths = back .lengths-now ∙ ap (overwritten (map length l)) ls ∙ overwritten-twice (map length l) lengths ∙ sym ls in
+          λ i. record { text = same .text i; size = same .size i; names = n i; lengths = m i }
+
+      rounds-same : (n : ℕ) → nameRounds read n b ≡ b
+      unfolding nameRounds
+      rounds-same zero = refl
+      rounds-same (suc n) = ap (λ (c : NameBuffers). nameRound c (read (sheetHeld c))) (rounds-same n) ∙ round-same
+
 pub saved-unchanged : SavedSheetStays
 unfolding namesSaved
-saved-unchanged read names lengths b h m u n =
+saved-unchanged read names lengths b pass m u n =
     let l = namesAt names lengths in
+    let h = save-names-pass names lengths (length (b .text)) .1 pass in
     let p = save-passed names lengths (length (b .text)) h in
     let memory = in-memory 1 names lengths (p .names) in
     let e : length l ≡ length lengths = sym (length-map l length) ∙ ap length (memory .sizes) in
@@ -252,7 +280,7 @@ rounds-first read zero b = refl
 rounds-first read (suc n) b = ap (λ (c : NameBuffers). nameRound c (read (sheetHeld c))) (rounds-first read n b)
 
 pub loaded-unchanged : LoadedSheetStays
-unfolding loadNamesAnswer
+unfolding loadNamesAnswer nameRound namesSaved
 loaded-unchanged read b count h r n =
     let w = read (sheetHeld b) in
     let l = namesIn w in
@@ -266,7 +294,7 @@ loaded-unchanged read b count h r n =
       lengths-now = lengths-are w l (b .names) (b .lengths) refl none-refused;
     } in
     let first = round-settles l k b w back (p .names-room) (p .lengths-room) r in
-    rw (rounds-first read n b) (unchanged l k (b .text) r (nameRound b w) (nameRounds read n (nameRound b w)) first (settled-rounds l k (b .text) r read (nameRound b w) first n))
+    rounds-first read n b ∙ rounds-same l k (b .text) r read (nameRound b w) first (b .names) (b .lengths) (back .names-now) (back .lengths-now) n
 
 -- ---- the last line break
 

@@ -2,6 +2,7 @@ pub mod Grammar
 pub mod Readings
 pub mod Names
 pub mod Questions
+pub mod Passing
 pub mod Calls
 pub mod Rounds
 pub mod Automaton

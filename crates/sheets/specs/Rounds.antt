@@ -3,15 +3,15 @@
 use mathlib.Core.Path.{_≡_}
 use mathlib.Core.Bool.{false}
 use mathlib.Core.List.{List, [], _∷_, _++_, flatten}
-use mathlib.Core.Option.{none}
 use Prim.Native.Nat.{ℕ, zero, suc, _≤_}
 use lib.ListN.{length, take}
+use Rattle.semigroups.specs.Lists.{sum}
 use Rattle.semigroups.specs.Calls.{gives, overwritten}
 use Rattle.csv.specs.Rounds.{given}
 use Rattle.sheets.specs.Grammar.{Passes}
 use Rattle.sheets.specs.Readings.{Reading, Readable, namesIn}
 use Rattle.sheets.specs.Names.{namesText, namesAt}
-use Rattle.sheets.specs.Questions.{saveNamesRefusal}
+use Rattle.sheets.specs.Passing.{SaveNamesPass}
 use Rattle.sheets.specs.Calls.{loadNamesAnswer, namesAfter, lengthsAfter, saveNamesAnswer, sheetAfter}
 
 -- ---- there and back
@@ -29,6 +29,7 @@ pub record SavedNamesLoad (names lengths text namesBuffer lengthsBuffer : List �
   pub bytes : List ℕ
   pub rest : List ℕ
   pub whole : names ≡ bytes ++ rest
+  pub up-to-last : length bytes ≡ sum (λ (n : ℕ). n) lengths
   pub loaded : LoadsAs (take size (sheetAfter names lengths text)) bytes lengths namesBuffer lengthsBuffer
 
 -- A sheet without its last line break loads exactly as if CR LF followed (02, (ii)).
@@ -65,7 +66,7 @@ unfoldable pub nameRounds : Readable → ℕ → NameBuffers → NameBuffers
 nameRounds read zero b = b
 nameRounds read (suc k) b = let c = nameRounds read k b in nameRound c (read (sheetHeld c))
 
--- "Loading and saving a second time changes no byte": the text buffer and the sheet's length are what they were.
+-- The text buffer and the sheet's length are what they were.
 pub record SheetUnchanged (first b : NameBuffers) : Type 0 where
   pub text : b .text ≡ first .text
   pub size : b .size ≡ first .size
@@ -74,7 +75,7 @@ pub record SheetUnchanged (first b : NameBuffers) : Type 0 where
 
 abbrev pub SavedNamesAreLoaded : Type 0
 SavedNamesAreLoaded =
-    (names lengths text namesBuffer lengthsBuffer : List ℕ) → saveNamesRefusal names lengths (length text) ≡ none → length (flatten (namesAt names lengths)) ≤ length namesBuffer
+    (names lengths text namesBuffer lengthsBuffer : List ℕ) → SaveNamesPass names lengths (length text) → length (flatten (namesAt names lengths)) ≤ length namesBuffer
     → length lengths ≤ length lengthsBuffer → SavedNamesLoad names lengths text namesBuffer lengthsBuffer
 
 abbrev pub LastBreakMayLack : Type 0
@@ -83,11 +84,11 @@ LastBreakMayLack = (t : List ℕ) (p : Passes t) → p .sheet .closed ≡ false 
 -- Names saved, then loaded and saved again, however often: the sheet keeps every byte.
 abbrev pub SavedSheetStays : Type 0
 SavedSheetStays =
-    (read : Readable) (names lengths : List ℕ) (b : NameBuffers) → saveNamesRefusal names lengths (length (b .text)) ≡ none → length (flatten (namesAt names lengths)) ≤ length (b .names)
+    (read : Readable) (names lengths : List ℕ) (b : NameBuffers) → SaveNamesPass names lengths (length (b .text)) → length (flatten (namesAt names lengths)) ≤ length (b .names)
     → length lengths ≤ length (b .lengths) → (n : ℕ) → SheetUnchanged (namesSaved names lengths b) (nameRounds read n (namesSaved names lengths b))
 
--- Any sheet that loads, loaded and saved once: loading and saving it again, however often, changes no byte.
+-- "Loading and saving a second time changes no byte", of any of the three buffers, for any sheet that loads, and however often.
 abbrev pub LoadedSheetStays : Type 0
 LoadedSheetStays =
     (read : Readable) (b : NameBuffers) (count : ℕ) → loadNamesAnswer (read (sheetHeld b)) (b .names) (b .lengths) ≡ gives count
-    → length (namesText (namesIn (read (sheetHeld b)))) ≤ length (b .text) → (n : ℕ) → SheetUnchanged (nameRound b (read (sheetHeld b))) (nameRounds read (suc n) b)
+    → length (namesText (namesIn (read (sheetHeld b)))) ≤ length (b .text) → (n : ℕ) → nameRounds read (suc n) b ≡ nameRound b (read (sheetHeld b))
