@@ -22,7 +22,7 @@ use Rattle.classification.specs.Output.{isIn, note, names, lowestFiles, 
 use Rattle.classification.specs.Laws.{IsAccepted, Classified, Totalled, NothingForNoFile}
 use Rattle.classification.proofs.Lists.{getD-map-range, keep-within, entries}
 use Rattle.classification.proofs.Equivalence.{Equivalence, lowest-like, one-class as one-lowest, lowest-own, firsts-rise, first-exactly, counted-once, totals-sum}
-use Rattle.classification.proofs.Files.{accepted-passes, accepted-table, alike-like, like-alike, like-itself, like-back, like-on}
+use Rattle.classification.proofs.Files.{accepted-passes, accepted-exactly, alike-like, like-alike, like-itself, like-back, like-on}
 
 -- ---- the classes
 
@@ -55,6 +55,7 @@ module _ (files : List (List ℕ)) where
   unfolding lowest
   classified =
       record {
+        accepts = λ k. accepted-exactly (file files k);
         one-class = λ j k a b. (
           (λ e. alike-like (file files j) (file files k) (one-lowest ok R files-alike j k (a .0 .0) (b .0 .0) (a .1) (b .1) .0 e) .isomorphism),
           λ f. one-lowest ok R files-alike j k (a .0 .0) (b .0 .0) (a .1) (b .1) .1
@@ -66,7 +67,7 @@ module _ (files : List (List ℕ)) where
             let a0 = a .0 in
             (((r .0, omega arith), own .0), own .1);
         no-lower = λ j k a b e. subst (λ (i : ℕ). i ≤ j) e (lowest-like ok R files-alike j (a .0 .0) (a .1) .0 .1);
-        says-class = λ k a. (unfold lowest in says-accepted k (a .1), accepted-table (file files k) (a .1));
+        says-class = λ k a. unfold lowest in says-accepted k (a .1);
         says-refused = λ k r e. (says-refusal k r e, earliest-no (fileQuestions (file files k) room) r .0 (unfold fileRefusal in e));
       }
 

@@ -1,5 +1,5 @@
 -- Isomorphism is an equivalence on accepted files. Assumes nothing.
-use mathlib.Core.Path.{_≡_, refl, sym, ap, _∙_, subst}
+use mathlib.Core.Path.{_≡_, refl, ap, _∙_, subst}
 use mathlib.Core.Bool.{true, false, _&&_}
 use mathlib.Core.Logic.{_↔_}
 use mathlib.Core.List.{List}
@@ -13,8 +13,8 @@ use Rattle.semigroups.proofs.Tables as tables
 use Rattle.semigroups.proofs.Maps.{first-earliest, first-none}
 use Rattle.semigroups.proofs.Composition.{identity-embeds, after-embeds, inverse-embeds}
 use Rattle.csv.specs.Tables.{orderOf, cellsOf}
-use Rattle.files.specs.Files.{fileRefusal, room}
-use Rattle.files.proofs.Files.{loaded-table, refusal-none}
+use Rattle.files.specs.Files.{fileRefusal, FilePasses, room}
+use Rattle.files.proofs.Files.{file-passes}
 use Rattle.classification.specs.Classes.{isNone, isSome, accepted, isomorphic, holdsLike, alike}
 use Rattle.classification.specs.Laws.{Isomorphic}
 
@@ -36,8 +36,12 @@ pub refused-not : (t : List ℕ) (r : Refusal) → fileRefusal t room ≡ some r
 unfolding accepted
 refused-not t r e = ap isNone e
 
+-- In plain words.
+pub accepted-exactly : (t : List ℕ) → (accepted t ≡ true) ↔ FilePasses t room
+accepted-exactly t = let w = file-passes t room in ((λ e. w .0 (accepted-passes t e)), λ h. passes-accepted t (w .1 h))
+
 pub accepted-table : (t : List ℕ) → accepted t ≡ true → Accepted (orderOf t) (cellsOf t)
-accepted-table t e = let p = accepted-passes t e in tables.accepted (orderOf t) (cellsOf t) (sym (loaded-table t room (refusal-none t room p)) ∙ p)
+accepted-table t e = accepted-exactly t .0 e .table
 
 -- ---- isomorphic tables
 

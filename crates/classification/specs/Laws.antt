@@ -9,11 +9,11 @@ use Prim.Native.Nat.{ℕ, _≤_, _<_}
 use lib.Dec.{eqb}
 use lib.ListN.{length, take}
 use Rattle.semigroups.specs.Lists.{elements, sum, count, Sorted}
-use Rattle.semigroups.specs.Tables.{product, Element, Accepted}
+use Rattle.semigroups.specs.Tables.{product, Element}
 use Rattle.semigroups.specs.Questions.{Refusal, EarliestNo}
 use Rattle.semigroups.specs.Maps.{Isomorphism}
 use Rattle.csv.specs.Tables.{orderOf, cellsOf}
-use Rattle.files.specs.Files.{fileQuestions, fileRefusal, room}
+use Rattle.files.specs.Files.{fileQuestions, fileRefusal, FilePasses, room}
 use Rattle.classification.specs.Classes.{Folder, accepted, refusedBy, inClass, file, lowest, noteOf, notesOf}
 use Rattle.classification.specs.Output.{lowestFiles, members, classesOutput, folderOutput}
 
@@ -28,13 +28,15 @@ module _ (files : List (List ℕ)) where
 
   -- The classes.
   pub record Classified : Type 0 where
+    -- A file is accepted exactly if it loads and its table is accepted.
+    pub accepts : (k : ℕ) → (accepted (file files k) ≡ true) ↔ FilePasses (file files k) room
     -- "Two accepted tables are in one class exactly if an isomorphism exists."
     pub one-class : (j k : ℕ) → IsAccepted j → IsAccepted k → (lowest files j ≡ lowest files k) ↔ Isomorphic (file files j) (file files k)
     -- A class is named by its lowest file: one of its members, and no member is lower.
     pub a-member : (k : ℕ) → IsAccepted k → IsAccepted (lowest files k) × (lowest files (lowest files k) ≡ lowest files k)
     pub no-lower : (j k : ℕ) → IsAccepted j → IsAccepted k → lowest files j ≡ lowest files k → lowest files k ≤ j
-    -- An accepted file holds an accepted table, and its order and its class are said.
-    pub says-class : (k : ℕ) → IsAccepted k → (noteOf files k ≡ inClass (orderOf (file files k)) (lowest files k)) × Accepted (orderOf (file files k)) (cellsOf (file files k))
+    -- Of an accepted file its order and its class are said.
+    pub says-class : (k : ℕ) → IsAccepted k → noteOf files k ≡ inClass (orderOf (file files k)) (lowest files k)
     -- "A refusal's number is that of its earliest failed question."
     pub says-refused : (k : ℕ) (r : Refusal) → fileRefusal (file files k) room ≡ some r → (noteOf files k ≡ refusedBy (r .number)) × EarliestNo (fileQuestions (file files k) room) r
 

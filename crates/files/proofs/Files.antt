@@ -1,6 +1,7 @@
 -- The questions about a file in the code's order: those about loading, then the table's four, of which a loaded table passes 1 and 2.
 -- Assumes nothing.
 use mathlib.Core.Path.{_≡_, refl, ap, ap₂, sym, _∙_, subst₂}
+use mathlib.Core.Logic.{_↔_}
 use mathlib.Core.List.{List, [], _∷_}
 use mathlib.Core.Option.{Option, none, some}
 use Prim.Native.Nat.{ℕ, _*_, _≤_}
@@ -12,12 +13,14 @@ use Rattle.semigroups.specs.Tables.{Accepted, isElement}
 use Rattle.semigroups.specs.Questions.{ask, Refusal, tableRefusal}
 use Rattle.semigroups.proofs.Lists.{element-is}
 use Rattle.semigroups.proofs.Tables.{accepted}
+use Rattle.semigroups.proofs.Passing.{table-passes}
 use Rattle.semigroups.proofs.Questions.{all-passed, failed-before, passed-before, both-passed}
 use Rattle.csv.specs.Tables.{orderOf, cellsOf}
 use Rattle.csv.specs.Questions.{loadQuestions, loadRefusal}
 use Rattle.semigroups.specs.Calls.{Answer, refused, gives, givenUnless}
 use Rattle.semigroups.proofs.Calls.{gives-ne-refused}
 use Rattle.csv.specs.Calls.{loadAnswer, cellsAfter}
+use Rattle.csv.proofs.Passing.{load-passes}
 use Rattle.csv.proofs.Loading.{cells-length, load-passed}
 use Rattle.csv.proofs.Accepted.{first-row}
 use Rattle.csv.proofs.RoundTrips.{given-passed, loads-given}
@@ -25,7 +28,7 @@ use denote.Enum.Declared.{tagOf}
 use types.Run.{OneOf, miss}
 use Rattle.tables.specs.Answers.{faultRefusal}
 use Rattle.text.specs.Answers.{textFaultRefusal as textRefusal}
-use Rattle.files.specs.Files.{loadedQuestions, fileRefusal, fileAnswer}
+use Rattle.files.specs.Files.{loadedQuestions, fileRefusal, FilePasses, fileAnswer}
 use Rattle.files.specs.Answers.{verdictAnswer}
 use Rattle.files.specs.declared.FileVerdict.{FileVerdict}
 use Rattle.files.specs.declared.FileVerdict.the-variants.{Accepted as Accepted-order, Text, Table}
@@ -50,6 +53,14 @@ module _ (t : List ℕ) (room : ℕ) where
   pub refusal-none : fileRefusal t room ≡ none → loadRefusal t room ≡ none
   unfolding fileRefusal loadRefusal
   refusal-none e = both-passed (loadQuestions t room) (loadedQuestions t) e .0
+
+  -- No question fails exactly where what the file needs holds.
+  pub file-passes : (fileRefusal t room ≡ none) ↔ FilePasses t room
+  file-passes =
+      let w = table-passes (orderOf t) (cellsOf t) in (
+        (λ e. let l = refusal-none e in record { loads = load-passes t room .0 l; table = w .0 (sym (loaded-table l) ∙ e) }),
+        λ h. loaded-table (load-passes t room .1 (h .loads)) ∙ w .1 (h .table),
+      )
 
 -- ---- the answer
 
