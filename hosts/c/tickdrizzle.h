@@ -33,7 +33,7 @@ extern "C" {
 #define TICKDRIZZLE_VERSION "0.1.0"
 
 /* Sizes. */
-#define TICKDRIZZLE_STACK 1500000      /* stack bytes that are enough, as measured: searches need the most */
+#define TICKDRIZZLE_STACK 1000000      /* stack bytes that are enough, as measured: searches need the most */
 #define TICKDRIZZLE_GREATEST_ORDER 120
 #define TICKDRIZZLE_GREATEST_DEGREE 3
 #define TICKDRIZZLE_MOST_CELLS 14400   /* cells of a table of order 120 */
