@@ -1,0 +1,80 @@
+-- Demand 1 holds of the calls that 02 added. Assumes nothing.
+use mathlib.Core.Path.{_≡_}
+use mathlib.Core.List.{[], _∷_}
+use lib.ListN.{length, replicate}
+use Rattle.semigroups.specs.Tables.{product}
+use Rattle.semigroups.specs.Questions.{no, searchQuestions, searchRefusal, EarliestNo}
+use Rattle.semigroups.specs.Calls.{refused, gives}
+use Rattle.semigroups.specs.Trials as trials
+use Rattle.semigroups.specs.Generated.{generated}
+use Rattle.semigroups.specs.Light.{generatorsQuestions, generatorsRefusal}
+use Rattle.semigroups.specs.Subsemigroups.{subsemigroupQuestions, subsemigroupRefusal}
+use Rattle.semigroups.specs.Copies.{copiesQuestions, copiesRefusal, copiesCapped}
+use Rattle.semigroups.specs.Cases.{one, left, mat5}
+use Rattle.semigroups.proofs.Passing.{search-passes}
+use Rattle.semigroups.proofs.Calls.{refused-by}
+use Rattle.semigroups.proofs.Light.{generators-pass, generators-refused}
+use Rattle.semigroups.proofs.Subsemigroups.{subsemigroup-passes, subsemigroup-examples}
+use Rattle.semigroups.proofs.Copies.{copies-pass, copies-examples}
+use Rattle.generated.specs.Answers.{subsemigroupSays, partAfter, elementsAfter}
+use Rattle.generated.proofs.Parts.{subsemigroup-keeps}
+use Rattle.planning.specs.Degrees.{leastDegree, degreeQuestions, degreeRefusal}
+use Rattle.planning.specs.Answers.{degreeSays}
+use Rattle.planning.proofs.Questions.{degree-passes, positions-kept}
+use Rattle.sheets.specs.Readings.{namesIn}
+use Rattle.sheets.specs.Names.{namesText, namesAt}
+use Rattle.sheets.specs.Questions.{loadNamesQuestions, loadNamesRefusal, saveNamesQuestions, saveNamesRefusal}
+use Rattle.sheets.specs.Calls.{loadNamesAnswer, saveNamesAnswer}
+use Rattle.sheets.proofs.Passing.{load-names-pass, save-names-pass, load-keeps, save-keeps}
+use Rattle.limited.specs.Calls.{firstWork, limitedCall}
+use Rattle.limited.proofs.Limits.{limits-theorem}
+use Rattle.copies.specs.Answers.{copiesSays, copiesScratch}
+use Rattle.copies.proofs.Answering.{copies-keep}
+use Rattle.demands.specs.Added.{AddedCalls}
+use Rattle.demands.proofs.Answers.{asks, answers}
+
+pub added-calls : AddedCalls
+unfolding loadNamesAnswer loadNamesRefusal saveNamesAnswer saveNamesRefusal limitedCall searchRefusal generatorsRefusal subsemigroupSays subsemigroupRefusal degreeSays degreeRefusal copiesSays copiesRefusal
+added-calls =
+    record {
+      load-names = λ w names lengths. answers (loadNamesQuestions w (length names) (length lengths)) (load-names-pass (length names) (length lengths) w) (length (namesIn w));
+      save-names = λ names lengths text. answers (saveNamesQuestions names lengths (length text)) (save-names-pass names lengths (length text)) (length (namesText (namesAt names lengths)));
+      limited = λ kind limit l.
+          answers (searchQuestions (l .m) (l .source) (l .n) (l .target) (length (l .mapBytes)) (length (l .scratch)))
+          (search-passes (l .m) (l .source) (l .n) (l .target) (length (l .mapBytes)) (length (l .scratch))) (trials.limited limit (firstWork kind l));
+      generators = λ n cells l. asks (generatorsQuestions n cells l) (generators-pass n cells l);
+      generators-meant = λ n cells l r. generators-refused n cells l r;
+      subsemigroup = λ n cells l a b. answers (subsemigroupQuestions n cells l a b) (subsemigroup-passes n cells l a b) (length (generated n (product n cells) l));
+      least-degree = λ m cells size. answers (degreeQuestions m cells size) (degree-passes m cells size) (leastDegree m (product m cells));
+      copies = λ m source n target k. answers (copiesQuestions m source n target k) (copies-pass m source n target k) (copiesCapped m (product m source) n (product n target));
+      load-names-refused = load-keeps;
+      save-names-refused = save-keeps;
+      limited-refused = limits-theorem .refused-unchanged;
+      subsemigroup-refused = subsemigroup-keeps;
+      degree-refused = positions-kept;
+      copies-refused = copies-keep;
+    }
+
+-- ---- instances, to show that it is not empty
+
+-- In mat5, buffers of 16 and 4 bytes are enough for what 5 and 2 generate: the part is given.
+part-given : subsemigroupSays 5 (mat5 .cells) (5 ∷ 2 ∷ []) 16 4 ≡ gives (length (generated 5 (product 5 (mat5 .cells)) (5 ∷ 2 ∷ [])))
+part-given = added-calls .subsemigroup 5 (mat5 .cells) (5 ∷ 2 ∷ []) 16 4 .given-exactly .1 (subsemigroup-passes 5 (mat5 .cells) (5 ∷ 2 ∷ []) 16 4 .0 (subsemigroup-examples .2))
+
+-- 15 and 3 are not: question 61 is the earliest that fails, and both buffers stay as they are.
+part-short : EarliestNo (subsemigroupQuestions 5 (mat5 .cells) (5 ∷ 2 ∷ []) 15 3) (no 61 [])
+unfolding subsemigroupSays
+part-short =
+    added-calls .subsemigroup 5 (mat5 .cells) (5 ∷ 2 ∷ []) 15 3 .refused-exactly (no 61 []) .0
+    (refused-by (length (generated 5 (product 5 (mat5 .cells)) (5 ∷ 2 ∷ []))) (subsemigroupRefusal 5 (mat5 .cells) (5 ∷ 2 ∷ []) 15 3) (no 61 []) .1 (subsemigroup-examples .5))
+
+part-kept : (partAfter 5 (mat5 .cells) (5 ∷ 2 ∷ []) (replicate 15 9) 3 ≡ replicate 15 9) × (elementsAfter 5 (mat5 .cells) (5 ∷ 2 ∷ []) 15 (replicate 3 9) ≡ replicate 3 9)
+part-kept = added-calls .subsemigroup-refused 5 (mat5 .cells) (5 ∷ 2 ∷ []) (replicate 15 9) (replicate 3 9) (no 61 []) (subsemigroup-examples .5)
+
+-- The copies of one in left are counted with scratch for the marks, and with none of it refused by 6.
+copies-short : copiesSays 1 (one .cells) 2 (left .cells) 0 ≡ refused (no 6 [])
+unfolding copiesSays
+copies-short = refused-by (copiesCapped 1 (product 1 (one .cells)) 2 (product 2 (left .cells))) (copiesRefusal 1 (one .cells) 2 (left .cells) 0) (no 6 []) .1 (copies-examples .8)
+
+copies-kept : copiesScratch 1 (one .cells) 2 (left .cells) [] ≡ []
+copies-kept = added-calls .copies-refused 1 (one .cells) 2 (left .cells) [] (no 6 []) (copies-examples .8)
