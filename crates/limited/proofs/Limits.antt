@@ -10,7 +10,7 @@ use Rattle.semigroups.specs.Lists.{range, elements, at, all, find, sum, count, 
 use Rattle.semigroups.specs.Tables.{product, grid, Accepted}
 use Rattle.semigroups.specs.Invariants.{power, periodFrom, index, period, idempotentPower, indexPeriod, sameIndexPeriod, frequency, diagonalFrequency, rowFrequency, columnFrequency, commuting, profile, sameProfile}
 use Rattle.semigroups.specs.Calls.{gives, overwritten, mapUnless}
-use Rattle.semigroups.specs.Maps.{Kind, embeddings, isomorphisms, reversed, Sought, nothing, sought, after}
+use Rattle.semigroups.specs.Maps.{Kind, embeddings, isomorphisms, reversed, first, Sought, nothing, sought, after}
 use Rattle.semigroups.specs.Candidates.{candidate}
 use Rattle.semigroups.specs.Search.{fits, passes}
 use Rattle.semigroups.specs.Trials.{Work, work, inTurn, tried, workAt, counted, stopped, ended}
@@ -23,10 +23,11 @@ use Rattle.search.specs.Calls as searches
 use Rattle.search.specs.Calls.{Lent, theFirst, marksOf, call}
 use Rattle.search.specs.Wanted.{Passes}
 use Rattle.search.proofs.Calls as search-laws
-use Rattle.limited.specs.Calls.{Called, firstWork, limitedCall}
+use Rattle.engine.specs.Calls.{Called, workOf}
+use Rattle.engine.proofs.Works.{work-unfit, work-finds}
+use Rattle.limited.specs.Calls.{firstWork, limitedCall}
 use Rattle.limited.specs.Limits.{afterTrials, Limits, LimitsTheorem, swapInTwo, twoInSwap, LimitsExamples, ReversedTrialsExamples}
 use Rattle.limited.proofs.Calls.{refused-unchanged, stops, ends}
-use Rattle.limited.proofs.Works.{work-unfit, work-finds}
 
 -- A search that ends is not stopped.
 not-stopped : (o : Sought) (k : ℕ) → gives (ended o k) ≡ gives stopped → ⊥
@@ -41,7 +42,7 @@ module _ (kind : Kind) (l : Lent) (p : Passes l) where
 
   -- The search without a limit, by what the work finds.
   same : unlimited ≡ record { says = gives (sought (w .found)); mapBytes = mapUnless none (w .found) (l .mapBytes); scratch = overwritten (marksOf kind theFirst l) (l .scratch) }
-  same = search-laws.not-refused kind l theFirst (search-laws.passed kind l theFirst p) (w .found) (sym (work-finds kind l p))
+  same = search-laws.not-refused kind l theFirst (search-laws.passed kind l theFirst p) (w .found) (sym (work-finds kind first (l .m) (l .source) (l .n) (l .target) (p .check .source-table) (p .check .target-table)))
 
   stopped-keeps : (limit : ℕ) → limit < w .trials → limitedCall kind limit l ≡ record { says = gives stopped; mapBytes = l .mapBytes; scratch = unlimited .scratch }
   stopped-keeps limit h =
@@ -63,7 +64,7 @@ module _ (kind : Kind) (l : Lent) (p : Passes l) where
         stopped-keeps = stopped-keeps;
         ended-exactly = ended-exactly;
         larger = λ a b h e. grown a b h e (at-most-or-above (w .trials) a);
-        unfit = λ e. let q = work-unfit kind l e in (ap (λ (v : Work). v .trials) q, λ limit. none-said limit q);
+        unfit = λ e. let q = work-unfit kind first (l .m) (l .source) (l .n) (l .target) e in (ap (λ (v : Work). v .trials) q, λ limit. none-said limit q);
       }
     where
       above : (limit : ℕ) → limitedCall kind limit l .says ≡ gives stopped → (w .trials ≤ limit) ⊎ (limit < w .trials) → limit < w .trials
@@ -107,7 +108,7 @@ two-passes =
     }
 
 swap-work : firstWork embeddings swapInTwo ≡ work (some (2 ∷ 3 ∷ [])) 4
-unfolding firstWork counted workAt inTurn tried candidate passes fits product two grid range elements at all find sum count least member earlier lists power periodFrom index period idempotentPower indexPeriod sameIndexPeriod after transformations transformationOrder transformation numberOf transformationProduct transformationCells flatMap
+unfolding workOf counted workAt inTurn tried candidate passes fits product two grid range elements at all find sum count least member earlier lists power periodFrom index period idempotentPower indexPeriod sameIndexPeriod after transformations transformationOrder transformation numberOf transformationProduct transformationCells flatMap
 swap-work = refl
 
 limits-examples : LimitsExamples
@@ -122,5 +123,5 @@ limits-examples =
     )
 
 reversed-trials-examples : ReversedTrialsExamples
-unfolding firstWork counted workAt inTurn tried candidate passes fits product range elements at all find sum count least member power periodFrom index period idempotentPower indexPeriod sameIndexPeriod frequency diagonalFrequency rowFrequency columnFrequency commuting profile sameProfile
+unfolding workOf counted workAt inTurn tried candidate passes fits product range elements at all find sum count least member power periodFrom index period idempotentPower indexPeriod sameIndexPeriod frequency diagonalFrequency rowFrequency columnFrequency commuting profile sameProfile
 reversed-trials-examples = (refl, refl, limits reversed swapInTwo swap-passes .unfit refl .1 0)

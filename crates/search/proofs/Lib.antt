@@ -1,4 +1,3 @@
 pub mod Calls
-pub mod Answering
-pub mod Turned
+pub mod Unlimited
 pub mod Demand3

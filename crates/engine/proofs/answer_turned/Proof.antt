@@ -5,17 +5,13 @@ use Prim.Native.Nat.{ℕ, _*_, _≤_}
 use native.Mathlib.Omega.{arith}
 use borrow.Author.Needs.{needs}
 use denote.Ref.{now}
-use lib.ListN.{length, take}
-use Rattle.semigroups.specs.Tables.{turnedCells}
-use Rattle.semigroups.specs.Calls.{overwritten}
+use lib.ListN.{length}
 use Rattle.semigroups.specs.Maps.{isomorphisms}
-use Rattle.search.specs.Calls.{Lent, lend, call}
-use Rattle.search.specs.Wanted.{Passes}
-use Rattle.search.specs.Answers.{requestOf}
-use Rattle.search.proofs.Calls.{as-called}
-use Rattle.search.proofs.Turned.{turned-call, turned-part, part-accepted, part-length}
-use Rattle.search.proofs.answer_turned.Statement.{statement}
-use Rattle.search.proofs.answer_turned.Tie as tie
+use Rattle.engine.specs.Finding.{called}
+use Rattle.engine.proofs.Calls.{as-called}
+use Rattle.engine.proofs.Turned.{turned-call, turned-part, part-accepted, part-length}
+use Rattle.engine.proofs.answer_turned.Statement.{statement}
+use Rattle.engine.proofs.answer_turned.Tie as tie
 
 -- What is known where the target is turned.
 module _ (c : tie.After-turn) where
@@ -66,11 +62,9 @@ returns c =
     let t = c .before .before .before .before .before .before .before .before .before .before in
     let z = start t in
     let a = z .args in
-    let l = lend (now (a .source)) (a .m) (target t) (n t) (now (a .map)) (now (a .scratch)) in
-    let p : Passes l = record { check = record { source-table = z .pre .0 .0; target-table = z .pre .0 .1; map-size = z .pre .1 .0 .0 }; scratch-room = z .pre .1 .0 .1 } in
     as-called
-    (ap (λ (g : List ℕ). call isomorphisms (requestOf (a .next)) (lend (now (a .source)) (a .m) g (n t) (now (a .map)) (now (a .scratch)))) (turned-part (n t) (target t) (now (a .room)) (room t) (z .pre .0 .1) (fits t) (t .turn .ensures))
-    ∙ turned-call l p (requestOf (a .next)))
+    (ap (λ (g : List ℕ). called isomorphisms (a .next) (a .limit) (a .m) (now (a .source)) (n t) g (now (a .map)) (now (a .scratch))) (turned-part (n t) (target t) (now (a .room)) (room t) (z .pre .0 .1) (fits t) (t .turn .ensures))
+    ∙ turned-call (a .next) (a .limit) (a .m) (now (a .source)) (n t) (target t) (now (a .map)) (now (a .scratch)) (record { check = record { source-table = z .pre .0 .0; target-table = z .pre .0 .1; map-size = z .pre .1 .0 .0 }; scratch-room = z .pre .1 .0 .1 }))
     (c .before .before .before .before .answer .ensures)
 
 pub answer-turned-spec : {M : Type 1} → statement M
