@@ -16,7 +16,7 @@ ghost use Rattle.copies.specs.Answers.{copiesSays, copiesScratch, copiesAnswerS
 ghost use Rattle.search.specs.Calls.{theFirst, theNext, lend, call};
 ghost use Rattle.search.specs.Answers.{searchAnswerSays};
 ghost use Rattle.engine.specs.Answers.{replySays};
-ghost use Rattle.limited.specs.Calls.{limitedCall};
+ghost use Rattle.search.specs.Limited.{limitedCall};
 ghost use Rattle.transformations.specs.Answers.{transformationSays, transformationCellsAfter, transformationAnswerSays};
 ghost use Rattle.csv.specs.Calls.{loadAnswer, cellsAfter, saveAnswer, textAfter};
 ghost use Rattle.text.specs.Answers.{loadedAnswer, savedAnswer};
@@ -455,7 +455,7 @@ pub extern "C" fn tickdrizzle_first_embedding_within(
     ensures map { λ _. ⌜ now (map .exit) ≡ limitedCall embeddings limit (lend (now (source .entry)) m (now (target .entry)) n (now (map .entry)) (now (scratch .entry))) .mapBytes ⌝ }
     ensures scratch { λ _. ⌜ now (scratch .exit) ≡ limitedCall embeddings limit (lend (now (source .entry)) m (now (target .entry)) n (now (map .entry)) (now (scratch .entry))) .scratch ⌝ }
 {
-    *answer = limited_words(limited::first_embedding_within(
+    *answer = limited_words(search::first_embedding_within(
         source,
         m,
         target,
@@ -481,7 +481,7 @@ pub extern "C" fn tickdrizzle_first_isomorphism_within(
     ensures map { λ _. ⌜ now (map .exit) ≡ limitedCall isomorphisms limit (lend (now (source .entry)) m (now (target .entry)) n (now (map .entry)) (now (scratch .entry))) .mapBytes ⌝ }
     ensures scratch { λ _. ⌜ now (scratch .exit) ≡ limitedCall isomorphisms limit (lend (now (source .entry)) m (now (target .entry)) n (now (map .entry)) (now (scratch .entry))) .scratch ⌝ }
 {
-    *answer = limited_words(limited::first_isomorphism_within(
+    *answer = limited_words(search::first_isomorphism_within(
         source,
         m,
         target,
@@ -525,7 +525,7 @@ pub extern "C" fn tickdrizzle_first_reversed_isomorphism_within(
     ensures map { λ _. ⌜ now (map .exit) ≡ limitedCall reversed limit (lend (now (source .entry)) m (now (target .entry)) n (now (map .entry)) (now (scratch .entry))) .mapBytes ⌝ }
     ensures scratch { λ _. ⌜ now (scratch .exit) ≡ limitedCall reversed limit (lend (now (source .entry)) m (now (target .entry)) n (now (map .entry)) (now (scratch .entry))) .scratch ⌝ }
 {
-    *answer = limited_words(limited::first_reversed_isomorphism_within(
+    *answer = limited_words(search::first_reversed_isomorphism_within(
         source,
         m,
         target,

@@ -1,3 +1,5 @@
 pub mod Calls
 pub mod Unlimited
+pub mod Limited
+pub mod Limits
 pub mod Demand3

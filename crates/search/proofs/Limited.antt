@@ -9,11 +9,11 @@ use Rattle.semigroups.specs.Calls.{refused, gives, givenUnless, overwritten, wr
 use Rattle.semigroups.specs.Maps.{Kind, sought}
 use Rattle.semigroups.specs.Trials.{Limited, stopped, ended, limited, foundWithin}
 use Rattle.semigroups.proofs.Trials.{limited-ends, limited-stops}
 use Rattle.search.specs.Calls.{Lent, theFirst, refusalOf, marksOf}
 use Rattle.engine.specs.declared.Limit.the-variants.{Trials}
 use Rattle.engine.specs.Calls.{Called}
 use Rattle.engine.specs.Finding.{called}
-use Rattle.limited.specs.Calls.{firstWork, limitedCall}
+use Rattle.search.specs.Limited.{firstWork, limitedCall}
 
 module _ (kind : Kind) (limit : ℕ) (l : Lent) where
   abbrev left : Option Refusal → Limited → Option (List ℕ) → Called

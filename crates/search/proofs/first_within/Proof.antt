@@ -2,10 +2,10 @@
 use borrow.Author.Needs.{needs}
 use Rattle.kinds.specs.Kinds.{kindOf}
 use Rattle.engine.proofs.Calls.{as-called}
 use Rattle.search.specs.Calls.{lend}
-use Rattle.limited.proofs.Calls.{as-limited}
-use Rattle.limited.proofs.first_within.Statement.{statement}
-use Rattle.limited.proofs.first_within.Tie as tie
+use Rattle.search.proofs.Limited.{as-limited}
+use Rattle.search.proofs.first_within.Statement.{statement}
+use Rattle.search.proofs.first_within.Tie as tie
 
 find-requires : tie.Need-find-requires
 find-requires c κs = search needs

@@ -12,10 +12,10 @@ use Rattle.semigroups.specs.Calls.{Answer, refused, gives}
 use Rattle.semigroups.specs.Maps.{Kind, embeddings, isomorphisms, reversed, Sought, found, nothing}
 use Rattle.semigroups.specs.Trials.{work, Limited, stopped, ended}
 use Rattle.semigroups.specs.Cases.{swap, left, right, two}
 use Rattle.search.specs.Calls.{Lent, lend, theFirst, refusalOf, call}
 use Rattle.search.specs.Wanted.{Passes}
 use Rattle.kinds.specs.Kinds.{orderFits}
-use Rattle.limited.specs.Calls.{firstWork, limitedCall}
+use Rattle.search.specs.Limited.{firstWork, limitedCall}
 
 -- What a search says, with the number of trials.
 abbrev pub afterTrials : ℕ → Answer Sought → Answer Limited

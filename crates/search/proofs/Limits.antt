@@ -19,15 +19,15 @@ use Rattle.semigroups.specs.Cases.{Table, swap, two}
 use Rattle.semigroups.proofs.Booleans.{at-most-or-above, impossible}
 use Rattle.semigroups.proofs.Candidates.{size-most}
 use Rattle.semigroups.proofs.Cases.{worked}
 use Rattle.search.specs.Calls as searches
 use Rattle.search.specs.Calls.{Lent, theFirst, marksOf, call}
 use Rattle.search.specs.Wanted.{Passes}
 use Rattle.search.proofs.Calls as search-laws
 use Rattle.engine.specs.Calls.{Called, workOf}
 use Rattle.engine.proofs.Works.{work-unfit, work-finds}
-use Rattle.limited.specs.Calls.{firstWork, limitedCall}
-use Rattle.limited.specs.Limits.{afterTrials, Limits, LimitsTheorem, swapInTwo, twoInSwap, LimitsExamples, ReversedTrialsExamples}
-use Rattle.limited.proofs.Calls.{refused-unchanged, stops, ends}
+use Rattle.search.specs.Limited.{firstWork, limitedCall}
+use Rattle.search.specs.Limits.{afterTrials, Limits, LimitsTheorem, swapInTwo, twoInSwap, LimitsExamples, ReversedTrialsExamples}
+use Rattle.search.proofs.Limited.{refused-unchanged, stops, ends}
 
 -- A search that ends is not stopped.
 not-stopped : (o : Sought) (k : ℕ) → gives (ended o k) ≡ gives stopped → ⊥
