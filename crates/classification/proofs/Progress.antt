@@ -1,4 +1,4 @@
--- A session ends, asks for no file above 50, and its notes make the whole output of the folder. The idea: its notes are those of the files read so
+-- The program ends, asks for no file above 50, and its notes make the whole output of the folder. The idea: its notes are those of the files read so
 -- far, and the new file is like no lower file that names a class. Assumes nothing.
 use mathlib.Core.Path.{_≡_, refl, sym, ap, ap₂, _∙_}
 use mathlib.Core.Bool.{Bool, true, false, cond}
@@ -19,13 +19,13 @@ use Rattle.csv.specs.Tables.{orderOf, cellsOf}
 use Rattle.files.specs.Files.{fileRefusal, room}
 use Rattle.classification.specs.Classes.{Folder, mostFiles, opened, filesFrom, filesOf, accepted, holdsLike, alike, Note, refusedBy, inClass, file, lowest, notesOf}
 use Rattle.classification.specs.Output.{note, names, notesText, classesOutput, folderOutput}
-use Rattle.classification.specs.Session.{namesOrder, Phase, reading, comparing, over, Session, session, start, wantedIn, wanted, nextClass, noted, onward, begun, compared, stepIn, step, SoundIn, Sound, leftIn, left, served, Prints, Goes}
+use Rattle.classification.specs.Progress.{namesOrder, Phase, reading, comparing, over, Progress, progress, start, wantedIn, wanted, nextClass, noted, onward, begun, compared, stepIn, step, SoundIn, Sound, leftIn, left, served, Prints, Goes}
 use Rattle.classification.proofs.Files.{passes-accepted, accepted-table, alike-like, like-alike, like-itself, like-order, holds-alike}
 use Rattle.classification.proofs.Classes.{length-notes, note-is, names-is, says-accepted}
 use Rattle.classification.proofs.NextClass.{next-bound, next-within, next-first}
 use Rattle.classification.proofs.Growth.{grown, length-grown, file-stays, file-new, notes-refused, notes-accepted}
 
--- ---- a session goes on
+-- ---- the program goes on
 
 noted-goes : (notes : List Note) (said : Note) → length notes < mostFiles → Sound (noted notes said) × (left (noted notes said) ≡ (mostFiles - suc (length notes)) * suc mostFiles)
 noted-goes notes said h = let e = length-snoc notes said in (omega arith, ap (λ (k : ℕ). (mostFiles - k) * suc mostFiles) e)
@@ -39,7 +39,7 @@ onward-goes notes n cells j h a b = go (leb i (length notes)) refl
     i = nextClass notes n j
 
     go : (t : Bool) → leb i (length notes) ≡ t
-        → Sound (cond t (session notes (comparing n cells i)) (noted notes (inClass n i))) × (left (cond t (session notes (comparing n cells i)) (noted notes (inClass n i))) < (mostFiles - length notes) * suc mostFiles - j)
+        → Sound (cond t (progress notes (comparing n cells i)) (noted notes (inClass n i))) × (left (cond t (progress notes (comparing n cells i)) (noted notes (inClass n i))) < (mostFiles - length notes) * suc mostFiles - j)
     go true e = let w = next-within notes n j (leb-true i (length notes) e) in let w0 = w .0 in let w1 = w .1 in ((h, a, w0), omega arith)
     go false e = let w = noted-goes notes (inClass n i) h in let w1 = w .1 in (w .0, omega arith)
 
@@ -75,7 +75,7 @@ wanted-within notes reading s = go (ltb (length notes) mostFiles) refl
 wanted-within notes (comparing n cells j) s = let s0 = s .0 in let s2 = s .2 in omega arith
 wanted-within notes over s = omega arith
 
-pub goes : (s : Session) → Sound s → (wanted s ≡ 0 → ⊥) → Goes s
+pub goes : (s : Progress) → Sound s → (wanted s ≡ 0 → ⊥) → Goes s
 goes s h w =
     record {
       sound = λ answer. step-goes (s .notes) (s .phase) h w answer .0;
@@ -83,7 +83,7 @@ goes s h w =
       within = wanted-within (s .notes) (s .phase) h;
     }
 
--- ---- what a session knows of a folder
+-- ---- what is known of a folder
 
 -- The files read so far, and their notes.
 record Read (folder : Folder) (notes : List Note) (files : List (List ℕ)) : Type 0 where
@@ -103,7 +103,7 @@ PhaseOf folder files reading = Unit {0}
 PhaseOf folder files (comparing n cells j) = (t : List ℕ) × Compared folder files n cells t j
 PhaseOf folder files over = folder (suc (length files)) ≡ none
 
-abbrev Knows : Folder → Session → Type 0
+abbrev Knows : Folder → Progress → Type 0
 Knows folder s = (files : List (List ℕ)) × Read folder (s .notes) files × PhaseOf folder files (s .phase)
 
 module _ (folder : Folder) (files : List (List ℕ)) (notes : List Note) (R : Read folder notes files) where
@@ -144,7 +144,7 @@ module _ (folder : Folder) (files : List (List ℕ)) (notes : List Note) (R : Re
             ⊎-elim (λ (q : k ≤ j). C .none-below k h (omega arith) e l)
             (λ (q : j < k). let z = next-first notes n j k (omega arith) q (names-like (suc j) C k h e l) in let w : ⊥ = omega arith in w) (at-most-or-above k j)
 
-        go : (b : Bool) → leb i (length notes) ≡ b → Knows folder (cond b (session notes (comparing n cells i)) (noted notes (inClass n i)))
+        go : (b : Bool) → leb i (length notes) ≡ b → Knows folder (cond b (progress notes (comparing n cells i)) (noted notes (inClass n i)))
         go true e = (files, R, (t, record { new = C .new; taken = C .taken; order = C .order; table = C .table; none-below = below }))
         go false e =
             let s = notes-length in
@@ -182,7 +182,7 @@ module _ (folder : Folder) (files : List (List ℕ)) (notes : List Note) (R : Re
       (record { new = new; taken = passes-accepted t e; order = refl; table = refl; none-below = λ i u b e l. let z : ⊥ = omega arith in z })
 
 -- The next answer keeps what is known.
-step-knows : (folder : Folder) (notes : List Note) (phase : Phase) → SoundIn notes phase → (wantedIn notes phase ≡ 0 → ⊥) → Knows folder (session notes phase)
+step-knows : (folder : Folder) (notes : List Note) (phase : Phase) → SoundIn notes phase → (wantedIn notes phase ≡ 0 → ⊥) → Knows folder (progress notes phase)
     → (o : Option (List ℕ)) → folder (wantedIn notes phase) ≡ o → Knows folder (stepIn notes phase o)
 step-knows folder notes reading s w (files, R, k) none e =
     let r = reading-room notes w in
@@ -230,7 +230,7 @@ module _ (folder : Folder) where
       (sym (files-from folder files 1 mostFiles h (λ k u. unfold file in R .there (1 + k) (omega arith) ∙ ap (λ (i : ℕ). some (getD files i [])) (let z : 1 + k - 1 ≡ k = omega arith in z)) (λ u. ap folder (let z : 1 + length files ≡ suc (length files) = omega arith in z) ∙ n u)))
 
   -- Where nothing is asked for, the notes make the output.
-  ended : (notes : List Note) (phase : Phase) → SoundIn notes phase → Knows folder (session notes phase) → wantedIn notes phase ≡ 0 → notesText notes ≡ folderOutput folder
+  ended : (notes : List Note) (phase : Phase) → SoundIn notes phase → Knows folder (progress notes phase) → wantedIn notes phase ≡ 0 → notesText notes ≡ folderOutput folder
   ended notes reading s (files, R, k) e = let l = notes-length folder files notes R in all-read notes files R (omega arith) (λ u. absurd (full (ltb (length notes) mostFiles) refl e (omega arith)))
     where
       full : (b : Bool) → ltb (length notes) mostFiles ≡ b → cond b (suc (length notes)) 0 ≡ 0 → length notes < mostFiles → ⊥
@@ -239,7 +239,7 @@ module _ (folder : Folder) where
   ended notes (comparing n cells j) s k e = absurd (let s2 = s .2 in let z : ⊥ = omega arith in z)
   ended notes over s (files, R, k) e = let l = notes-length folder files notes R in all-read notes files R (omega arith) (λ u. k)
 
-  served-prints : (d : ℕ) (s : Session) → Sound s → Knows folder s → left s ≤ d → (wanted (served folder d s) ≡ 0) × (notesText (served folder d s .notes) ≡ folderOutput folder)
+  served-prints : (d : ℕ) (s : Progress) → Sound s → Knows folder s → left s ≤ d → (wanted (served folder d s) ≡ 0) × (notesText (served folder d s .notes) ≡ folderOutput folder)
   unfolding served
   served-prints zero s h k b =
       ⊎-elim (λ (e : wanted s ≡ 0). (e, ended (s .notes) (s .phase) h k e)) (λ (w : wanted s ≡ 0 → ⊥). absurd (let f = goes s h w .fewer none in let z : ⊥ = omega arith in z)) (equal-or-not (wanted s) 0)

@@ -28,15 +28,15 @@ pub data Phase : Type 0 where
   over : Phase
 
 -- The notes of the files read so far, and what comes next.
-pub record Session : Type 0 where
+pub record Progress : Type 0 where
   pub notes : List Note
   pub phase : Phase
 
-abbrev pub session : List Note → Phase → Session
-session notes phase = record { notes = notes; phase = phase }
+abbrev pub progress : List Note → Phase → Progress
+progress notes phase = record { notes = notes; phase = phase }
 
-abbrev pub start : Session
-start = session [] reading
+abbrev pub start : Progress
+start = progress [] reading
 
 -- The file that is asked for; 0 for none.
 abbrev pub wantedIn : List Note → Phase → ℕ
@@ -44,7 +44,7 @@ wantedIn notes reading = cond (ltb (length notes) mostFiles) (suc (length notes)
 wantedIn notes (comparing n cells j) = j
 wantedIn notes over = 0
 
-abbrev pub wanted : Session → ℕ
+abbrev pub wanted : Progress → ℕ
 wanted s = wantedIn (s .notes) (s .phase)
 
 -- The first class of tables of order n above file j, by its lowest file; where there is none, the number that the new file has.
@@ -52,36 +52,36 @@ unfoldable pub nextClass : List Note → ℕ → ℕ → ℕ
 nextClass notes n j = least (length notes) (λ i. ltb j i && namesOrder n i (note notes i))
 
 -- One note more, and the next file.
-abbrev pub noted : List Note → Note → Session
-noted notes said = session (notes ++ said ∷ []) reading
+abbrev pub noted : List Note → Note → Progress
+noted notes said = progress (notes ++ said ∷ []) reading
 
 -- Behind class j: the next class of that order, or a class of its own.
-unfoldable pub onward : List Note → ℕ → List ℕ → ℕ → Session
-onward notes n cells j = let i = nextClass notes n j in cond (leb i (length notes)) (session notes (comparing n cells i)) (noted notes (inClass n i))
+unfoldable pub onward : List Note → ℕ → List ℕ → ℕ → Progress
+onward notes n cells j = let i = nextClass notes n j in cond (leb i (length notes)) (progress notes (comparing n cells i)) (noted notes (inClass n i))
 
 -- A new file with these bytes and this refusal, if any.
-abbrev pub begun : List Note → List ℕ → Option Refusal → Session
+abbrev pub begun : List Note → List ℕ → Option Refusal → Progress
 begun notes t (some r) = noted notes (refusedBy (r .number))
 begun notes t none = onward notes (orderOf t) (cellsOf t) 0
 
 -- File j read again: its class is that of the new file, or not.
-abbrev pub compared : List Note → ℕ → List ℕ → ℕ → Bool → Session
+abbrev pub compared : List Note → ℕ → List ℕ → ℕ → Bool → Progress
 compared notes n cells j true = noted notes (inClass n j)
 compared notes n cells j false = onward notes n cells j
 
 -- The answer to what is asked for: the bytes of that file, or none where it can't be opened. A file that was opened before and can't be opened again
 -- is like no table.
-abbrev pub stepIn : List Note → Phase → Option (List ℕ) → Session
-stepIn notes reading none = session notes over
+abbrev pub stepIn : List Note → Phase → Option (List ℕ) → Progress
+stepIn notes reading none = progress notes over
 stepIn notes reading (some t) = begun notes t (fileRefusal t room)
 stepIn notes (comparing n cells j) none = compared notes n cells j false
 stepIn notes (comparing n cells j) (some t) = compared notes n cells j (holdsLike t n cells)
-stepIn notes over answer = session notes over
+stepIn notes over answer = progress notes over
 
-abbrev pub step : Session → Option (List ℕ) → Session
+abbrev pub step : Progress → Option (List ℕ) → Progress
 step s answer = stepIn (s .notes) (s .phase) answer
 
--- ---- what holds of a session at all times
+-- ---- what holds of the progress at all times
 
 -- At most 50 notes; a new file that is compared is one of them, holds an accepted table, and is compared with a file before it.
 abbrev pub SoundIn : List Note → Phase → Type 0
@@ -89,7 +89,7 @@ SoundIn notes reading = length notes ≤ mostFiles
 SoundIn notes (comparing n cells j) = (length notes < mostFiles) × Accepted n cells × Element (length notes) j
 SoundIn notes over = length notes ≤ mostFiles
 
-abbrev pub Sound : Session → Type 0
+abbrev pub Sound : Progress → Type 0
 Sound s = SoundIn (s .notes) (s .phase)
 
 -- How many files may still be asked for.
@@ -98,13 +98,13 @@ leftIn notes reading = (mostFiles - length notes) * suc mostFiles
 leftIn notes (comparing n cells j) = (mostFiles - length notes) * suc mostFiles - j
 leftIn notes over = 0
 
-abbrev pub left : Session → ℕ
+abbrev pub left : Progress → ℕ
 left s = leftIn (s .notes) (s .phase)
 
 -- ---- the whole way
 
 -- So many steps at most, each with what the folder has of the file asked for; none more where no file is asked for.
-unfoldable pub served : Folder → ℕ → Session → Session
+unfoldable pub served : Folder → ℕ → Progress → Progress
 served folder zero s = s
 served folder (suc d) s = let later = served folder d (step s (folder (wanted s))) in cond (eqb (wanted s) 0) s later
 
@@ -114,7 +114,7 @@ pub record Prints (folder : Folder) : Type 0 where
   pub output : notesText (served folder (mostFiles * suc mostFiles) start .notes) ≡ folderOutput folder
 
 -- A step asks again, or ends: what holds goes on holding, fewer files are left to ask for, and no file above 50 is asked for.
-pub record Goes (s : Session) : Type 0 where
+pub record Goes (s : Progress) : Type 0 where
   pub sound : (answer : Option (List ℕ)) → Sound (step s answer)
   pub fewer : (answer : Option (List ℕ)) → left (step s answer) < left s
   pub within : wanted s ≤ mostFiles
