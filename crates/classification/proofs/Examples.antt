@@ -18,8 +18,8 @@ use Rattle.classification.specs.Output.{note, names, lowestFiles, member
 use Rattle.classification.specs.Held.{fileName}
 use Rattle.classification.specs.Example.{swapFile, nullFile, printed, emptyPrinted, gapFolder, fullFolder}
 use Rattle.classification.specs.Laws.{IsAccepted}
-use Rattle.classification.specs.Session.{start, Goes}
-use Rattle.classification.proofs.Session.{goes}
+use Rattle.classification.specs.Progress.{start, Goes}
+use Rattle.classification.proofs.Progress.{goes}
 
 pub example : classesOutput (swapFile ∷ nullFile ∷ swapFile ∷ []) ≡ printed
 unfolding classesOutput notesText noteRecords totalRecords totalRecord members lowestFiles names note notesOf noteOf lowest file alike holdsLike isomorphic accepted swapFile nullFile printed fileRefusal isDigit value valueFrom numeralWithin numeral isBreak onto records fields rows recordText lineText rowsText fieldsOf orderOf cellsOf breakAt inBreak isAllowed firstOther fieldsQuestions isSquare range elements at all find keep sum count least member distinct lists product isElement associates badCell badTriple firstOf isHomomorphism isEmbedding isIsomorphism maps earliest orElse flatMap flatten
@@ -45,7 +45,7 @@ pub fifty-read : length (filesOf fullFolder) ≡ 50
 unfolding filesOf filesFrom fullFolder
 fifty-read = refl
 
--- A session goes on from its start.
+-- The program goes on from its start.
 pub start-goes : Goes start
 start-goes = goes start (omega arith) (λ e. let z : _≡_ {A = ℕ} 1 0 = e in let w : ⊥ = omega arith in w)
 

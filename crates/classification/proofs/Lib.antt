@@ -4,7 +4,7 @@ pub mod Files
 pub mod Classes
 pub mod Growth
 pub mod NextClass
-pub mod Session
+pub mod Progress
 pub mod Examples
 pub mod Held
 pub mod Text

@@ -15,7 +15,7 @@ use Rattle.semigroups.proofs.Booleans.{clash, untrue, both, and-left, and-right
 use Rattle.semigroups.proofs.Lists.{least-first, least-passes}
 use Rattle.classification.specs.Classes.{Note}
 use Rattle.classification.specs.Output.{note}
-use Rattle.classification.specs.Session.{namesOrder, nextClass}
+use Rattle.classification.specs.Progress.{namesOrder, nextClass}
 use Rattle.classification.proofs.Lists.{least-bound}
 
 module _ (notes : List Note) (n j : ℕ) where

@@ -8,21 +8,21 @@ use lib.ListN.{length, drop, length-append}
 use Rattle.semigroups.specs.Calls.{overwritten}
 use Rattle.classification.specs.Classes.{mostFiles, Note}
 use Rattle.classification.specs.Output.{notesText}
-use Rattle.classification.specs.Session.{Phase, reading, comparing, over, Session, start, wanted, step, SoundIn, Sound, left}
-use Rattle.classification.specs.Held.{notesIn, sessionOf}
+use Rattle.classification.specs.Progress.{Phase, reading, comparing, over, Progress, start, wanted, step, SoundIn, Sound, left}
+use Rattle.classification.specs.Held.{notesIn, progressOf}
 use Rattle.classification.specs.declared.Classifier.{Classifier}
-use Rattle.classification.proofs.Session.{goes}
+use Rattle.classification.proofs.Progress.{goes}
 use Rattle.classification.proofs.Steps.{count-notes}
 
-pub start-sound : (s : Session) → s ≡ start → Sound s
+pub start-sound : (s : Progress) → s ≡ start → Sound s
 start-sound s e = subst Sound (sym e) (let z : 0 ≤ mostFiles = omega arith in z)
 
-module _ (s : Session) (h : Sound s) (w : wanted s ≡ 0 → ⊥) (answer : Option (List ℕ)) {later : Session} (e : later ≡ step s answer) where
+module _ (s : Progress) (h : Sound s) (w : wanted s ≡ 0 → ⊥) (answer : Option (List ℕ)) {later : Progress} (e : later ≡ step s answer) where
   pub later-sound : Sound later
   later-sound = subst Sound (sym e) (goes s h w .sound answer)
 
   pub later-fewer : left later < left s
-  later-fewer = subst (λ (t : Session). left t < left s) (sym e) (goes s h w .fewer answer)
+  later-fewer = subst (λ (t : Progress). left t < left s) (sym e) (goes s h w .fewer answer)
 
 few : (notes : List Note) (phase : Phase) → SoundIn notes phase → length notes ≤ mostFiles
 few notes reading s = s
@@ -30,8 +30,8 @@ few notes (comparing n cells j) s = let s0 = s .0 in omega arith
 few notes over s = s
 
 -- There are at most fifty notes.
-pub few-notes : (c : Classifier) (cells : List ℕ) → Sound (sessionOf c cells) → c .count ≤ 50
-few-notes c cells s = let h = few (sessionOf c cells .notes) (sessionOf c cells .phase) s in let l = count-notes c cells in omega arith
+pub few-notes : (c : Classifier) (cells : List ℕ) → Sound (progressOf c cells) → c .count ≤ 50
+few-notes c cells s = let h = few (progressOf c cells .notes) (progressOf c cells .phase) s in let l = count-notes c cells in omega arith
 
 -- What is written lies within the buffer.
 pub text-within : (c : Classifier) (before : List ℕ) {p : ℕ} {out : List ℕ} → p ≡ length (notesText (notesIn c)) → out ≡ overwritten (notesText (notesIn c)) before → p ≤ length out

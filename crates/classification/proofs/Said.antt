@@ -15,13 +15,12 @@ use Rattle.semigroups.specs.Calls.{Answer, gives}
 use Rattle.semigroups.proofs.Tables.{no-refusal}
 use Rattle.semigroups.proofs.Maps.{no-isomorphism}
 use Rattle.semigroups.proofs.Booleans.{impossible}
-use Rattle.tables.proofs.Questions.{both-pass}
+use Rattle.tables.proofs.Questions.{both-pass, none-refused}
 use Rattle.search.specs.Calls.{Called, theFirst, lend, call}
 use Rattle.search.specs.Answers.{searchAnswerSays}
 use Rattle.search.specs.declared.SearchAnswer.{SearchAnswer}
 use Rattle.search.specs.declared.SearchAnswer.the-variants.{Found, Nothing, Refused, MapLength, ScratchLength}
 use Rattle.search.proofs.SearchAnswer as search-answer
-use Rattle.search.proofs.Answering.{none-refused}
 use Rattle.search.proofs.Calls.{not-refused}
 use Rattle.classification.specs.Classes.{isSome, isomorphic}
 

@@ -1,4 +1,4 @@
--- What each way through the code gives, as an equation to the session. Assumes nothing.
+-- What each way through the code gives, as an equation to the progress. Assumes nothing.
 use mathlib.Core.Path.{_≡_, refl, sym, ap, ap₂, _∙_, subst}
 use mathlib.Core.Bool.{Bool, true, false, _&&_, cond}
 use mathlib.Core.List.{List}
@@ -17,15 +17,15 @@ use Rattle.files.specs.Files.{fileRefusal, fileAnswer, room}
 use Rattle.files.proofs.Files.{Holds, accepted-file, refused-file}
 use Rattle.classification.specs.Classes.{mostFiles, isomorphic, holdsLike, Note, refusedBy, inClass}
 use Rattle.classification.specs.Output.{isIn}
-use Rattle.classification.specs.Session.{namesOrder, comparing, session, wantedIn, wanted, nextClass, noted, onward, begun, compared, stepIn, step, SoundIn, Sound}
-use Rattle.classification.specs.Held.{noteFrom, notesIn, phaseOf, sessionOf, answerOf, cellsThen}
+use Rattle.classification.specs.Progress.{namesOrder, comparing, progress, wantedIn, wanted, nextClass, noted, onward, begun, compared, stepIn, step, SoundIn, Sound}
+use Rattle.classification.specs.Held.{noteFrom, notesIn, phaseOf, progressOf, answerOf, cellsThen}
 use Rattle.classification.specs.declared.Task.{Task}
 use Rattle.classification.specs.declared.Task.the-variants.{Read, Compare, Stop}
 use Rattle.classification.specs.declared.Classifier.{Classifier}
 use Rattle.classification.proofs.Files.{passes-accepted, refused-not}
 use Rattle.classification.proofs.Said.{other-order}
 use Rattle.classification.proofs.Held.{length-from}
-use Rattle.classification.proofs.Session.{reading-room}
+use Rattle.classification.proofs.Progress.{reading-room}
 
 -- ---- a note
 
@@ -81,7 +81,7 @@ module _ (t cells : List ℕ) (size : length cells ≡ room) where
 -- ---- the class of a new file
 
 module _ (notes : List Note) (n : ℕ) (cells : List ℕ) (j : ℕ) where
-  pub onward-class : {i : ℕ} → i ≡ nextClass notes n j → i ≤ length notes → session notes (comparing n cells i) ≡ onward notes n cells j
+  pub onward-class : {i : ℕ} → i ≡ nextClass notes n j → i ≤ length notes → progress notes (comparing n cells i) ≡ onward notes n cells j
   unfolding onward
   onward-class {i} e h = rw (← e) (rw (le-leb i (length notes) h))
 
@@ -101,29 +101,29 @@ module _ (s : Classifier) (cells : List ℕ) where
   pub count-notes : length (notesIn s) ≡ s .count
   count-notes = length-from (s .orders) (s .numbers) (s .count)
 
-  wanted-at : {t : Task} → s .task ≡ t → wanted (sessionOf s cells) ≡ wantedIn (notesIn s) (phaseOf t cells)
+  wanted-at : {t : Task} → s .task ≡ t → wanted (progressOf s cells) ≡ wantedIn (notesIn s) (phaseOf t cells)
   wanted-at e = ap (λ (t : Task). wantedIn (notesIn s) (phaseOf t cells)) e
 
-  reading-at : (b : Bool) → s .task ≡ Read → ltb (s .count) mostFiles ≡ b → cond b (s .count + 1) 0 ≡ wanted (sessionOf s cells)
+  reading-at : (b : Bool) → s .task ≡ Read → ltb (s .count) mostFiles ≡ b → cond b (s .count + 1) 0 ≡ wanted (progressOf s cells)
   reading-at b e h = sym (wanted-at e ∙ ap₂ (λ (x : Bool) (k : ℕ). cond x k 0) (ap (λ (k : ℕ). ltb k mostFiles) count-notes ∙ h) (ap suc count-notes ∙ sym (add-one (s .count))))
 
-  pub wanted-new : s .task ≡ Read → s .count < 50 → s .count + 1 ≡ wanted (sessionOf s cells)
+  pub wanted-new : s .task ≡ Read → s .count < 50 → s .count + 1 ≡ wanted (progressOf s cells)
   wanted-new e h = reading-at true e (lt-ltb (s .count) mostFiles h)
 
-  pub wanted-full : s .task ≡ Read → 50 ≤ s .count → 0 ≡ wanted (sessionOf s cells)
+  pub wanted-full : s .task ≡ Read → 50 ≤ s .count → 0 ≡ wanted (progressOf s cells)
   wanted-full e h = reading-at false e (le-ltb (s .count) mostFiles h)
 
-  pub wanted-again : {n j : ℕ} → s .task ≡ Compare n j → j ≡ wanted (sessionOf s cells)
+  pub wanted-again : {n j : ℕ} → s .task ≡ Compare n j → j ≡ wanted (progressOf s cells)
   wanted-again e = sym (wanted-at e)
 
-  pub wanted-none : s .task ≡ Stop → 0 ≡ wanted (sessionOf s cells)
+  pub wanted-none : s .task ≡ Stop → 0 ≡ wanted (progressOf s cells)
   wanted-none e = sym (wanted-at e)
 
   -- A new file has room for its note.
-  pub room-new : s .task ≡ Read → (wanted (sessionOf s cells) ≡ 0 → ⊥) → s .count < 50
+  pub room-new : s .task ≡ Read → (wanted (progressOf s cells) ≡ 0 → ⊥) → s .count < 50
   room-new e w = let r = reading-room (notesIn s) (λ z. w (wanted-at e ∙ z)) .0 in let l = count-notes in omega arith
 
-  pub sound-again : {n j : ℕ} → s .task ≡ Compare n j → Sound (sessionOf s cells) → (s .count < 50) × Accepted n (take (n * n) cells) × Element (s .count) j
+  pub sound-again : {n j : ℕ} → s .task ≡ Compare n j → Sound (progressOf s cells) → (s .count < 50) × Accepted n (take (n * n) cells) × Element (s .count) j
   sound-again {n} {j} e S =
       let r : SoundIn (notesIn s) (comparing n (take (n * n) cells) j) = subst (λ (t : Task). SoundIn (notesIn s) (phaseOf t cells)) e S in
       let r0 = r .0 in
@@ -132,11 +132,11 @@ module _ (s : Classifier) (cells : List ℕ) where
       (omega arith, r .1, omega arith)
 
   module _ (opened : Bool) (text : List ℕ) {t : Task} {b : Bool} (e : s .task ≡ t) (f : opened ≡ b) where
-    pub step-at : stepIn (notesIn s) (phaseOf t cells) (answerOf b text) ≡ step (sessionOf s cells) (answerOf opened text)
+    pub step-at : stepIn (notesIn s) (phaseOf t cells) (answerOf b text) ≡ step (progressOf s cells) (answerOf opened text)
     step-at = sym (ap₂ (λ (u : Task) (x : Bool). stepIn (notesIn s) (phaseOf u cells) (answerOf x text)) e f)
 
-    pub stopped-at : t ≡ Stop → sessionOf s cells ≡ step (sessionOf s cells) (answerOf opened text)
-    stopped-at g = ap (λ (u : Task). session (notesIn s) (phaseOf u cells)) (e ∙ g) ∙ sym (ap (λ (u : Task). stepIn (notesIn s) (phaseOf u cells) (answerOf opened text)) (e ∙ g))
+    pub stopped-at : t ≡ Stop → progressOf s cells ≡ step (progressOf s cells) (answerOf opened text)
+    stopped-at g = ap (λ (u : Task). progress (notesIn s) (phaseOf u cells)) (e ∙ g) ∙ sym (ap (λ (u : Task). stepIn (notesIn s) (phaseOf u cells) (answerOf opened text)) (e ∙ g))
 
     pub cells-at : cellsThen t b text cells ≡ cellsThen (s .task) opened text cells
     cells-at = sym (ap₂ (λ (u : Task) (x : Bool). cellsThen u x text cells) e f)

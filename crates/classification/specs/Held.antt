@@ -1,4 +1,4 @@
--- What the code holds of a session: a byte for the order and one for the number of each note, and what comes next; the table in hand stands in a
+-- What the code holds of the progress: a byte for the order and one for the number of each note, and what comes next; the table in hand stands in a
 -- lent buffer of cells. Assumes nothing.
 use mathlib.Core.Bool.{Bool, true, false, cond}
 use mathlib.Core.List.{List, [], _∷_, map}
@@ -10,7 +10,7 @@ use Rattle.csv.specs.Records.{lineText}
 use Rattle.csv.specs.Calls.{cellsAfter}
 use Rattle.classification.specs.Classes.{Note, refusedBy, inClass}
 use Rattle.classification.specs.Output.{names, totalRecord}
-use Rattle.classification.specs.Session.{Phase, reading, comparing, over, Session, session}
+use Rattle.classification.specs.Progress.{Phase, reading, comparing, over, Progress, progress}
 use Rattle.classification.specs.declared.Task.{Task}
 use Rattle.classification.specs.declared.Task.the-variants.{Read, Compare, Stop}
 use Rattle.classification.specs.declared.Classifier.{Classifier}
@@ -31,8 +31,8 @@ phaseOf Read cells = reading
 phaseOf (Compare n j) cells = comparing n (take (n * n) cells) j
 phaseOf Stop cells = over
 
-abbrev pub sessionOf : Classifier → List ℕ → Session
-sessionOf c cells = session (notesIn c) (phaseOf (c .task) cells)
+abbrev pub progressOf : Classifier → List ℕ → Progress
+progressOf c cells = progress (notesIn c) (phaseOf (c .task) cells)
 
 -- The answer to what was asked for.
 abbrev pub answerOf : Bool → List ℕ → Option (List ℕ)

@@ -1,6 +1,6 @@
 pub mod Classes
 pub mod Output
 pub mod Laws
-pub mod Session
+pub mod Progress
 pub mod Example
 pub mod Held

@@ -13,8 +13,8 @@ ghost use Rattle.csv.specs.Calls.{cellsAfter};
 ghost use Rattle.files.specs.Files.{fileRefusal, room};
 ghost use Rattle.classification.specs.Classes as classes;
 ghost use Rattle.classification.specs.Output as output;
-ghost use Rattle.classification.specs.Session as sessions;
-ghost use Rattle.classification.specs.Held.{noteFrom, notesFrom, notesIn, sessionOf, answerOf, cellsThen, totalText, fileName};
+ghost use Rattle.classification.specs.Progress as progress;
+ghost use Rattle.classification.specs.Held.{noteFrom, notesFrom, notesIn, progressOf, answerOf, cellsThen, totalText, fileName};
 use files::FileVerdict;
 use files::failed_question;
 use files::load_then_check;
@@ -96,7 +96,7 @@ fn is_in(a: usize, order: u8, number: u8) -> bool
 
 // Whether file i, with this note, is the lowest of a class of tables of order n.
 fn names_order(n: usize, i: usize, order: u8, number: u8) -> bool
-    ensures answer { λ r. ⌜ r ≡ sessions.namesOrder n i (noteFrom order number) ⌝ }
+    ensures answer { λ r. ⌜ r ≡ progress.namesOrder n i (noteFrom order number) ⌝ }
 {
     if order == 0 {
         return false;
@@ -110,7 +110,7 @@ fn names_order(n: usize, i: usize, order: u8, number: u8) -> bool
 // The first class of tables of order n above file j, by its lowest file; one more than `count` where there is none.
 fn next_class(orders: &[u8; 50], numbers: &[u8; 50], count: usize, n: usize, j: usize) -> usize
     requires { ⌜ (count ≤ 50) × (j ≤ count) ⌝ }
-    ensures answer { λ r. ⌜ r ≡ sessions.nextClass (notesFrom (now (orders .entry)) (now (numbers .entry)) count) n j ⌝ }
+    ensures answer { λ r. ⌜ r ≡ progress.nextClass (notesFrom (now (orders .entry)) (now (numbers .entry)) count) n j ⌝ }
 {
     let mut i = j + 1;
     while i <= count {
@@ -249,7 +249,7 @@ fn put_totals(
 impl Classifier {
     // No file is read yet.
     pub fn start() -> Classifier
-        ensures answer { λ r. ⌜ ((cells : List ℕ) → sessionOf r cells ≡ sessions.start) ⌝ }
+        ensures answer { λ r. ⌜ ((cells : List ℕ) → progressOf r cells ≡ progress.start) ⌝ }
     {
         Classifier {
             count: 0,
@@ -261,7 +261,7 @@ impl Classifier {
 
     // The number of the file that is to be read next; 0 for none.
     pub fn wanted(self) -> usize
-        ensures answer { λ r. ⌜ ((cells : List ℕ) → r ≡ sessions.wanted (sessionOf self cells)) ⌝ }
+        ensures answer { λ r. ⌜ ((cells : List ℕ) → r ≡ progress.wanted (progressOf self cells)) ⌝ }
     {
         let task = self.task;
         match task {
@@ -279,7 +279,7 @@ impl Classifier {
     // One note more; the next file is a new one.
     fn noted(self, order: usize, number: usize) -> Classifier
         requires { ⌜ (self .count < 50) × (order < 256) × (number < 256) ⌝ }
-        ensures answer { λ r. ⌜ ((cells : List ℕ) → sessionOf r cells ≡ sessions.noted (notesIn self) (noteFrom order number)) ⌝ }
+        ensures answer { λ r. ⌜ ((cells : List ℕ) → progressOf r cells ≡ progress.noted (notesIn self) (noteFrom order number)) ⌝ }
     {
         let at = self.count;
         let mut orders = self.orders;
@@ -296,7 +296,7 @@ impl Classifier {
 
     // No file is read any more.
     fn stopped(self) -> Classifier
-        ensures answer { λ r. ⌜ ((cells : List ℕ) → sessionOf r cells ≡ sessions.session (notesIn self) sessions.over) ⌝ }
+        ensures answer { λ r. ⌜ ((cells : List ℕ) → progressOf r cells ≡ progress.progress (notesIn self) progress.over) ⌝ }
     {
         let orders = self.orders;
         let numbers = self.numbers;
@@ -311,7 +311,7 @@ impl Classifier {
     // Behind class j: the next class of tables of order n, or a class of its own.
     fn onward(self, n: usize, j: usize) -> Classifier
         requires { ⌜ (self .count < 50) × (1 ≤ n) × (n ≤ 120) × (j ≤ self .count) ⌝ }
-        ensures answer { λ r. ⌜ ((cells : List ℕ) → sessionOf r cells ≡ sessions.onward (notesIn self) n (take (n * n) cells) j) ⌝ }
+        ensures answer { λ r. ⌜ ((cells : List ℕ) → progressOf r cells ≡ progress.onward (notesIn self) n (take (n * n) cells) j) ⌝ }
     {
         let count = self.count;
         let orders = self.orders;
@@ -331,7 +331,7 @@ impl Classifier {
     // A new file is loaded into `cells`.
     fn begun(self, text: &[u8], cells: &mut [u8]) -> Classifier
         requires { ⌜ (self .count < 50) × (length (now cells) ≡ room) ⌝ }
-        ensures answer { λ r. ⌜ sessionOf r (now (cells .exit)) ≡ sessions.begun (notesIn self) (now (text .entry)) (fileRefusal (now (text .entry)) room) ⌝ }
+        ensures answer { λ r. ⌜ progressOf r (now (cells .exit)) ≡ progress.begun (notesIn self) (now (text .entry)) (fileRefusal (now (text .entry)) room) ⌝ }
         ensures cells { λ _. ⌜ now (cells .exit) ≡ cellsAfter (now (text .entry)) (now (cells .entry)) ⌝ }
     {
         let verdict = load_then_check(text, cells);
@@ -344,7 +344,7 @@ impl Classifier {
     // File j, read again, is compared with the new file's table of order n.
     fn compared(self, n: usize, j: usize, text: &[u8], cells: &[u8]) -> Classifier
         requires { ⌜ (self .count < 50) × (j ≤ self .count) × (length (now cells) ≡ room) × Accepted n (take (n * n) (now cells)) ⌝ }
-        ensures answer { λ r. ⌜ sessionOf r (now (cells .entry)) ≡ sessions.compared (notesIn self) n (take (n * n) (now (cells .entry))) j (classes.holdsLike (now (text .entry)) n (take (n * n) (now (cells .entry)))) ⌝ }
+        ensures answer { λ r. ⌜ progressOf r (now (cells .entry)) ≡ progress.compared (notesIn self) n (take (n * n) (now (cells .entry))) j (classes.holdsLike (now (text .entry)) n (take (n * n) (now (cells .entry)))) ⌝ }
     {
         let size = n * n;
         if holds_like(text, n, &cells[..size]) {
@@ -356,9 +356,9 @@ impl Classifier {
     // Takes what came of the file that was wanted: its bytes, or that it could not be opened. The new file's table is kept in `cells`.
     pub fn step(self, opened: bool, text: &[u8], cells: &mut [u8]) -> Classifier
         requires room { ⌜ length (now cells) ≡ room ⌝ }
-        requires sound { ⌜ sessions.Sound (sessionOf self (now cells)) ⌝ }
-        requires wanted { ⌜ (sessions.wanted (sessionOf self (now cells)) ≡ 0 → ⊥) ⌝ }
-        ensures answer { λ r. ⌜ sessionOf r (now (cells .exit)) ≡ sessions.step (sessionOf self (now (cells .entry))) (answerOf opened (now (text .entry))) ⌝ }
+        requires sound { ⌜ progress.Sound (progressOf self (now cells)) ⌝ }
+        requires wanted { ⌜ (progress.wanted (progressOf self (now cells)) ≡ 0 → ⊥) ⌝ }
+        ensures answer { λ r. ⌜ progressOf r (now (cells .exit)) ≡ progress.step (progressOf self (now (cells .entry))) (answerOf opened (now (text .entry))) ⌝ }
         ensures cells { λ _. ⌜ now (cells .exit) ≡ cellsThen (self .task) opened (now (text .entry)) (now (cells .entry)) ⌝ }
     {
         let task = self.task;

@@ -21,10 +21,9 @@ use Rattle.semigroups.proofs.Sums.{count-same}
 use Rattle.semigroups.proofs.ListOrder.{earlier-head, earlier-irreflexive, earlier-transitive, earlier-asymmetric}
 use Rattle.semigroups.proofs.Maps.{mem-maps, map-list, maps-increasing}
 use Rattle.semigroups.proofs.Tables.{no-refusal}
-use Rattle.tables.proofs.Questions.{both-pass}
+use Rattle.tables.proofs.Questions.{both-pass, none-refused}
 use Rattle.search.specs.Calls.{Called, Lent, Request, lend, askOf, answerOf, marksOf, call}
 use Rattle.search.specs.Answers.{requestOf}
-use Rattle.search.proofs.Answering.{none-refused}
 use Rattle.search.proofs.Calls.{not-refused}
 use Rattle.semigroups.specs.Questions.{Refusal, tableRefusal}
 use Rattle.semigroups.proofs.Booleans.{impossible}

@@ -26,8 +26,8 @@ use Rattle.sheets.specs.Names.{namesText, namesAt}
 use Rattle.sheets.specs.Questions.{loadNamesQuestions, loadNamesRefusal, saveNamesQuestions, saveNamesRefusal}
 use Rattle.sheets.specs.Calls.{loadNamesAnswer, saveNamesAnswer}
 use Rattle.sheets.proofs.Passing.{load-names-pass, save-names-pass, load-keeps, save-keeps}
-use Rattle.limited.specs.Calls.{firstWork, limitedCall}
-use Rattle.limited.proofs.Limits.{limits-theorem}
+use Rattle.search.specs.Limited.{firstWork, limitedCall}
+use Rattle.search.proofs.Limits.{limits-theorem}
 use Rattle.copies.specs.Answers.{copiesSays, copiesScratch}
 use Rattle.copies.proofs.Answering.{copies-keep}
 use Rattle.demands.specs.Added.{AddedCalls}

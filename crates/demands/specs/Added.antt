@@ -24,7 +24,7 @@ use Rattle.sheets.specs.Passing.{LoadNamesPass, SaveNamesPass}
 use Rattle.sheets.specs.Calls.{loadNamesAnswer, saveNamesAnswer, LoadKeeps, SaveKeeps}
 use Rattle.search.specs.Calls.{Lent, theFirst, refusalOf}
 use Rattle.search.specs.Wanted.{Passes}
-use Rattle.limited.specs.Calls.{firstWork, limitedCall}
+use Rattle.search.specs.Limited.{firstWork, limitedCall}
 use Rattle.copies.specs.Answers.{copiesSays, CopiesKeep}
 use Rattle.demands.specs.Answers.{Asks, Answers}
 

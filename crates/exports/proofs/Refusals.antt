@@ -31,7 +31,7 @@ use Rattle.csv.specs.Questions.{sizeQuestions, loadQuestions, loadRefusal, save
 use Rattle.csv.specs.Calls.{loadAnswer, saveAnswer}
 use Rattle.csv.proofs.Loading.{load-listed}
 use Rattle.search.specs.Calls.{Lent, Request, theFirst, refusalOf, answerOf, call}
-use Rattle.limited.specs.Calls.{firstWork, limitedCall}
+use Rattle.search.specs.Limited.{firstWork, limitedCall}
 use Rattle.exports.specs.Answers.{refusalWords, questionWords, answerWords, checkedValues, soughtValues, limitedValues, numberValues, degreeValues, copiesValues}
 use Rattle.planning.specs.Degrees.{leastDegree, degreeQuestions, degreeRefusal}
 use Rattle.planning.specs.Answers.{degreeSays}

@@ -15,8 +15,8 @@ ghost use Rattle.generated.specs.Answers.{generatorsVerdictRefusal, subsemigrou
 ghost use Rattle.copies.specs.Answers.{copiesSays, copiesScratch, copiesAnswerSays};
 ghost use Rattle.search.specs.Calls.{theFirst, theNext, lend, call};
 ghost use Rattle.search.specs.Answers.{searchAnswerSays};
-ghost use Rattle.limited.specs.Calls.{limitedCall};
-ghost use Rattle.limited.specs.Answers.{limitedAnswerSays};
+ghost use Rattle.engine.specs.Answers.{replySays};
+ghost use Rattle.search.specs.Limited.{limitedCall};
 ghost use Rattle.transformations.specs.Answers.{transformationSays, transformationCellsAfter, transformationAnswerSays};
 ghost use Rattle.csv.specs.Calls.{loadAnswer, cellsAfter, saveAnswer, textAfter};
 ghost use Rattle.text.specs.Answers.{loadedAnswer, savedAnswer};
@@ -26,11 +26,11 @@ ghost use Rattle.sheets.specs.Readings.{Reading};
 ghost use Rattle.sheets.specs.Calls.{loadNamesAnswer, namesAfter, lengthsAfter, saveNamesAnswer, sheetAfter};
 ghost use Rattle.names.specs.Answers.{namesAnswerSays};
 use copies::CopiesAnswer;
+use engine::Reply;
 use generated::GeneratorsVerdict;
 use generated::SubsemigroupAnswer;
 use invariants::IndexPeriodAnswer;
 use invariants::ProfileAnswer;
-use limited::LimitedAnswer;
 use maps::MapAnswer;
 use names::NamesAnswer;
 use numbers::refusal_words;
@@ -132,16 +132,16 @@ fn search_words(said: SearchAnswer) -> [u64; 16]
     }
 }
 
-fn limited_words(said: LimitedAnswer) -> [u64; 16]
-    ensures answer { λ r. ⌜ r ≡ answerWords limitedValues (limitedAnswerSays said) ⌝ }
+fn limited_words(said: Reply) -> [u64; 16]
+    ensures answer { λ r. ⌜ r ≡ answerWords limitedValues (replySays said) ⌝ }
 {
     match said {
-        LimitedAnswer::Found(trials) => words(0, 0, &[1, trials as usize]),
-        LimitedAnswer::Nothing(trials) => words(0, 0, &[0, trials as usize]),
-        LimitedAnswer::Stopped => words(0, 0, &[2]),
-        LimitedAnswer::Refused(side, fault) => refusal_words(fault.refusal().naming(side)),
-        LimitedAnswer::MapLength => refusal_words(Refusal::by(5, 0)),
-        LimitedAnswer::ScratchLength => refusal_words(Refusal::by(6, 0)),
+        Reply::Found(trials) => words(0, 0, &[1, trials as usize]),
+        Reply::Nothing(trials) => words(0, 0, &[0, trials as usize]),
+        Reply::Stopped => words(0, 0, &[2]),
+        Reply::Refused(side, fault) => refusal_words(fault.refusal().naming(side)),
+        Reply::MapLength => refusal_words(Refusal::by(5, 0)),
+        Reply::ScratchLength => refusal_words(Refusal::by(6, 0)),
     }
 }
 
@@ -455,7 +455,7 @@ pub extern "C" fn tickdrizzle_first_embedding_within(
     ensures map { λ _. ⌜ now (map .exit) ≡ limitedCall embeddings limit (lend (now (source .entry)) m (now (target .entry)) n (now (map .entry)) (now (scratch .entry))) .mapBytes ⌝ }
     ensures scratch { λ _. ⌜ now (scratch .exit) ≡ limitedCall embeddings limit (lend (now (source .entry)) m (now (target .entry)) n (now (map .entry)) (now (scratch .entry))) .scratch ⌝ }
 {
-    *answer = limited_words(limited::first_embedding_within(
+    *answer = limited_words(search::first_embedding_within(
         source,
         m,
         target,
@@ -481,7 +481,7 @@ pub extern "C" fn tickdrizzle_first_isomorphism_within(
     ensures map { λ _. ⌜ now (map .exit) ≡ limitedCall isomorphisms limit (lend (now (source .entry)) m (now (target .entry)) n (now (map .entry)) (now (scratch .entry))) .mapBytes ⌝ }
     ensures scratch { λ _. ⌜ now (scratch .exit) ≡ limitedCall isomorphisms limit (lend (now (source .entry)) m (now (target .entry)) n (now (map .entry)) (now (scratch .entry))) .scratch ⌝ }
 {
-    *answer = limited_words(limited::first_isomorphism_within(
+    *answer = limited_words(search::first_isomorphism_within(
         source,
         m,
         target,
@@ -525,7 +525,7 @@ pub extern "C" fn tickdrizzle_first_reversed_isomorphism_within(
     ensures map { λ _. ⌜ now (map .exit) ≡ limitedCall reversed limit (lend (now (source .entry)) m (now (target .entry)) n (now (map .entry)) (now (scratch .entry))) .mapBytes ⌝ }
     ensures scratch { λ _. ⌜ now (scratch .exit) ≡ limitedCall reversed limit (lend (now (source .entry)) m (now (target .entry)) n (now (map .entry)) (now (scratch .entry))) .scratch ⌝ }
 {
-    *answer = limited_words(limited::first_reversed_isomorphism_within(
+    *answer = limited_words(search::first_reversed_isomorphism_within(
         source,
         m,
         target,

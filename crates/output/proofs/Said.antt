@@ -13,12 +13,11 @@ use Rattle.semigroups.specs.Maps.{embeddings, found, sought}
 use Rattle.semigroups.specs.Calls.{gives, overwritten, mapUnless}
 use Rattle.semigroups.proofs.Calls.{gives-ne-refused, found-ne-nothing}
 use Rattle.semigroups.proofs.Tables.{no-refusal}
-use Rattle.tables.proofs.Questions.{both-pass}
+use Rattle.tables.proofs.Questions.{both-pass, none-refused}
 use Rattle.search.specs.Calls.{Called, theFirst, lend, answerOf, marksOf, call}
 use Rattle.search.specs.Answers.{searchAnswerSays}
 use Rattle.search.specs.declared.SearchAnswer.{SearchAnswer}
 use Rattle.search.specs.declared.SearchAnswer.the-variants.{Found, Nothing, Refused, MapLength, ScratchLength}
-use Rattle.search.proofs.Answering.{none-refused}
 use Rattle.search.proofs.Calls.{not-refused}
 use Rattle.csv.specs.Records.{lineText, rowsText}
 use Rattle.output.specs.Records.{noneWord, firstRecord, foundRecords, noneRecords}

@@ -1,4 +1,5 @@
 pub mod Calls
-pub mod Answering
-pub mod Turned
+pub mod Unlimited
+pub mod Limited
+pub mod Limits
 pub mod Demand3

@@ -5,6 +5,7 @@ use mathlib.Core.List.{[]}
 use Rattle.semigroups.specs.Questions.{no, naming}
 use Rattle.semigroups.specs.Calls.{Answer, refused, gives}
 use Rattle.semigroups.specs.Maps as maps
+use Rattle.semigroups.specs.Trials.{Limited, stopped, ended}
 use Rattle.tables.specs.Answers.{faultRefusal, sideNumber}
 use Rattle.search.specs.Calls.{Request, theFirst, theNext}
 use Rattle.search.specs.declared.SearchAnswer.{SearchAnswer}
@@ -21,3 +22,9 @@ searchAnswerSays ScratchLength = refused (no 6 [])
 abbrev pub requestOf : Bool → Request
 requestOf true = theNext
 requestOf false = theFirst
+
+-- What is said, without the number of trials; a search that may take all it needs is not stopped.
+abbrev pub withoutTrials : Answer Limited → Answer maps.Sought
+withoutTrials (refused r) = refused r
+withoutTrials (gives stopped) = gives maps.nothing
+withoutTrials (gives (ended found-or-not trials)) = gives found-or-not

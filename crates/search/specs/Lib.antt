@@ -2,3 +2,5 @@ pub mod Calls
 pub mod Wanted
 pub mod Answers
 pub mod Walks
+pub mod Limited
+pub mod Limits

@@ -16,7 +16,7 @@ use Rattle.semigroups.specs.Tables.{Product, Element, Closed}
 use Rattle.semigroups.specs.Maps.{Embedding, isEmbedding, embeddings, maps, Ask, first, next, beyond, earliest}
 use Rattle.semigroups.specs.Search.{notBefore, fits, passes, admits, search, wanted, earliestBehind, Among, Placed}
 use Rattle.semigroups.proofs.Booleans.{clash, untrue, both, and-left, and-right, not-of-false}
-use Rattle.semigroups.proofs.Lists.{mem-elements, at-suc, at-front, at-seam, length-snoc, each-at, each-of, pairs-at, pairs-of, none-find, find-same, find-keep, sorted-append, not-member, unmember}
+use Rattle.semigroups.proofs.Lists.{mem-elements, at-suc, at-front, at-seam, length-snoc, each-at, each-of, pairs-at, pairs-of, find-some, none-find, find-same, find-keep, sorted-append, not-member, unmember}
 use Rattle.semigroups.proofs.NoRepeats.{one-to-one, mem-place, place-mem}
 use Rattle.semigroups.proofs.ListOrder.{earlier-irreflexive, earlier-transitive, earlier-longer}
 use Rattle.semigroups.proofs.Completions.{behind, findBehind, find-all, find-whole, find-entry, firstOf-same}
@@ -198,6 +198,10 @@ module _ (m : ℕ) (s : Product) (n : ℕ) (t : Product) (candidate : ℕ → �
     search-behind =
         searches m [] (let z : 0 + m ≡ m = omega arith in z)
         (record { placed = placed-none n; passed = unfold passes all elements range in refl; among = λ i hi. absurd (let z : ⊥ = omega arith in z) })
+
+    -- Whatever the candidates, what it finds is a map.
+    pub search-map : (f : List ℕ) → search s t candidate ask n m [] ≡ some f → Embedding m s n t f
+    search-map f e = wanted-parts f (find-some asked (lists m n) f (find-all asked n m ∙ sym search-behind ∙ e) .1) .0
 
 -- ---- sound candidates
 

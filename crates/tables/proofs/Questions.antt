@@ -1,4 +1,4 @@
--- The questions about a table, one by one: what each way out of them answers. Assumes nothing.
+-- The questions about a table and those of a search, one by one: what each way out of them answers. Assumes nothing.
 use mathlib.Core.Path.{_≡_, refl, sym, ap₂, _∙_}
 use mathlib.Core.Bool.{cond, not}
 use mathlib.Core.List.{List, [], _∷_, map}
@@ -6,10 +6,12 @@ use mathlib.Core.Option.{Option, none, some, Option·map, orElse, map-eq-none-if
 use Prim.Native.Nat.{ℕ, _+_, _-_, _*_, _≤_, _<_}
 use native.Mathlib.Nat.{mul-le-mul}
 use borrow.Author.Tests.{le-leb, lt-leb, eq-eqb, ne-eqb}
+use lib.Dec.{eqb, leb}
 use lib.ListN.{length, getD}
 use Rattle.semigroups.specs.Lists.{elements, at, firstOf}
 use Rattle.semigroups.specs.Tables.{product, Element, isElement, badCell, badTriple, Filled, Accepted}
-use Rattle.semigroups.specs.Questions.{seek, onSide, Refusal, no, naming, refusalBy, firstNo, tripleQuestion, cellsQuestions, cellsRefusal, tableQuestions, tableRefusal, tablesRefusal}
+use Rattle.semigroups.specs.Scratch.{scratchSize}
+use Rattle.semigroups.specs.Questions.{Question, ask, seek, onSide, Refusal, no, naming, refusalBy, firstNo, tripleQuestion, cellsQuestions, cellsRefusal, tableQuestions, tableRefusal, tablesQuestions, tablesRefusal, searchRefusal}
 use Rattle.semigroups.proofs.Tables.{place-below, accepted}
 use Rattle.semigroups.proofs.Questions.{first-sided, first-append, failed-before, passed-before}
 use Rattle.semigroups.proofs.Completions.{orElse-nothing, orElse-none, find-firstOf, firstFrom, first-start, first-skip, first-hit, first-end}
@@ -116,3 +118,31 @@ module _ (m : ℕ) (source : List ℕ) (n : ℕ) (target : List ℕ) where
   tables-accepted e =
       let p = orElse-none (Option·map (naming 1) (tableRefusal m source)) (Option·map (naming 2) (tableRefusal n target)) (sym tables-first ∙ e) in
       (accepted m source (map-eq-none-iff (naming 1) (tableRefusal m source) .0 (p .0)), accepted n target (map-eq-none-iff (naming 2) (tableRefusal n target) .0 (p .1)))
+
+-- ---- the questions of a search, about both tables and both buffers
+
+module _ (m : ℕ) (source : List ℕ) (n : ℕ) (target : List ℕ) (k l : ℕ) where
+  -- 5 and 6.
+  abbrev buffers : List Question
+  buffers = ask 5 (eqb k m) ∷ ask 6 (leb (scratchSize m n) l) ∷ []
+
+  pub tables-refused : (r : Refusal) → tablesRefusal m source n target ≡ some r → searchRefusal m source n target k l ≡ some r
+  unfolding searchRefusal tablesRefusal
+  tables-refused r e = failed-before (tablesQuestions m source n target) buffers e
+
+  module _ (e : tablesRefusal m source n target ≡ none) where
+    buffers-left : searchRefusal m source n target k l ≡ firstNo buffers
+    unfolding searchRefusal tablesRefusal
+    buffers-left = passed-before (tablesQuestions m source n target) buffers e
+
+    pub map-refused : (k ≡ m → ⊥) → searchRefusal m source n target k l ≡ some (no 5 [])
+    unfolding firstOf orElse
+    map-refused h = buffers-left ∙ rw (ne-eqb k m h)
+
+    pub scratch-refused : k ≡ m → l < scratchSize m n → searchRefusal m source n target k l ≡ some (no 6 [])
+    unfolding firstOf orElse
+    scratch-refused q h = buffers-left ∙ rw (eq-eqb k m q, lt-leb (scratchSize m n) l h)
+
+    pub none-refused : k ≡ m → scratchSize m n ≤ l → searchRefusal m source n target k l ≡ none
+    unfolding firstOf orElse
+    none-refused q h = buffers-left ∙ rw (eq-eqb k m q, le-leb (scratchSize m n) l h)

@@ -1,4 +1,4 @@
--- `main` goes on while a file is wanted. The invariant: what holds of a session at all times, and which file is wanted; the measure is how many files may
+-- `main` goes on while a file is wanted. The invariant: what holds of the progress at all times, and which file is wanted; the measure is how many files may
 -- still be asked for. Assumes nothing.
 use mathlib.Core.Path.{_≡_, refl, sym, _∙_}
 use mathlib.Core.List.{List}
@@ -8,18 +8,18 @@ use native.Mathlib.Omega.{arith}
 use lib.ListN.{length, take}
 use lib.Seq.{length-take-le}
 use borrow.Author.Needs.{needs}
-use Rattle.classification.specs.Session as sessions
-use Rattle.classification.specs.Held.{sessionOf, answerOf}
+use Rattle.classification.specs.Progress as progress
+use Rattle.classification.specs.Held.{progressOf, answerOf}
 use Rattle.classification.proofs.Program.{start-sound, later-sound, later-fewer, few-notes, text-within}
 use Rattle.classes.proofs.main.Statement.{statement}
 use Rattle.classes.proofs.main.Tie as tie
 
 abbrev Inv-loop : tie.InvT-loop
 Inv-loop text₀ cells₀ out classifier₀ wanted₀ text cells classifier wanted =
-    (length text ≡ 57721) × (length cells ≡ 14400) × sessions.Sound (sessionOf classifier cells) × (wanted ≡ sessions.wanted (sessionOf classifier cells))
+    (length text ≡ 57721) × (length cells ≡ 14400) × progress.Sound (progressOf classifier cells) × (wanted ≡ progress.wanted (progressOf classifier cells))
 
 abbrev μ-loop : tie.MeasureT-loop
-μ-loop text₀ cells₀ out classifier₀ wanted₀ text cells classifier wanted = sessions.left (sessionOf classifier cells)
+μ-loop text₀ cells₀ out classifier₀ wanted₀ text cells classifier wanted = progress.left (progressOf classifier cells)
 
 -- What came of the file that was read.
 abbrev came : tie.After-read-file Inv-loop μ-loop → Option (List ℕ)
@@ -60,7 +60,7 @@ loop-less c =
     let l = c .before .before .before .before .before .before .before .before .loop in
     let v = l .inv in
     let t = c .before .before .before .before .before .before .before .loop-test .taken in
-    later-fewer (sessionOf (l .classifier) (l .cells)) (v .2) (λ e. t (v .3 ∙ e)) (came (c .before .before .before .before .before)) (c .before .before .step .ensures .0)
+    later-fewer (progressOf (l .classifier) (l .cells)) (v .2) (λ e. t (v .3 ∙ e)) (came (c .before .before .before .before .before)) (c .before .before .step .ensures .0)
 
 loop-again : tie.Need-loop-again Inv-loop μ-loop
 loop-again c =
@@ -70,7 +70,7 @@ loop-again c =
     let st = c .before .before .step in (
       c .before .before .before .before .before .read-file .ensures .1 ∙ v .0,
       st .kept .1 .1 .1 .0 ∙ v .1,
-      later-sound (sessionOf (l .classifier) (l .cells)) (v .2) (λ e. t (v .3 ∙ e)) (came (c .before .before .before .before .before)) (st .ensures .0),
+      later-sound (progressOf (l .classifier) (l .cells)) (v .2) (λ e. t (v .3 ∙ e)) (came (c .before .before .before .before .before)) (st .ensures .0),
       c .wanted2 .ensures _,
     )
 

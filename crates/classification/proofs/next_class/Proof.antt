@@ -3,7 +3,7 @@ use mathlib.Core.Path.{_≡_, sym, ap, _∙_}
 use Prim.Native.Nat.{_+_, _-_, _≤_, _<_}
 use native.Mathlib.Omega.{arith}
 use denote.Ref.{now}
-use Rattle.classification.specs.Session.{namesOrder}
+use Rattle.classification.specs.Progress.{namesOrder}
 use Rattle.classification.specs.Output.{note}
 use Rattle.classification.specs.Classes.{Note}
 use Rattle.classification.specs.Held.{notesFrom}

@@ -1,4 +1,4 @@
--- `tickdrizzle_first_embedding_within` meets its contract: it writes what `limited::first_embedding_within` answers, and both buffers are as that leaves them.
+-- `tickdrizzle_first_embedding_within` meets its contract: it writes what `search::first_embedding_within` answers, and both buffers are as that leaves them.
 -- Assumes nothing.
 use borrow.Author.Needs.{needs}
 use Rattle.exports.proofs.tickdrizzle_first_embedding_within.Statement.{statement}

@@ -4,7 +4,7 @@ use mathlib.Core.List.{List}
 use native.Mathlib.Omega.{arith}
 use lib.ListN.{length}
 use Rattle.classification.specs.Classes.{Note}
-use Rattle.classification.specs.Session.{reading, Session, session}
+use Rattle.classification.specs.Progress.{reading, Progress, progress}
 use Rattle.classification.proofs.Held.{notes-more}
 use borrow.Author.Needs.{needs}
 use Rattle.classification.proofs.Classifier.noted.Statement.{statement}
@@ -32,7 +32,7 @@ returns c =
     let p = s .pre .0 in
     let l : length (z .orders) ≡ 50 = search needs in
     let m : length (z .numbers) ≡ 50 = search needs in
-    λ cells. ap {B = Session} (λ (x : List Note). session x reading) (notes-more (z .orders) (z .numbers) (z .count) (s .args .order) (s .args .number) (omega arith) (omega arith))
+    λ cells. ap {B = Progress} (λ (x : List Note). progress x reading) (notes-more (z .orders) (z .numbers) (z .count) (s .args .order) (s .args .number) (omega arith) (omega arith))
 
 pub noted-spec : {M : Type 1} → statement M
 noted-spec =

@@ -1,0 +1,4 @@
+pub mod Calls
+pub mod Works
+pub mod Turned
+pub mod Marked

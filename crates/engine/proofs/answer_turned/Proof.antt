@@ -1,0 +1,82 @@
+-- `answer_turned` meets its contract: the room begins with the turned target, and isomorphisms onto that are the reversed ones. Assumes nothing.
+use mathlib.Core.Path.{_≡_, ap, _∙_}
+use mathlib.Core.List.{List}
+use Prim.Native.Nat.{ℕ, _*_, _≤_}
+use native.Mathlib.Omega.{arith}
+use borrow.Author.Needs.{needs}
+use denote.Ref.{now}
+use lib.ListN.{length}
+use Rattle.semigroups.specs.Maps.{isomorphisms}
+use Rattle.engine.specs.Finding.{called}
+use Rattle.engine.proofs.Calls.{as-called}
+use Rattle.engine.proofs.Turned.{turned-call, turned-part, part-accepted, part-length}
+use Rattle.engine.proofs.answer_turned.Statement.{statement}
+use Rattle.engine.proofs.answer_turned.Tie as tie
+
+-- What is known where the target is turned.
+module _ (c : tie.After-turn) where
+  abbrev start : tie.Start
+  start = c .before .before .before .before .before .before .before
+
+  abbrev n : ℕ
+  n = start .args .n
+
+  abbrev target : List ℕ
+  target = now (start .args .target)
+
+  abbrev room : List ℕ
+  room = c .turn .last .1 .1 .0
+
+  fits : n * n ≤ length room
+  fits = let k = c .turn .kept .1 .1 .0 in let h = start .pre .1 .1 in omega arith
+
+mul-size : tie.Need-mul-size
+mul-size c = search needs
+
+turn-requires : tie.Need-turn-requires
+turn-requires c κs = search needs
+
+slice-reshare-prefix-answer : tie.Need-slice-reshare-prefix-answer
+slice-reshare-prefix-answer c = search needs
+
+slice-aggregate-answer : tie.Need-slice-aggregate-answer
+slice-aggregate-answer c = let t = c .before .before .before in let z = start t in part-length (n t) (target t) (now (z .args .room)) (room t) (z .pre .0 .1) (fits t) (t .turn .ensures)
+
+answer-requires : tie.Need-answer-requires
+answer-requires c κs =
+    let t = c .before .before .before .before .before in
+    let z = start t in
+    ((z .pre .0 .0, part-accepted (n t) (target t) (now (z .args .room)) (room t) (z .pre .0 .1) (fits t) (t .turn .ensures)), z .pre .1 .0)
+
+same-length : tie.Need-same-length
+same-length c = search needs
+
+same-length-2 : tie.Need-same-length-2
+same-length-2 c = search needs
+
+same-length-3 : tie.Need-same-length-3
+same-length-3 c = search needs
+
+returns : tie.Need-returns
+returns c =
+    let t = c .before .before .before .before .before .before .before .before .before .before in
+    let z = start t in
+    let a = z .args in
+    as-called
+    (ap (λ (g : List ℕ). called isomorphisms (a .next) (a .limit) (a .m) (now (a .source)) (n t) g (now (a .map)) (now (a .scratch))) (turned-part (n t) (target t) (now (a .room)) (room t) (z .pre .0 .1) (fits t) (t .turn .ensures))
+    ∙ turned-call (a .next) (a .limit) (a .m) (now (a .source)) (n t) (target t) (now (a .map)) (now (a .scratch)) (record { check = record { source-table = z .pre .0 .0; target-table = z .pre .0 .1; map-size = z .pre .1 .0 .0 }; scratch-room = z .pre .1 .0 .1 }))
+    (c .before .before .before .before .answer .ensures)
+
+pub answer-turned-spec : {M : Type 1} → statement M
+answer-turned-spec =
+    tie.close
+    (tie.spec
+    mul-size
+    turn-requires
+    slice-reshare-prefix-answer
+    slice-aggregate-answer
+    answer-requires
+    same-length
+    same-length-2
+    same-length-3
+    returns)
