@@ -72,15 +72,22 @@ module _ (s : Product) (m : ℕ) (t : Product) (n : ℕ) (scratch after : List �
       ∙ whole s t (marked n scratch) n after (prefix p) tight same (omega arith) ∙ ap (λ (d : ℕ). counted s t (marked n scratch) (bounded tight after) n d (prefix p)) e
 
   module _ (limit : ℕ) where
-    pub done-bound : m ≤ p .len → tight ≡ true → record { stopped = false; left = limit; ok = false; image = replicate 120 0 } ≡ outcomeOf (within limit Whole)
+    done-bound : m ≤ p .len → tight ≡ true → record { stopped = false; left = limit; ok = false; image = replicate 120 0 } ≡ outcomeOf (within limit Whole)
     unfolding outcomeOf foundIn
     done-bound h e = ap outcomeOf (sym (within-nothing limit none) ∙ ap (within limit) (done h true e))
 
-    pub done-found : m ≤ p .len → tight ≡ false → record { stopped = false; left = limit; ok = true; image = p .image } ≡ outcomeOf (within limit Whole)
+    done-found : m ≤ p .len → tight ≡ false → record { stopped = false; left = limit; ok = true; image = p .image } ≡ outcomeOf (within limit Whole)
     unfolding outcomeOf foundIn
     done-found h e =
         ap {B = Outcome} (λ (l : List ℕ). record { stopped = false; left = limit; ok = true; image = l }) (image-padded n (p .image) (p .used) (p .len) (Q .holds .placing))
         ∙ ap outcomeOf (sym (within-nothing limit (some (prefix p))) ∙ ap (within limit) (done h false e))
+
+    pub done-whole : m ≤ p .len → record { stopped = false; left = limit; ok = not tight; image = cond tight (replicate 120 0) (p .image) } ≡ outcomeOf (within limit Whole)
+    done-whole h = go tight refl
+      where
+        go : (b : Bool) → tight ≡ b → record { stopped = false; left = limit; ok = not b; image = cond b (replicate 120 0) (p .image) } ≡ outcomeOf (within limit Whole)
+        go true e = done-bound h e
+        go false e = done-found h e
 
   module _ (room : p .len < m) where
     short : length (prefix p) < length after

@@ -2,7 +2,7 @@
 // inside that for element i, and returning means going back. A placing is tested by the products of the new element alone: what the pairs placed
 // before ask of it stands in constraints.
 ghost use mathlib.Core.Path.{_≡_};
-ghost use mathlib.Core.Bool.{true, false, cond, _&&_};
+ghost use mathlib.Core.Bool.{true, false, cond, _&&_, not};
 ghost use mathlib.Core.List.{[], _∷_, _++_};
 ghost use mathlib.Core.Option.{none};
 ghost use Prim.Native.Nat.{ℕ, _+_, _-_, _≤_, _<_};
@@ -150,6 +150,21 @@ fn no_map(stopped: bool, left: u32) -> Outcome
     }
 }
 
+// Every element has its image: a map is found, unless it is the bound itself.
+fn whole(tight: bool, limit: u32, image: [u8; 120]) -> Outcome
+    ensures answer { λ r. ⌜ r ≡ record { stopped = false; left = limit; ok = not tight; image = cond tight (replicate 120 0) image } ⌝ }
+{
+    if tight {
+        return no_map(false, limit);
+    }
+    Outcome {
+        stopped: false,
+        left: limit,
+        ok: true,
+        image,
+    }
+}
+
 // One trial more is paid for.
 fn pay(left: u32) -> Paid
     ensures answer { λ r. ⌜ cond (r .enough) (remaining (r .left) none) exhausted ≡ within left (work none 1) ⌝ }
@@ -185,16 +200,7 @@ fn extend(
 {
     let at = p.len;
     if m <= at {
-        if tight {
-            return no_map(false, limit);
-        }
-        let image = p.image;
-        return Outcome {
-            stopped: false,
-            left: limit,
-            ok: true,
-            image,
-        };
+        return whole(tight, limit, p.image);
     }
     let low: usize = if tight { after[at] as usize } else { 0 };
     let mut left: u32 = limit;
@@ -207,31 +213,15 @@ fn extend(
             }
             left = paid.left;
             // A look by reference first, so that an image that does not fit costs no copy of the map. The test decides.
-            if constraints::passes_with(
-                source,
-                m,
-                target,
-                n,
-                &p.image,
-                &p.used,
-                &p.forced,
-                &p.owner,
-                at,
-                x,
-            ) {
+            let image = &p.image;
+            let used = &p.used;
+            let forced = &p.forced;
+            let owner = &p.owner;
+            if constraints::passes_with(source, m, target, n, image, used, forced, owner, at, x) {
                 let q = p.place(n, x).test(source, m, target, n);
                 if q.ok {
-                    let r = extend(
-                        source,
-                        m,
-                        target,
-                        n,
-                        scratch,
-                        after,
-                        x == low,
-                        left,
-                        q.partial,
-                    );
+                    let same = x == low;
+                    let r = extend(source, m, target, n, scratch, after, same, left, q.partial);
                     if r.stopped {
                         return r;
                     }

@@ -18,7 +18,7 @@ use Rattle.backtrack.specs.State.{Remainder, exhausted, remaining, withi
 use Rattle.backtrack.specs.declared.Outcome.{Outcome}
 use Rattle.constraints.proofs.Placing.{as-trial}
 use Rattle.backtrack.proofs.Steps.{lowest}
-use Rattle.backtrack.proofs.Extending.{Called, Rest, Turn, Verdict, handed-on, done-bound, done-found, begins, ends, row-marked, unused, skip, stop, refuse, handed-passes, onward, halt, found, fail}
+use Rattle.backtrack.proofs.Extending.{Called, Rest, Turn, Verdict, handed-on, done-whole, begins, ends, row-marked, unused, skip, stop, refuse, handed-passes, onward, halt, found, fail}
 use Rattle.backtrack.proofs.extend.Reads as extend
 use Rattle.backtrack.proofs.extend.Kinds as extend-kinds
 use Rattle.backtrack.proofs.+extend.Lts-extend as extend-lts
@@ -28,6 +28,7 @@ use Rattle.backtrack.proofs.no_map.Reads as no-map-reads
 use Rattle.backtrack.proofs.open.Reads as open-reads
 use Rattle.constraints.proofs.passes_with.Reads as passes-with-reads
 use Rattle.backtrack.proofs.pay.Reads as pay-reads
+use Rattle.backtrack.proofs.whole.Reads as whole-reads
 use Rattle.backtrack.proofs.+extend.{statement}
 use Rattle.backtrack.proofs.+extend.Tie.{close}
 
@@ -50,7 +51,7 @@ extend-μ-loop source m target n scratch after tight limit p at low left₀ x₀
 -- What the calls ask and tell.
 abbrev calls : ℕ → extend-lts.Claims
 calls t =
-    (no-map-reads.Asked, no-map-reads.Learnt, open-reads.Asked, open-reads.Learnt, pay-reads.Asked, pay-reads.Learnt, passes-with-reads.Asked, passes-with-reads.Learnt, place-reads.Asked, place-reads.Learnt, test-reads.Asked, test-reads.Learnt, extend-below t, extend.Post)
+    (whole-reads.Asked, whole-reads.Learnt, open-reads.Asked, open-reads.Learnt, pay-reads.Asked, pay-reads.Learnt, no-map-reads.Asked, no-map-reads.Learnt, passes-with-reads.Asked, passes-with-reads.Learnt, place-reads.Asked, place-reads.Learnt, test-reads.Asked, test-reads.Learnt, extend-below t, extend.Post)
 
 abbrev Start : ℕ → Type 0
 Start t = extend-lts.Start (calls t) (extend-at t) extend.Post extend-Inv-loop extend-μ-loop
@@ -63,7 +64,7 @@ start t k = k .before .before .before .before .before .before .before .before .b
 
 -- The turn, once `open` has answered.
 turn : (t : ℕ) (k : Opened t) → let a = start t k .args in
-    Turn (product (a .m) (a .source .now)) (a .m) (product (a .n) (a .target .now)) (a .n) (a .scratch .now) (a .after .now) (a .tight) (a .limit) (a .t9) (k .before .before .before .before .before .if3 .low) (k .before .before .before .before .loop .left) (k .before .before .before .before .loop .x) (k .«open» .result)
+    Turn (product (a .m) (a .source .now)) (a .m) (product (a .n) (a .target .now)) (a .n) (a .scratch .now) (a .after .now) (a .tight) (a .limit) (a .t9) (k .before .before .before .before .before .if2 .low) (k .before .before .before .before .loop .left) (k .before .before .before .before .loop .x) (k .«open» .result)
 turn t k =
     let z = start t k in
     let source = z .pre .1 .0 .0 in
@@ -104,8 +105,8 @@ tested t k =
       same-length = test .1 .1 .1;
     }
 
-extend-no-map-requires : (t : ℕ) → extend-lts.Need-no-map-requires (calls t) (extend-at t) extend.Post extend-Inv-loop extend-μ-loop
-extend-no-map-requires t c κs = search needs
+extend-whole-requires : (t : ℕ) → extend-lts.Need-whole-requires (calls t) (extend-at t) extend.Post extend-Inv-loop extend-μ-loop
+extend-whole-requires t c κs = search needs
 
 extend-returns : (t : ℕ) → extend-lts.Need-returns (calls t) (extend-at t) extend.Post extend-Inv-loop extend-μ-loop
 extend-returns t c =
@@ -113,15 +114,7 @@ extend-returns t c =
     let a = z .args in
     let s = product (a .m) (a .source .now) in
     let r = product (a .n) (a .target .now) in
-    c .no-map .ensures ∙ done-bound s (a .m) r (a .n) (a .scratch .now) (a .after .now) (a .tight) (a .t9) (z .pre .1 .1) (a .limit) (c .before .before .if1 .taken) (c .before .if2 .taken)
-
-extend-returns-2 : (t : ℕ) → extend-lts.Need-returns-2 (calls t) (extend-at t) extend.Post extend-Inv-loop extend-μ-loop
-extend-returns-2 t c =
-    let z = c .before .before .before .before .before .before .before in
-    let a = z .args in
-    let s = product (a .m) (a .source .now) in
-    let r = product (a .n) (a .target .now) in
-    done-found s (a .m) r (a .n) (a .scratch .now) (a .after .now) (a .tight) (a .t9) (z .pre .1 .1) (a .limit) (c .before .before .if1 .taken) (c .before .if2 .left)
+    c .whole .ensures ∙ done-whole s (a .m) r (a .n) (a .scratch .now) (a .after .now) (a .tight) (a .t9) (z .pre .1 .1) (a .limit) (c .before .before .if1 .taken)
 
 extend-shared-slice-read-low : (t : ℕ) → extend-lts.Need-shared-slice-read-low (calls t) (extend-at t) extend.Post extend-Inv-loop extend-μ-loop
 extend-shared-slice-read-low t c = let b = c .before .before .before .before .before .before .before .pre .1 .1 .bound in let e = c .before .before .if1 .left in omega arith
@@ -135,7 +128,7 @@ extend-loop-holds t c =
     let a = z .args in
     let s = product (a .m) (a .source .now) in
     let r = product (a .n) (a .target .now) in
-    (omega arith, omega arith, ⊎-elim (λ w. w .2 ∙ rw (w .0 .taken)) (λ w. w .1 ∙ rw (w .0 .left)) (c .if3 .came), ap (within (a .limit)) (begins s (a .m) r (a .n) (a .scratch .now) (a .after .now) (a .tight) (a .t9) (z .pre .1 .1) (c .before .if1 .left)))
+    (omega arith, omega arith, ⊎-elim (λ w. w .2 ∙ rw (w .0 .taken)) (λ w. w .1 ∙ rw (w .0 .left)) (c .if2 .came), ap (within (a .limit)) (begins s (a .m) r (a .n) (a .scratch .now) (a .after .now) (a .tight) (a .t9) (z .pre .1 .1) (c .before .if1 .left)))
 
 extend-add-open : (t : ℕ) → extend-lts.Need-add-open (calls t) (extend-at t) extend.Post extend-Inv-loop extend-μ-loop
 extend-add-open t c = let m = c .before .before .before .before .before .before .before .before .before .before .pre .1 .0 .0 .order in let e = c .before .before .before .before .before .if1 .left in omega arith
@@ -155,13 +148,13 @@ extend-open-requires t c κs =
 extend-pay-requires : (t : ℕ) → extend-lts.Need-pay-requires (calls t) (extend-at t) extend.Post extend-Inv-loop extend-μ-loop
 extend-pay-requires t c κs = search needs
 
-extend-no-map-requires-2 : (t : ℕ) → extend-lts.Need-no-map-requires-2 (calls t) (extend-at t) extend.Post extend-Inv-loop extend-μ-loop
-extend-no-map-requires-2 t c κs = search needs
+extend-no-map-requires : (t : ℕ) → extend-lts.Need-no-map-requires (calls t) (extend-at t) extend.Post extend-Inv-loop extend-μ-loop
+extend-no-map-requires t c κs = search needs
 
-extend-returns-3 : (t : ℕ) → extend-lts.Need-returns-3 (calls t) (extend-at t) extend.Post extend-Inv-loop extend-μ-loop
-extend-returns-3 t c =
+extend-returns-2 : (t : ℕ) → extend-lts.Need-returns-2 (calls t) (extend-at t) extend.Post extend-Inv-loop extend-μ-loop
+extend-returns-2 t c =
     let y = c .before .before .before .pay in
-    c .no-map2 .ensures ∙ stop (turn t (c .before .before .before .before .before)) (c .before .before .before .before .if4 .taken) (unpaid (y .result .enough) (y .result .left) _ (y .ensures) (c .before .if5 .taken))
+    c .no-map .ensures ∙ stop (turn t (c .before .before .before .before .before)) (c .before .before .before .before .if3 .taken) (unpaid (y .result .enough) (y .result .left) _ (y .ensures) (c .before .if4 .taken))
 
 extend-passes-with-requires : (t : ℕ) → extend-lts.Need-passes-with-requires (calls t) (extend-at t) extend.Post extend-Inv-loop extend-μ-loop
 extend-passes-with-requires t c κs =
@@ -170,14 +163,14 @@ extend-passes-with-requires t c κs =
     let p = a .t9 in
     let T = turn t k in
     let holds = T .ready .holds in
-    (start t k .pre .1 .0, ((as-trial (a .n) (p .image) (p .used) (p .len) (holds .placing) (k .before .before .before .before .loop .x) (T .element) (omega arith), T .room, unused T (c .before .before .before .before .before .before .before .before .if4 .taken)), (holds .tracks, T .ready .passed)))
+    (start t k .pre .1 .0, ((as-trial (a .n) (p .image) (p .used) (p .len) (holds .placing) (k .before .before .before .before .loop .x) (T .element) (omega arith), T .room, unused T (c .before .before .before .before .before .before .before .before .if3 .taken)), (holds .tracks, T .ready .passed)))
 
 extend-place-requires : (t : ℕ) → extend-lts.Need-place-requires (calls t) (extend-at t) extend.Post extend-Inv-loop extend-μ-loop
 extend-place-requires t c κs =
     let T = turn t (c .before .before .before .before .before .before .before .before .before .before .before) in
     let room = T .room in
     let orders = T .orders in
-    (T .ready .holds .placing, (T .element, orders .1, omega arith, unused T (c .before .before .before .before .before .before .before .before .before .before .if4 .taken)))
+    (T .ready .holds .placing, (T .element, orders .1, omega arith, unused T (c .before .before .before .before .before .before .before .before .before .before .if3 .taken)))
 
 extend-test-requires : (t : ℕ) → extend-lts.Need-test-requires (calls t) (extend-at t) extend.Post extend-Inv-loop extend-μ-loop
 extend-test-requires t c κs =
@@ -201,37 +194,37 @@ extend-extend-requires t c κs =
     let z = start t k in
     let T = turn t k in
     let y = w .before .before .before .before .before .before .before .before .before .before .before .pay in
-    let p = paid (y .result .enough) (y .result .left) _ (y .ensures) (w .before .before .before .before .before .before .before .before .before .if5 .left) in
-    let o = w .before .before .before .before .before .before .before .before .before .before .before .before .if4 .taken in
+    let p = paid (y .result .enough) (y .result .left) _ (y .ensures) (w .before .before .before .before .before .before .before .before .before .if4 .left) in
+    let o = w .before .before .before .before .before .before .before .before .before .before .before .before .if3 .taken in
     let room = T .room in
     let v = tested t w in
     let one = v .one-more in
     let same = v .same-length in
-    (subst (λ (j : ℕ). z .args .m - w .test .result .partial .len < j) (z .pre .0) (omega arith), (z .pre .1 .0, onward T o (y .result .left) p (w .before .place .result) (w .test .result .partial) (w .test .result .ok) v (c .if7 .taken) (w .test .ensures .1 .0)))
+    (subst (λ (j : ℕ). z .args .m - w .test .result .partial .len < j) (z .pre .0) (omega arith), (z .pre .1 .0, onward T o (y .result .left) p (w .before .place .result) (w .test .result .partial) (w .test .result .ok) v (c .if6 .taken) (w .test .ensures .1 .0)))
 
-extend-returns-4 : (t : ℕ) → extend-lts.Need-returns-4 (calls t) (extend-at t) extend.Post extend-Inv-loop extend-μ-loop
-extend-returns-4 t c =
+extend-returns-3 : (t : ℕ) → extend-lts.Need-returns-3 (calls t) (extend-at t) extend.Post extend-Inv-loop extend-μ-loop
+extend-returns-3 t c =
     let w = c .before .before .before in
     let k = w .before .before .before .before .before .before .before .before .before .before .before .before .before in
     let z = start t k in
     let T = turn t k in
     let y = w .before .before .before .before .before .before .before .before .before .before .before .pay in
-    let p = paid (y .result .enough) (y .result .left) _ (y .ensures) (w .before .before .before .before .before .before .before .before .before .if5 .left) in
-    let o = w .before .before .before .before .before .before .before .before .before .before .before .before .if4 .taken in
+    let p = paid (y .result .enough) (y .result .left) _ (y .ensures) (w .before .before .before .before .before .before .before .before .before .if4 .left) in
+    let o = w .before .before .before .before .before .before .before .before .before .before .before .before .if3 .taken in
     let i = c .before .extend in
-    i .ensures ∙ halt T o (y .result .left) p (w .before .place .result) (w .test .result .partial) (w .test .result .ok) (tested t w) (c .before .before .if7 .taken) (ap (λ (r : Outcome). r .stopped) (sym (i .ensures)) ∙ c .if8 .taken)
+    i .ensures ∙ halt T o (y .result .left) p (w .before .place .result) (w .test .result .partial) (w .test .result .ok) (tested t w) (c .before .before .if6 .taken) (ap (λ (r : Outcome). r .stopped) (sym (i .ensures)) ∙ c .if7 .taken)
 
-extend-returns-5 : (t : ℕ) → extend-lts.Need-returns-5 (calls t) (extend-at t) extend.Post extend-Inv-loop extend-μ-loop
-extend-returns-5 t c =
+extend-returns-4 : (t : ℕ) → extend-lts.Need-returns-4 (calls t) (extend-at t) extend.Post extend-Inv-loop extend-μ-loop
+extend-returns-4 t c =
     let w = c .before .before .before .before in
     let k = w .before .before .before .before .before .before .before .before .before .before .before .before .before in
     let z = start t k in
     let T = turn t k in
     let y = w .before .before .before .before .before .before .before .before .before .before .before .pay in
-    let p = paid (y .result .enough) (y .result .left) _ (y .ensures) (w .before .before .before .before .before .before .before .before .before .if5 .left) in
-    let o = w .before .before .before .before .before .before .before .before .before .before .before .before .if4 .taken in
+    let p = paid (y .result .enough) (y .result .left) _ (y .ensures) (w .before .before .before .before .before .before .before .before .before .if4 .left) in
+    let o = w .before .before .before .before .before .before .before .before .before .before .before .before .if3 .taken in
     let i = c .before .before .extend in
-    i .ensures ∙ found T o (y .result .left) p (w .before .place .result) (w .test .result .partial) (w .test .result .ok) (tested t w) (c .before .before .before .if7 .taken) (ap (λ (r : Outcome). r .ok) (sym (i .ensures)) ∙ c .if9 .taken)
+    i .ensures ∙ found T o (y .result .left) p (w .before .place .result) (w .test .result .partial) (w .test .result .ok) (tested t w) (c .before .before .before .if6 .taken) (ap (λ (r : Outcome). r .ok) (sym (i .ensures)) ∙ c .if8 .taken)
 
 extend-add-x : (t : ℕ) → extend-lts.Need-add-x (calls t) (extend-at t) extend.Post extend-Inv-loop extend-μ-loop
 extend-add-x t c = let n = c .before .before .before .before .before .before .before .before .before .before .before .before .pre .1 .0 .1 .order in let t = c .before .before .before .before .loop-test .taken in omega arith
@@ -261,20 +254,20 @@ extend-loop-again t c =
           (⊎-elim
           (λ w. refuse T (w .0 .taken) (w .1 .result .left) (paid (w .1 .result .enough) (w .1 .result .left) _ (w .1 .ensures) (w .3 .left)) (sym (w .9 .ensures) ∙ w .10 .left) ∙ rw (w .11))
           (λ w. skip T (w .0 .left) ∙ rw (w .1))))
-          (c .if4 .came),
+          (c .if3 .came),
     )
 
-extend-no-map-requires-3 : (t : ℕ) → extend-lts.Need-no-map-requires-3 (calls t) (extend-at t) extend.Post extend-Inv-loop extend-μ-loop
-extend-no-map-requires-3 t c κs = search needs
+extend-no-map-requires-2 : (t : ℕ) → extend-lts.Need-no-map-requires-2 (calls t) (extend-at t) extend.Post extend-Inv-loop extend-μ-loop
+extend-no-map-requires-2 t c κs = search needs
 
-extend-returns-6 : (t : ℕ) → extend-lts.Need-returns-6 (calls t) (extend-at t) extend.Post extend-Inv-loop extend-μ-loop
-extend-returns-6 t c =
+extend-returns-5 : (t : ℕ) → extend-lts.Need-returns-5 (calls t) (extend-at t) extend.Post extend-Inv-loop extend-μ-loop
+extend-returns-5 t c =
     let z = c .before .before .before .before .before .before .before .before .before in
     let a = z .args in
     let s = product (a .m) (a .source .now) in
     let r = product (a .n) (a .target .now) in
     let l = c .before .before .loop in
-    c .no-map3 .ensures ∙ ends s (a .m) r (a .n) (a .scratch .now) (a .after .now) (a .tight) (a .t9) (z .pre .1 .1) (c .before .before .before .before .if1 .left) (a .limit) (l .left) (l .x) (c .before .loop-test .left) (l .inv .3)
+    c .no-map2 .ensures ∙ ends s (a .m) r (a .n) (a .scratch .now) (a .after .now) (a .tight) (a .t9) (z .pre .1 .1) (c .before .before .before .before .if1 .left) (a .limit) (l .left) (l .x) (c .before .loop-test .left) (l .inv .3)
 
 pub +extend-spec : {M : Type 1} → statement M
 +extend-spec = close μ-extend λ t. extend-lts.spec (calls t)
@@ -282,25 +275,24 @@ pub +extend-spec : {M : Type 1} → statement M
     extend.Post
     extend-Inv-loop
     extend-μ-loop
-    (extend-no-map-requires t)
+    (extend-whole-requires t)
     (extend-returns t)
-    (extend-returns-2 t)
     (extend-shared-slice-read-low t)
     (extend-cast-low t)
     (extend-loop-holds t)
     (extend-add-open t)
     (extend-open-requires t)
     (extend-pay-requires t)
-    (extend-no-map-requires-2 t)
-    (extend-returns-3 t)
+    (extend-no-map-requires t)
+    (extend-returns-2 t)
     (extend-passes-with-requires t)
     (extend-place-requires t)
     (extend-test-requires t)
     (extend-extend-requires t)
+    (extend-returns-3 t)
     (extend-returns-4 t)
-    (extend-returns-5 t)
     (extend-add-x t)
     (extend-loop-less t)
     (extend-loop-again t)
-    (extend-no-map-requires-3 t)
-    (extend-returns-6 t)
+    (extend-no-map-requires-2 t)
+    (extend-returns-5 t)
