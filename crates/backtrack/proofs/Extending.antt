@@ -45,15 +45,15 @@ none-found none e = refl
 none-found (some f) e = absurd (false≢true (sym e))
 
 -- The work of a call, and what is left of it from x on.
-abbrev pub Called : Product → ℕ → Product → ℕ → List ℕ → List ℕ → Bool → Partial → Work
-Called s m t n scratch after tight p = counted s t (marked n scratch) (bounded tight after) n (m - p .len) (prefix p)
+abbrev pub Ahead : Product → ℕ → Product → ℕ → List ℕ → List ℕ → Bool → Partial → Work
+Ahead s m t n scratch after tight p = counted s t (marked n scratch) (bounded tight after) n (m - p .len) (prefix p)
 
 abbrev pub Rest : Product → ℕ → Product → ℕ → List ℕ → List ℕ → Bool → Partial → ℕ → Work
 Rest s m t n scratch after tight p x = leftFrom s t (marked n scratch) (bounded tight after) n (m - (p .len + 1)) (prefix p) x
 
 module _ (s : Product) (m : ℕ) (t : Product) (n : ℕ) (scratch after : List ℕ) (tight : Bool) (p : Partial) (Q : Ready s m t n scratch after tight p) where
   abbrev Whole : Work
-  Whole = Called s m t n scratch after tight p
+  Whole = Ahead s m t n scratch after tight p
 
   long : length (prefix p) ≡ p .len
   long = prefix-length n (p .image) (p .used) (p .len) (Q .holds .placing)
@@ -119,7 +119,7 @@ pub record Turn (s : Product) (m : ℕ) (t : Product) (n : ℕ) (scratch after :
   pub room : p .len < m
   pub bound : low ≡ lowest tight after (p .len)
   pub element : Element n x
-  pub so-far : within limit (Called s m t n scratch after tight p) ≡ within left (Rest s m t n scratch after tight p x)
+  pub so-far : within limit (Ahead s m t n scratch after tight p) ≡ within left (Rest s m t n scratch after tight p x)
   pub opened : o ≡ (leb low x && (eqb (getD (p .used) x 0) 0 && marked n scratch (p .len + 1) x))
 
 -- What is told of x placed, which gives r, and tested, which gives b and hands q back.
@@ -171,7 +171,7 @@ module _ {s : Product} {m : ℕ} {t : Product} {n : ℕ} {scratch after : List �
 
   -- The answer so far, and what is left of it behind x.
   abbrev Answer : Remainder
-  Answer = within limit (Called s m t n scratch after tight p)
+  Answer = within limit (Ahead s m t n scratch after tight p)
 
   abbrev Behind : Work
   Behind = Rest s m t n scratch after tight p (x + 1)
@@ -234,9 +234,9 @@ module _ {s : Product} {m : ℕ} {t : Product} {n : ℕ} {scratch after : List �
 
         -- What the call for the next element leaves.
         abbrev Inner : Remainder
-        Inner = within rest (Called s m t n scratch after (eqb x low) q)
+        Inner = within rest (Ahead s m t n scratch after (eqb x low) q)
 
-        inner : Called s m t n scratch after (eqb x low) q ≡ counted s t (marked n scratch) (bounded (eqb x (lowest tight after (length (prefix p)))) after) n d longer
+        inner : Ahead s m t n scratch after (eqb x low) q ≡ counted s t (marked n scratch) (bounded (eqb x (lowest tight after (length (prefix p)))) after) n d longer
         inner =
             ap (λ (k : ℕ). counted s t (marked n scratch) (bounded (eqb x k) after) n (m - q .len) (prefix q)) low-here
             ∙ ap₂ (λ (i : ℕ) (l : List ℕ). counted s t (marked n scratch) (bounded (eqb x (lowest tight after (length (prefix p)))) after) n i l) (let e : m - q .len ≡ d = omega arith in e) eq

@@ -1,17 +1,16 @@
 -- What the contracts of the search say of its state, a partial map, and of what a search answers.
 -- Assumes nothing.
 use mathlib.Core.Path.{_≡_}
-use mathlib.Core.Bool.{Bool, true, false, cond, _&&_}
+use mathlib.Core.Bool.{Bool, true, false, cond}
 use mathlib.Core.Option.{Option, none, some}
 use mathlib.Core.List.{List, _++_}
-use Prim.Native.Nat.{ℕ, suc, _-_, _≤_, _<_}
+use Prim.Native.Nat.{ℕ, _-_, _≤_}
 use lib.Dec.{leb}
-use lib.ListN.{length, getD, take, drop, replicate}
-use Rattle.semigroups.specs.Lists.{elements, at, all, member}
-use Rattle.semigroups.specs.Tables.{Product, Element}
+use lib.ListN.{length, take, replicate}
+use Rattle.semigroups.specs.Tables.{Product}
 use Rattle.semigroups.specs.Scratch.{scratchSize}
 use Rattle.semigroups.specs.Maps.{Ask, first, next}
-use Rattle.semigroups.specs.Search.{passes, Placed}
+use Rattle.semigroups.specs.Search.{passes}
 use Rattle.semigroups.specs.Trials.{Work}
 use Rattle.constraints.specs.Tracking.{Placing, Tracks}
 use Rattle.backtrack.specs.declared.Partial.{Partial}

@@ -11,13 +11,12 @@ use Rattle.semigroups.specs.Calls.{gives, overwritten, mapUnless}
 use Rattle.semigroups.specs.Passing.{SearchPasses}
 use Rattle.semigroups.specs.Maps.{isomorphisms, reversed}
 use Rattle.semigroups.specs.Candidates.{candidate}
-use Rattle.semigroups.specs.Trials.{Work}
 use Rattle.semigroups.proofs.Turned.{turned-front, turned-accepted}
 use Rattle.candidates.proofs.Marks.{scratch-same}
 use Rattle.backtrack.specs.State.{bounded}
 use Rattle.engine.specs.declared.Limit.{Limit}
-use Rattle.engine.specs.Calls.{Called, workOf}
-use Rattle.engine.specs.Finding.{told, foundUnder, called}
+use Rattle.engine.specs.Calls.{Replied, workOf}
+use Rattle.engine.specs.Finding.{told, foundUnder, replied}
 use Rattle.engine.proofs.Calls.{not-refused}
 use Rattle.engine.proofs.Works.{same-candidate, turned-work}
 
@@ -29,12 +28,12 @@ module _ (next : Bool) (limit : Limit) (m : ℕ) (source : List ℕ) (n : ℕ) (
         scratch-room = p .scratch-room;
       }
 
-  pub turned-call : called isomorphisms next limit m source n (turnedCells n target) bytes scratch ≡ called reversed next limit m source n target bytes scratch
+  pub turned-call : replied isomorphisms next limit m source n (turnedCells n target) bytes scratch ≡ replied reversed next limit m source n target bytes scratch
   turned-call =
       let s = product m source in
       let w = workOf reversed (bounded next bytes) m source n target in
       not-refused isomorphisms next limit m source n (turnedCells n target) bytes scratch around-passes limit refl w (turned-work m source n target (p .check .target-table) (bounded next bytes))
-      ∙ ap {B = Called} (λ (b : List ℕ). record { says = gives (told limit w); mapBytes = mapUnless none (foundUnder limit w) bytes; scratch = b })
+      ∙ ap {B = Replied} (λ (b : List ℕ). record { says = gives (told limit w); mapBytes = mapUnless none (foundUnder limit w) bytes; scratch = b })
       (scratch-same m n (candidate isomorphisms m s n (product n (turnedCells n target))) (candidate reversed m s n (product n target)) (same-candidate m source n target (p .check .target-table)) scratch)
       ∙ sym (not-refused reversed next limit m source n target bytes scratch p limit refl w refl)
 

@@ -11,7 +11,7 @@ use Rattle.semigroups.specs.Trials.{Work, work, counted, Limited}
 use Rattle.kinds.specs.Kinds.{orderFits}
 
 -- What a call says, and the two buffers as it leaves them.
-pub record Called : Type 0 where
+pub record Replied : Type 0 where
   pub says : Answer Limited
   pub mapBytes : List ℕ
   pub scratch : List ℕ

@@ -14,7 +14,7 @@ use Rattle.semigroups.specs.Trials.{Work, counted, Limited, ended, limited, fou
 use Rattle.backtrack.specs.State.{bounded}
 use Rattle.engine.specs.declared.Limit.{Limit}
 use Rattle.engine.specs.declared.Limit.the-variants.{Unlimited, Trials}
-use Rattle.engine.specs.Calls.{Called, workOf}
+use Rattle.engine.specs.Calls.{Replied, workOf}
 
 -- What is said of the work; without a limit its trials are not.
 abbrev pub told : Limit → Work → Limited
@@ -27,8 +27,8 @@ foundUnder Unlimited w = w .found
 foundUnder (Trials limit) w = foundWithin limit w
 
 -- A call, for the first map or with true for the next one after the bytes of the map buffer.
-unfoldable pub called : Kind → Bool → Limit → ℕ → List ℕ → ℕ → List ℕ → List ℕ → List ℕ → Called
-called kind next limit m source n target bytes scratch =
+unfoldable pub replied : Kind → Bool → Limit → ℕ → List ℕ → ℕ → List ℕ → List ℕ → List ℕ → Replied
+replied kind next limit m source n target bytes scratch =
     let refusal = searchRefusal m source n target (length bytes) (length scratch) in
     let w = workOf kind (bounded next bytes) m source n target in
     let written = marks m n (candidate kind m (product m source) n (product n target)) in

@@ -13,7 +13,7 @@ ghost use Rattle.semigroups.specs.Maps.{reversed};
 ghost use Rattle.kinds.specs.Kinds.{kindOf};
 ghost use Rattle.kinds.specs.Facing.{facing};
 ghost use Rattle.engine.specs.Answers.{replySays};
-ghost use Rattle.engine.specs.Finding.{told, foundUnder, called, markedWork};
+ghost use Rattle.engine.specs.Finding.{told, foundUnder, replied, markedWork};
 ghost use Rattle.engine.specs.declared.Limit.the-variants.{Unlimited, Trials};
 use kinds::Kind;
 use tables::Fault;
@@ -104,9 +104,9 @@ fn answer(
 ) -> Reply
     requires { ⌜ Accepted m (now source) × Accepted n (now target) ⌝ }
     requires { ⌜ (length (now map) ≡ m) × (scratchSize m n ≤ length (now scratch)) ⌝ }
-    ensures answer { λ r. ⌜ replySays r ≡ called (facing (kindOf kind)) next limit m (now (source .entry)) n (now (target .entry)) (now (map .entry)) (now (scratch .entry)) .says ⌝ }
-    ensures map { λ _. ⌜ now (map .exit) ≡ called (facing (kindOf kind)) next limit m (now (source .entry)) n (now (target .entry)) (now (map .entry)) (now (scratch .entry)) .mapBytes ⌝ }
-    ensures scratch { λ _. ⌜ now (scratch .exit) ≡ called (facing (kindOf kind)) next limit m (now (source .entry)) n (now (target .entry)) (now (map .entry)) (now (scratch .entry)) .scratch ⌝ }
+    ensures answer { λ r. ⌜ replySays r ≡ replied (facing (kindOf kind)) next limit m (now (source .entry)) n (now (target .entry)) (now (map .entry)) (now (scratch .entry)) .says ⌝ }
+    ensures map { λ _. ⌜ now (map .exit) ≡ replied (facing (kindOf kind)) next limit m (now (source .entry)) n (now (target .entry)) (now (map .entry)) (now (scratch .entry)) .mapBytes ⌝ }
+    ensures scratch { λ _. ⌜ now (scratch .exit) ≡ replied (facing (kindOf kind)) next limit m (now (source .entry)) n (now (target .entry)) (now (map .entry)) (now (scratch .entry)) .scratch ⌝ }
 {
     kinds::fill(kind, source, m, target, n, scratch);
     if !kinds::order_fits(kind, m, n) {
@@ -135,9 +135,9 @@ fn answer_turned(
     requires { ⌜ Accepted m (now source) × Accepted n (now target) ⌝ }
     requires { ⌜ (length (now map) ≡ m) × (scratchSize m n ≤ length (now scratch)) ⌝ }
     requires { ⌜ n * n ≤ length (now room) ⌝ }
-    ensures answer { λ r. ⌜ replySays r ≡ called reversed next limit m (now (source .entry)) n (now (target .entry)) (now (map .entry)) (now (scratch .entry)) .says ⌝ }
-    ensures map { λ _. ⌜ now (map .exit) ≡ called reversed next limit m (now (source .entry)) n (now (target .entry)) (now (map .entry)) (now (scratch .entry)) .mapBytes ⌝ }
-    ensures scratch { λ _. ⌜ now (scratch .exit) ≡ called reversed next limit m (now (source .entry)) n (now (target .entry)) (now (map .entry)) (now (scratch .entry)) .scratch ⌝ }
+    ensures answer { λ r. ⌜ replySays r ≡ replied reversed next limit m (now (source .entry)) n (now (target .entry)) (now (map .entry)) (now (scratch .entry)) .says ⌝ }
+    ensures map { λ _. ⌜ now (map .exit) ≡ replied reversed next limit m (now (source .entry)) n (now (target .entry)) (now (map .entry)) (now (scratch .entry)) .mapBytes ⌝ }
+    ensures scratch { λ _. ⌜ now (scratch .exit) ≡ replied reversed next limit m (now (source .entry)) n (now (target .entry)) (now (map .entry)) (now (scratch .entry)) .scratch ⌝ }
 {
     let size = n * n;
     tables::turn(target, n, room);
@@ -167,9 +167,9 @@ fn answer_reversed(
 ) -> Reply
     requires { ⌜ Accepted m (now source) × Accepted n (now target) ⌝ }
     requires { ⌜ (length (now map) ≡ m) × (scratchSize m n ≤ length (now scratch)) ⌝ }
-    ensures answer { λ r. ⌜ replySays r ≡ called reversed next limit m (now (source .entry)) n (now (target .entry)) (now (map .entry)) (now (scratch .entry)) .says ⌝ }
-    ensures map { λ _. ⌜ now (map .exit) ≡ called reversed next limit m (now (source .entry)) n (now (target .entry)) (now (map .entry)) (now (scratch .entry)) .mapBytes ⌝ }
-    ensures scratch { λ _. ⌜ now (scratch .exit) ≡ called reversed next limit m (now (source .entry)) n (now (target .entry)) (now (map .entry)) (now (scratch .entry)) .scratch ⌝ }
+    ensures answer { λ r. ⌜ replySays r ≡ replied reversed next limit m (now (source .entry)) n (now (target .entry)) (now (map .entry)) (now (scratch .entry)) .says ⌝ }
+    ensures map { λ _. ⌜ now (map .exit) ≡ replied reversed next limit m (now (source .entry)) n (now (target .entry)) (now (map .entry)) (now (scratch .entry)) .mapBytes ⌝ }
+    ensures scratch { λ _. ⌜ now (scratch .exit) ≡ replied reversed next limit m (now (source .entry)) n (now (target .entry)) (now (map .entry)) (now (scratch .entry)) .scratch ⌝ }
 {
     if n <= 30 {
         let mut few = [0u8; 900];
@@ -191,9 +191,9 @@ pub fn find(
     map: &mut [u8],
     scratch: &mut [u8],
 ) -> Reply
-    ensures answer { λ r. ⌜ replySays r ≡ called (kindOf kind) next limit m (now (source .entry)) n (now (target .entry)) (now (map .entry)) (now (scratch .entry)) .says ⌝ }
-    ensures map { λ _. ⌜ now (map .exit) ≡ called (kindOf kind) next limit m (now (source .entry)) n (now (target .entry)) (now (map .entry)) (now (scratch .entry)) .mapBytes ⌝ }
-    ensures scratch { λ _. ⌜ now (scratch .exit) ≡ called (kindOf kind) next limit m (now (source .entry)) n (now (target .entry)) (now (map .entry)) (now (scratch .entry)) .scratch ⌝ }
+    ensures answer { λ r. ⌜ replySays r ≡ replied (kindOf kind) next limit m (now (source .entry)) n (now (target .entry)) (now (map .entry)) (now (scratch .entry)) .says ⌝ }
+    ensures map { λ _. ⌜ now (map .exit) ≡ replied (kindOf kind) next limit m (now (source .entry)) n (now (target .entry)) (now (map .entry)) (now (scratch .entry)) .mapBytes ⌝ }
+    ensures scratch { λ _. ⌜ now (scratch .exit) ≡ replied (kindOf kind) next limit m (now (source .entry)) n (now (target .entry)) (now (map .entry)) (now (scratch .entry)) .scratch ⌝ }
 {
     let verdict = tables::check_pair(source, m, target, n);
     if let PairVerdict::Refused(side, fault) = verdict {

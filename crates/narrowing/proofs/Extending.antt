@@ -28,7 +28,7 @@ use Rattle.backtrack.proofs.Extending.{none-found}
 use Rattle.rows.specs.Rows.{has}
 use Rattle.narrowing.specs.declared.Partial.{Partial}
 use Rattle.narrowing.specs.Rows.{Begins, Blank}
-use Rattle.narrowing.specs.State.{prefix, rowsIn, allKeeps, Called, Placing, Reached}
+use Rattle.narrowing.specs.State.{prefix, rowsIn, allKeeps, Due, Placing, Reached}
 use Rattle.narrowing.proofs.Kept.{each-more, begins-less, keeps-embedding}
 use Rattle.narrowing.proofs.Steps.{whole, begin, end, skip, too-early, back, hit, still}
 
@@ -73,7 +73,7 @@ Rest s m t n scratch after tight p x = firstFrom (λ y. findBehind (wanted m s n
 
 module _ (s : Product) (m : ℕ) (t : Product) (n : ℕ) (scratch after : List ℕ) (tight : Bool) (p : Partial) (Q : Reached s m t n scratch after tight p) where
   abbrev Whole : Option (List ℕ)
-  Whole = Called s m t n scratch after tight p
+  Whole = Due s m t n scratch after tight p
 
   long : length (prefix p) ≡ p .len
   long = prefix-length n (p .image) (p .len) (Q .placing)
@@ -174,7 +174,7 @@ module _ {s : Product} {m : ℕ} {t : Product} {n : ℕ} {scratch after : List �
 
   -- What is left from x on is the answer: it is what is left from x + 1 on.
   abbrev Onward : Type 0
-  Onward = Called s m t n scratch after tight p ≡ Rest s m t n scratch after tight p x → Called s m t n scratch after tight p ≡ Rest s m t n scratch after tight p (x + 1)
+  Onward = Due s m t n scratch after tight p ≡ Rest s m t n scratch after tight p x → Due s m t n scratch after tight p ≡ Rest s m t n scratch after tight p (x + 1)
 
   -- A list that begins with what is placed and x.
   module _ (q : List ℕ) where
@@ -225,7 +225,7 @@ module _ {s : Product} {m : ℕ} {t : Product} {n : ℕ} {scratch after : List �
 
     -- The call for the next element.
     abbrev Inner : Option (List ℕ)
-    Inner = Called s m t n scratch after (eqb x low) r
+    Inner = Due s m t n scratch after (eqb x low) r
 
     inner : Inner ≡ findBehind (wanted m s n t (marked n scratch) (bounded (eqb x (lowest tight after (length (prefix p)))) after)) n (m - (p .len + 1)) longer
     inner =
@@ -261,10 +261,10 @@ module _ {s : Product} {m : ℕ} {t : Product} {n : ℕ} {scratch after : List �
         e ∙ back m s n t (marked n scratch) after (prefix p) tight even (m - (p .len + 1)) below x (T .element) late-here
         (sym inner ∙ none-found Inner f)
 
-    pub found : foundIn Inner .ok ≡ true → Called s m t n scratch after tight p ≡ Rest s m t n scratch after tight p x → foundIn Inner ≡ foundIn (Called s m t n scratch after tight p)
+    pub found : foundIn Inner .ok ≡ true → Due s m t n scratch after tight p ≡ Rest s m t n scratch after tight p x → foundIn Inner ≡ foundIn (Due s m t n scratch after tight p)
     found f e = go Inner refl f
       where
-        go : (a : Option (List ℕ)) → Inner ≡ a → foundIn a .ok ≡ true → foundIn Inner ≡ foundIn (Called s m t n scratch after tight p)
+        go : (a : Option (List ℕ)) → Inner ≡ a → foundIn a .ok ≡ true → foundIn Inner ≡ foundIn (Due s m t n scratch after tight p)
         go none i k = absurd (false≢true (unfold foundIn in k))
         go (some g) i k =
             ap foundIn (i ∙ sym (e ∙ hit m s n t (marked n scratch) after (prefix p) tight even (m - (p .len + 1)) below x (T .element) late-here g (sym inner ∙ i)))
@@ -290,7 +290,7 @@ module _ (s : Product) (m : ℕ) (t : Product) (n : ℕ) (scratch after : List �
         same = λ _. rw len;
       }
 
-  pub all-found : Closed m s → Called s m t n scratch after tight p ≡ search s t (marked n scratch) (bounded tight after) n m []
+  pub all-found : Closed m s → Due s m t n scratch after tight p ≡ search s t (marked n scratch) (bounded tight after) n m []
   all-found closed =
       as-behind m s n t (marked n scratch) (bounded tight after) (m - p .len) (prefix p)
       ∙ ap₂ (λ (d : ℕ) (l : List ℕ). findBehind (wanted m s n t (marked n scratch) (bounded tight after)) n d l) (let e : m - p .len ≡ m = omega arith in e) (ap (λ (k : ℕ). take k (p .image)) len)

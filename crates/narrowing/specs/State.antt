@@ -36,8 +36,8 @@ unfoldable pub allKeeps : ℕ → Product → Product → List ℕ → Bool
 allKeeps m s t f = all (rowKeeps m s t f) (elements m)
 
 -- What a call is to answer.
-abbrev pub Called : Product → ℕ → Product → ℕ → List ℕ → List ℕ → Bool → Partial → Option (List ℕ)
-Called s m t n scratch after tight p = earliestBehind m s n t (marked n scratch) (bounded tight after) (m - p .len) (prefix p)
+abbrev pub Due : Product → ℕ → Product → ℕ → List ℕ → List ℕ → Bool → Partial → Option (List ℕ)
+Due s m t n scratch after tight p = earliestBehind m s n t (marked n scratch) (bounded tight after) (m - p .len) (prefix p)
 
 -- Images placed: elements, zeros behind them.
 pub record Placing (n : ℕ) (image : List ℕ) (len : ℕ) : Type 0 where

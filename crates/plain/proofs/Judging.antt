@@ -5,7 +5,7 @@ use mathlib.Core.Path.{_≡_, refl, _∙_, sym, ap}
 use Prim.Native.Nat.{ℕ}
 use native.Mathlib.Omega.{arith}
 use Rattle.semigroups.specs.Questions.{Refusal, Refused, tableRefusal, wrong-order, wrong-size, wrong-cell, wrong-triple, cellsRefusal}
-use Rattle.semigroups.specs.Tables.{Filled, Accepted, badCell}
+use Rattle.semigroups.specs.Tables.{Accepted, badCell}
 use Rattle.semigroups.proofs.Lists.{find-some, mem-range}
 use Rattle.semigroups.proofs.Tables.{accepted, refused}
 use Rattle.tables.proofs.Questions.{cells-refused}
@@ -47,6 +47,3 @@ module _ (n : ℕ) (cells : List ℕ) where
       go : (q : Option Refusal) → tableRefusal n cells ≡ q → saidOf q .number ≡ 0 → Accepted n cells
       go none w h = accepted n cells w
       go (some q) w h = absurd (number-positive (refused n cells q .0 w) h)
-
-  pub judged-filled : (r : Said) → r ≡ saidOf (tableRefusal n cells) → r .number ≡ 0 → Filled n cells
-  judged-filled r e z = judged-accepted r e z .filled

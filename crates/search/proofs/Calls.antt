@@ -6,13 +6,12 @@ use mathlib.Core.Logic.{_↔_}
 use mathlib.Core.List.{List}
 use mathlib.Core.Option.{Option, none, some, Option·none-ne-some}
 use Prim.Native.Nat.{ℕ}
-use native.Mathlib.Omega.{arith}
 use lib.ListN.{length}
 use Rattle.semigroups.specs.Lists.{Earliest}
 use Rattle.semigroups.specs.Tables.{product}
 use Rattle.semigroups.specs.Questions.{Refusal}
-use Rattle.semigroups.specs.Calls.{Answer, refused, gives, givenUnless, overwritten, writtenUnless, mapUnless}
-use Rattle.semigroups.specs.Maps.{Kind, IsMap, beyond, Sought, found, nothing, sought}
+use Rattle.semigroups.specs.Calls.{refused, gives, givenUnless, overwritten, writtenUnless, mapUnless}
+use Rattle.semigroups.specs.Maps.{Kind, IsMap, beyond, found, nothing, sought}
 use Rattle.semigroups.proofs.ListOrder.{earliest-same}
 use Rattle.semigroups.proofs.Calls.{gives-ne-refused, found-ne-nothing, refused-by}
 use Rattle.semigroups.proofs.Passing.{search-passes}
@@ -140,8 +139,3 @@ scratch-apart kind request source m target n bytes one other p q =
       ap (λ (c : Called). c .says) e ∙ sym (ap (λ (c : Called). c .says) f),
       ap (λ (c : Called). c .mapBytes) e ∙ sym (ap (λ (c : Called). c .mapBytes) f),
     )
-
--- What is said and left, where two calls are the same.
-pub as-called : {c d : Called} → c ≡ d → {says : Answer Sought} {bytes scratch : List ℕ}
-    → (says ≡ c .says) × ((bytes ≡ c .mapBytes) × (scratch ≡ c .scratch)) → (says ≡ d .says) × ((bytes ≡ d .mapBytes) × (scratch ≡ d .scratch))
-as-called e w = (w .0 ∙ ap (λ (c : Called). c .says) e, (w .1 .0 ∙ ap (λ (c : Called). c .mapBytes) e, w .1 .1 ∙ ap (λ (c : Called). c .scratch) e))

@@ -11,17 +11,17 @@ use Rattle.semigroups.specs.Trials.{Limited, stopped, ended, limited, foundWith
 use Rattle.semigroups.proofs.Trials.{limited-ends, limited-stops}
 use Rattle.search.specs.Calls.{Lent, theFirst, refusalOf, marksOf}
 use Rattle.engine.specs.declared.Limit.the-variants.{Trials}
-use Rattle.engine.specs.Calls.{Called}
-use Rattle.engine.specs.Finding.{called}
+use Rattle.engine.specs.Calls.{Replied}
+use Rattle.engine.specs.Finding.{replied}
 use Rattle.search.specs.Limited.{firstWork, limitedCall}
 
 module _ (kind : Kind) (limit : ℕ) (l : Lent) where
-  abbrev left : Option Refusal → Limited → Option (List ℕ) → Called
+  abbrev left : Option Refusal → Limited → Option (List ℕ) → Replied
   left q a o = record { says = givenUnless q a; mapBytes = mapUnless q o (l .mapBytes); scratch = writtenUnless q (marksOf kind theFirst l) (l .scratch) }
 
   -- What the search under this limit says and leaves is the call.
-  pub as-limited : called kind false (Trials limit) (l .m) (l .source) (l .n) (l .target) (l .mapBytes) (l .scratch) ≡ limitedCall kind limit l
-  unfolding called limitedCall
+  pub as-limited : replied kind false (Trials limit) (l .m) (l .source) (l .n) (l .target) (l .mapBytes) (l .scratch) ≡ limitedCall kind limit l
+  unfolding replied limitedCall
   as-limited = refl
 
   -- A refused call says its refusal, and not one lent byte is changed.

@@ -23,7 +23,7 @@ use Rattle.search.specs.Calls as searches
 use Rattle.search.specs.Calls.{Lent, theFirst, marksOf, call}
 use Rattle.search.specs.Wanted.{Passes}
 use Rattle.search.proofs.Calls as search-laws
-use Rattle.engine.specs.Calls.{Called, workOf}
+use Rattle.engine.specs.Calls.{Replied, workOf}
 use Rattle.engine.proofs.Works.{work-unfit, work-finds}
 use Rattle.search.specs.Limited.{firstWork, limitedCall}
 use Rattle.search.specs.Limits.{afterTrials, Limits, LimitsTheorem, swapInTwo, twoInSwap, LimitsExamples, ReversedTrialsExamples}
@@ -47,20 +47,20 @@ module _ (kind : Kind) (l : Lent) (p : Passes l) where
   stopped-keeps : (limit : ℕ) → limit < w .trials → limitedCall kind limit l ≡ record { says = gives stopped; mapBytes = l .mapBytes; scratch = unlimited .scratch }
   stopped-keeps limit h =
       stops kind limit l (search-laws.passed kind l theFirst p) h
-      ∙ ap {B = Called} (λ (c : searches.Called). record { says = gives stopped; mapBytes = l .mapBytes; scratch = c .scratch }) (sym same)
+      ∙ ap {B = Replied} (λ (c : searches.Called). record { says = gives stopped; mapBytes = l .mapBytes; scratch = c .scratch }) (sym same)
 
   ended-exactly : (limit : ℕ) → w .trials ≤ limit → limitedCall kind limit l ≡ record { says = afterTrials (w .trials) (unlimited .says); mapBytes = unlimited .mapBytes; scratch = unlimited .scratch }
   ended-exactly limit h =
       ends kind limit l (search-laws.passed kind l theFirst p) h
-      ∙ ap {B = Called} (λ (c : searches.Called). record { says = afterTrials (w .trials) (c .says); mapBytes = c .mapBytes; scratch = c .scratch }) (sym same)
+      ∙ ap {B = Replied} (λ (c : searches.Called). record { says = afterTrials (w .trials) (c .says); mapBytes = c .mapBytes; scratch = c .scratch }) (sym same)
 
   ended-says : (limit : ℕ) → w .trials ≤ limit → limitedCall kind limit l .says ≡ gives (ended (sought (w .found)) (w .trials))
-  ended-says limit h = ap (λ (c : Called). c .says) (ends kind limit l (search-laws.passed kind l theFirst p) h)
+  ended-says limit h = ap (λ (c : Replied). c .says) (ends kind limit l (search-laws.passed kind l theFirst p) h)
 
   limits : Limits kind l (w .trials)
   limits =
       record {
-        stopped-exactly = λ limit. ((λ e. above limit e (at-most-or-above (w .trials) limit)), λ h. ap (λ (c : Called). c .says) (stopped-keeps limit h));
+        stopped-exactly = λ limit. ((λ e. above limit e (at-most-or-above (w .trials) limit)), λ h. ap (λ (c : Replied). c .says) (stopped-keeps limit h));
         stopped-keeps = stopped-keeps;
         ended-exactly = ended-exactly;
         larger = λ a b h e. grown a b h e (at-most-or-above (w .trials) a);
@@ -73,7 +73,7 @@ module _ (kind : Kind) (l : Lent) (p : Passes l) where
 
       grown : (a b : ℕ) → a ≤ b → (limitedCall kind a l .says ≡ gives stopped → ⊥) → (w .trials ≤ a) ⊎ (a < w .trials) → limitedCall kind b l ≡ limitedCall kind a l
       grown a b h e (inl q) = ended-exactly b (omega arith) ∙ sym (ended-exactly a q)
-      grown a b h e (inr q) = absurd (e (ap (λ (c : Called). c .says) (stopped-keeps a q)))
+      grown a b h e (inr q) = absurd (e (ap (λ (c : Replied). c .says) (stopped-keeps a q)))
 
       none-said : (limit : ℕ) → w ≡ work none 0 → limitedCall kind limit l .says ≡ gives (ended nothing 0)
       none-said limit e =
@@ -117,7 +117,7 @@ limits-examples =
     let ended-at = ends embeddings 4 swapInTwo (search-laws.passed embeddings swapInTwo theFirst swap-passes) (omega arith) in (
       limits embeddings swapInTwo swap-passes .stopped-exactly 3 .1 (omega arith),
       ended-says embeddings swapInTwo swap-passes 4 (omega arith) ∙ ap (λ (v : Work). gives (ended (sought (v .found)) (v .trials))) swap-work,
-      ap (λ (c : Called). c .mapBytes) ended-at ∙ ap (λ (v : Work). mapUnless none (v .found) (swapInTwo .mapBytes)) swap-work,
+      ap (λ (c : Replied). c .mapBytes) ended-at ∙ ap (λ (v : Work). mapUnless none (v .found) (swapInTwo .mapBytes)) swap-work,
       limits embeddings twoInSwap two-passes .unfit refl .1 0,
       limits isomorphisms swapInTwo swap-passes .unfit refl .1 0,
     )

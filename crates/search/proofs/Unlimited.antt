@@ -1,9 +1,7 @@
 -- A call of a search is the call without a limit, with its trials not said. Assumes nothing.
 use mathlib.Core.Path.{_≡_, refl, sym, ap, _∙_}
 use mathlib.Core.Bool.{Bool, true, false}
-use mathlib.Core.List.{List}
 use mathlib.Core.Option.{Option, none, some}
-use Prim.Native.Nat.{ℕ}
 use lib.ListN.{length}
 use Rattle.semigroups.specs.Questions.{Refusal}
 use Rattle.semigroups.specs.Calls.{scratchAfter}
@@ -13,7 +11,7 @@ use Rattle.backtrack.specs.State.{bounded}
 use Rattle.engine.specs.declared.Limit.the-variants.{Unlimited}
 use Rattle.engine.specs.Calls as engine
 use Rattle.engine.specs.Calls.{workOf}
-use Rattle.engine.specs.Finding.{called}
+use Rattle.engine.specs.Finding.{replied}
 use Rattle.engine.proofs.Calls as engine-laws
 use Rattle.engine.proofs.Works.{work-finds}
 use Rattle.search.specs.Calls.{Lent, Called, refusalOf, answerOf, call}
@@ -21,12 +19,12 @@ use Rattle.search.specs.Wanted.{Passes}
 use Rattle.search.specs.Answers.{requestOf, withoutTrials}
 use Rattle.search.proofs.Calls.{refused-unchanged, not-refused}
 
-abbrev told : engine.Called → Called
+abbrev told : engine.Replied → Called
 told c = record { says = withoutTrials (c .says); mapBytes = c .mapBytes; scratch = c .scratch }
 
 module _ (kind : Kind) (next : Bool) (l : Lent) where
-  abbrev unlimited : engine.Called
-  unlimited = called kind next Unlimited (l .m) (l .source) (l .n) (l .target) (l .mapBytes) (l .scratch)
+  abbrev unlimited : engine.Replied
+  unlimited = replied kind next Unlimited (l .m) (l .source) (l .n) (l .target) (l .mapBytes) (l .scratch)
 
   -- The map asked for is the one that the work finds.
   finds : Passes l → answerOf kind (requestOf next) l ≡ workOf kind (bounded next (l .mapBytes)) (l .m) (l .source) (l .n) (l .target) .found

@@ -4,7 +4,7 @@ use Prim.Native.Nat.{ℕ}
 use Rattle.semigroups.specs.Calls.{givenUnless, writtenUnless, mapUnless}
 use Rattle.semigroups.specs.Maps.{Kind, first}
 use Rattle.semigroups.specs.Trials.{Work, limited, foundWithin}
-use Rattle.engine.specs.Calls.{Called, workOf}
+use Rattle.engine.specs.Calls.{Replied, workOf}
 use Rattle.search.specs.Calls.{Lent, theFirst, refusalOf, marksOf}
 
 -- The work of the search for the first map of the kind.
@@ -12,7 +12,7 @@ abbrev pub firstWork : Kind → Lent → Work
 firstWork kind l = workOf kind first (l .m) (l .source) (l .n) (l .target)
 
 -- A call of a search with a limit. The questions and the marks in scratch are those of a search for the first map.
-unfoldable pub limitedCall : Kind → ℕ → Lent → Called
+unfoldable pub limitedCall : Kind → ℕ → Lent → Replied
 limitedCall kind limit l =
     let refusal = refusalOf kind theFirst l in
     let w = firstWork kind l in

@@ -1,13 +1,12 @@
 -- What a list generates: the list that n steps of growing make is the smallest set that holds the list and every product of its own members, for any
 -- product that stays within the order. The idea: while the set does not hold all its products, each step adds an element. Assumes nothing.
 use mathlib.Core.Path.{_≡_, refl, sym, ap₂, subst, _∙_}
-use mathlib.Core.Bool.{Bool, cond}
 use mathlib.Core.Logic.{_⊎_, inl, inr, ⊎-elim, _↔_}
 use mathlib.Core.List.{List, [], _∷_, _++_, map, List·Memᴰ, List·Memᴰ·head, List·Memᴰ·tail, List·Memᴰ·not-nil, List·Memᴰ·cases-cons, List·Memᴰ·append-cases, Memᴰ·append-left, Memᴰ·append-right, Memᴰ·map, Memᴰ·of-map, Memᴰ·cast}
 use Prim.Native.Nat.{ℕ, zero, suc, _≤_, _<_, zero-le}
 use native.Mathlib.Omega.{arith}
 use lib.ListN.{length}
-use Rattle.semigroups.specs.Lists.{range, elements, keep, member, Sorted, NoRepeats}
+use Rattle.semigroups.specs.Lists.{range, elements, member, Sorted, NoRepeats}
 use Rattle.semigroups.specs.Tables.{Product, Element, Closed}
 use Rattle.semigroups.specs.Generated.{Inside, HoldsProducts, Smallest, setOf, products, grown, generated, GeneratedTheorem}
 use Rattle.semigroups.proofs.Booleans.{same-truth, at-most-or-above}

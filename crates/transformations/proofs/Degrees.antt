@@ -3,14 +3,14 @@ use mathlib.Core.Path.{_≡_, sym, ap, ap₂, _∙_}
 use mathlib.Core.Bool.{false}
 use mathlib.Core.Logic.{⊎-elim}
 use mathlib.Core.List.{List, [], _++_}
-use mathlib.Core.Option.{Option, none, some, orElse}
+use mathlib.Core.Option.{orElse}
 use Prim.Native.Nat.{ℕ, _*_, _≤_, _<_}
 use native.Mathlib.Omega.{arith}
 use borrow.Author.Tests.{le-leb, lt-leb}
 use lib.ListN.{length, drop}
 use Rattle.semigroups.specs.Lists.{firstOf}
 use Rattle.semigroups.specs.Tables.{Element, isElement}
-use Rattle.semigroups.specs.Questions.{Refusal, no}
+use Rattle.semigroups.specs.Questions.{no}
 use Rattle.semigroups.specs.Calls.{Answer, refused, gives, givenUnless, writtenUnless}
 use Rattle.semigroups.specs.Transformations.{transformationOrder, transformationCells, transformationRefusal}
 use Rattle.semigroups.proofs.Booleans.{equal-or-not}

@@ -12,13 +12,12 @@ use borrow.Fn.Kinds.{In}
 use borrow.Fn.PlainCycle.{Measures, is, falls, and}
 use Rattle.semigroups.specs.Tables.{product}
 use Rattle.semigroups.specs.Search.{passes}
-use Rattle.semigroups.specs.Trials.{work}
 use Rattle.semigroups.proofs.Tables.{product-element}
-use Rattle.backtrack.specs.State.{Remainder, exhausted, remaining, within, outcomeOf}
+use Rattle.backtrack.specs.State.{Remainder, exhausted, remaining, within}
 use Rattle.backtrack.specs.declared.Outcome.{Outcome}
 use Rattle.constraints.proofs.Placing.{as-trial}
 use Rattle.backtrack.proofs.Steps.{lowest}
-use Rattle.backtrack.proofs.Extending.{Called, Rest, Turn, Verdict, handed-on, done-whole, begins, ends, row-marked, unused, skip, stop, refuse, handed-passes, onward, halt, found, fail}
+use Rattle.backtrack.proofs.Extending.{Ahead, Rest, Turn, Verdict, handed-on, done-whole, begins, ends, row-marked, unused, skip, stop, refuse, handed-passes, onward, halt, found, fail}
 use Rattle.backtrack.proofs.extend.Reads as extend
 use Rattle.backtrack.proofs.extend.Kinds as extend-kinds
 use Rattle.backtrack.proofs.+extend.Lts-extend as extend-lts
@@ -43,7 +42,7 @@ extend-below t = and 4 extend-kinds.ps (falls 4 extend-kinds.ps _<_ μ-extend t)
 
 abbrev extend-Inv-loop : extend-lts.InvT-loop
 extend-Inv-loop source m target n scratch after tight limit p at low left₀ x₀ left x =
-    (1 ≤ x) × (x ≤ n + 1) × (low ≡ lowest tight after (p .len)) × (within limit (Called (product m source) m (product n target) n scratch after tight p) ≡ within left (Rest (product m source) m (product n target) n scratch after tight p x))
+    (1 ≤ x) × (x ≤ n + 1) × (low ≡ lowest tight after (p .len)) × (within limit (Ahead (product m source) m (product n target) n scratch after tight p) ≡ within left (Rest (product m source) m (product n target) n scratch after tight p x))
 
 abbrev extend-μ-loop : extend-lts.MeasureT-loop
 extend-μ-loop source m target n scratch after tight limit p at low left₀ x₀ left x = n + 1 - x

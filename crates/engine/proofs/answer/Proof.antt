@@ -13,7 +13,7 @@ use Rattle.semigroups.specs.Trials.{work}
 use Rattle.backtrack.specs.State.{bounded}
 use Rattle.kinds.specs.Kinds.{kindOf, orderFits}
 use Rattle.kinds.specs.Facing.{facing}
-use Rattle.engine.proofs.Calls.{not-refused, told-nothing, as-called}
+use Rattle.engine.proofs.Calls.{not-refused, told-nothing, as-replied}
 use Rattle.engine.proofs.Works.{fits-facing, work-unfit, work-marked}
 use Rattle.engine.proofs.answer.Statement.{statement}
 use Rattle.engine.proofs.answer.Tie as tie
@@ -43,7 +43,7 @@ returns c =
     let k = c .before in
     let a = start k .args in
     let nothing = told-nothing (a .limit) in
-    as-called (sym (not-refused (facing (kindOf (a .kind))) (a .next) (a .limit) (a .m) (a .source .now) (a .n) (a .target .now) (a .map .now) (a .scratch .now) (passes k) (a .limit) refl (work none 0) (work-unfit (facing (kindOf (a .kind))) (bounded (a .next) (a .map .now)) (a .m) (a .source .now) (a .n) (a .target .now) (fits k (not-true (k .order-fits .result) (c .if1 .taken))))))
+    as-replied (sym (not-refused (facing (kindOf (a .kind))) (a .next) (a .limit) (a .m) (a .source .now) (a .n) (a .target .now) (a .map .now) (a .scratch .now) (passes k) (a .limit) refl (work none 0) (work-unfit (facing (kindOf (a .kind))) (bounded (a .next) (a .map .now)) (a .m) (a .source .now) (a .n) (a .target .now) (fits k (not-true (k .order-fits .result) (c .if1 .taken))))))
     (ap gives (nothing .0), (ap (λ (o : Option (List ℕ)). mapUnless none o (a .map .now)) (nothing .1), k .before .before .before .fill .ensures))
 
 enum-told : tie.Need-enum-told
@@ -71,7 +71,7 @@ returns-2 c =
     let filled = k .before .before .before .fill .ensures in
     let w = work-marked (kindOf (a .kind)) (a .next) (a .m) (a .source .now) (a .n) (a .target .now) (a .map .now) (a .scratch .now) _ filled (fits k (not-false (k .order-fits .result) (c .before .before .before .before .before .before .before .if1 .left))) in
     let e = c .before .before .find-marked .ensures in
-    as-called (sym (not-refused (facing (kindOf (a .kind))) (a .next) (a .limit) (a .m) (a .source .now) (a .n) (a .target .now) (a .map .now) (a .scratch .now) (passes k) _ (c .before .before .before .before .before .enum-told .given .1) _ w)) (e .0, (e .1, filled))
+    as-replied (sym (not-refused (facing (kindOf (a .kind))) (a .next) (a .limit) (a .m) (a .source .now) (a .n) (a .target .now) (a .map .now) (a .scratch .now) (passes k) _ (c .before .before .before .before .before .enum-told .given .1) _ w)) (e .0, (e .1, filled))
 
 same-length-4 : tie.Need-same-length-4
 same-length-4 c = search needs
@@ -86,7 +86,7 @@ returns-3 c =
     let filled = k .before .before .before .fill .ensures in
     let w = work-marked (kindOf (a .kind)) (a .next) (a .m) (a .source .now) (a .n) (a .target .now) (a .map .now) (a .scratch .now) _ filled (fits k (not-false (k .order-fits .result) (c .before .before .before .before .before .before .before .before .if1 .left))) in
     let e = c .before .before .find-marked-within .ensures in
-    as-called (sym (not-refused (facing (kindOf (a .kind))) (a .next) (a .limit) (a .m) (a .source .now) (a .n) (a .target .now) (a .map .now) (a .scratch .now) (passes k) _ (c .before .before .before .before .before .before .limit .given .1) _ w)) (e .0, (e .1, filled))
+    as-replied (sym (not-refused (facing (kindOf (a .kind))) (a .next) (a .limit) (a .m) (a .source .now) (a .n) (a .target .now) (a .map .now) (a .scratch .now) (passes k) _ (c .before .before .before .before .before .before .limit .given .1) _ w)) (e .0, (e .1, filled))
 
 pub answer-spec : {M : Type 1} → statement M
 answer-spec =

@@ -1,5 +1,5 @@
 -- `answer_turned` meets its contract: the room begins with the turned target, and isomorphisms onto that are the reversed ones. Assumes nothing.
-use mathlib.Core.Path.{_≡_, ap, _∙_}
+use mathlib.Core.Path.{ap, _∙_}
 use mathlib.Core.List.{List}
 use Prim.Native.Nat.{ℕ, _*_, _≤_}
 use native.Mathlib.Omega.{arith}
@@ -7,8 +7,8 @@ use borrow.Author.Needs.{needs}
 use denote.Ref.{now}
 use lib.ListN.{length}
 use Rattle.semigroups.specs.Maps.{isomorphisms}
-use Rattle.engine.specs.Finding.{called}
-use Rattle.engine.proofs.Calls.{as-called}
+use Rattle.engine.specs.Finding.{replied}
+use Rattle.engine.proofs.Calls.{as-replied}
 use Rattle.engine.proofs.Turned.{turned-call, turned-part, part-accepted, part-length}
 use Rattle.engine.proofs.answer_turned.Statement.{statement}
 use Rattle.engine.proofs.answer_turned.Tie as tie
@@ -62,8 +62,8 @@ returns c =
     let t = c .before .before .before .before .before .before .before .before .before .before in
     let z = start t in
     let a = z .args in
-    as-called
-    (ap (λ (g : List ℕ). called isomorphisms (a .next) (a .limit) (a .m) (now (a .source)) (n t) g (now (a .map)) (now (a .scratch))) (turned-part (n t) (target t) (now (a .room)) (room t) (z .pre .0 .1) (fits t) (t .turn .ensures))
+    as-replied
+    (ap (λ (g : List ℕ). replied isomorphisms (a .next) (a .limit) (a .m) (now (a .source)) (n t) g (now (a .map)) (now (a .scratch))) (turned-part (n t) (target t) (now (a .room)) (room t) (z .pre .0 .1) (fits t) (t .turn .ensures))
     ∙ turned-call (a .next) (a .limit) (a .m) (now (a .source)) (n t) (target t) (now (a .map)) (now (a .scratch)) (record { check = record { source-table = z .pre .0 .0; target-table = z .pre .0 .1; map-size = z .pre .1 .0 .0 }; scratch-room = z .pre .1 .0 .1 }))
     (c .before .before .before .before .answer .ensures)
 

@@ -13,9 +13,9 @@ use Rattle.semigroups.specs.Maps as maps
 use Rattle.kinds.specs.Kinds.{kindOf}
 use Rattle.kinds.specs.Facing.{facing}
 use Rattle.kinds.specs.declared.Kind.{Kind}
-use Rattle.engine.specs.Calls.{Called}
-use Rattle.engine.specs.Finding.{called}
-use Rattle.engine.proofs.Calls.{refused-unchanged, as-called}
+use Rattle.engine.specs.Calls.{Replied}
+use Rattle.engine.specs.Finding.{replied}
+use Rattle.engine.proofs.Calls.{refused-unchanged, as-replied}
 use Rattle.engine.proofs.find.Statement.{statement}
 use Rattle.engine.proofs.find.Tie as tie
 
@@ -30,7 +30,7 @@ returns c =
     let z = c .before .before .before .before .before .before .before .before in
     let a = z .args in
     let e = sym (refused-unchanged (kindOf (a .kind)) (a .next) (a .limit) (a .m) (a .source .now) (a .n) (a .target .now) (a .map .now) (a .scratch .now) _ (tables-refused (a .m) (a .source .now) (a .n) (a .target .now) (length (a .map .now)) (length (a .scratch .now)) _ (sym (c .before .before .before .check-pair .ensures) ∙ ap pairRefusal (c .before .verdict .given .1)))) in
-    (ap (λ (r : Called). r .says) e, (ap (λ (r : Called). r .mapBytes) e, ap (λ (r : Called). r .scratch) e))
+    (ap (λ (r : Replied). r .says) e, (ap (λ (r : Replied). r .mapBytes) e, ap (λ (r : Replied). r .scratch) e))
 
 enum-told : tie.Need-enum-told
 enum-told c = search needs
@@ -40,7 +40,7 @@ returns-2 c =
     let z = c .before .before .before .before .before .before .before .before in
     let a = z .args in
     let e = sym (refused-unchanged (kindOf (a .kind)) (a .next) (a .limit) (a .m) (a .source .now) (a .n) (a .target .now) (a .map .now) (a .scratch .now) _ (map-refused (a .m) (a .source .now) (a .n) (a .target .now) (length (a .map .now)) (length (a .scratch .now)) (sym (c .before .before .before .check-pair .ensures) ∙ ap pairRefusal (c .before .enum-told .given .1)) (c .if1 .taken))) in
-    (ap (λ (r : Called). r .says) e, (ap (λ (r : Called). r .mapBytes) e, ap (λ (r : Called). r .scratch) e))
+    (ap (λ (r : Replied). r .says) e, (ap (λ (r : Replied). r .mapBytes) e, ap (λ (r : Replied). r .scratch) e))
 
 scratch-size-requires : tie.Need-scratch-size-requires
 scratch-size-requires c κs =
@@ -56,7 +56,7 @@ returns-3 c =
     let size = c .before .scratch-size .ensures in
     let short = c .if2 .taken in
     let e = sym (refused-unchanged (kindOf (a .kind)) (a .next) (a .limit) (a .m) (a .source .now) (a .n) (a .target .now) (a .map .now) (a .scratch .now) _ (scratch-refused (a .m) (a .source .now) (a .n) (a .target .now) (length (a .map .now)) (length (a .scratch .now)) (sym (c .before .before .before .before .before .check-pair .ensures) ∙ ap pairRefusal (c .before .before .before .enum-told .given .1)) (c .before .before .if1 .left) (omega arith))) in
-    (ap (λ (r : Called). r .says) e, (ap (λ (r : Called). r .mapBytes) e, ap (λ (r : Called). r .scratch) e))
+    (ap (λ (r : Replied). r .says) e, (ap (λ (r : Replied). r .mapBytes) e, ap (λ (r : Replied). r .scratch) e))
 
 -- What `answer` and `answer_reversed` ask, once no question has failed.
 module _ (c : tie.Else2) where
@@ -71,8 +71,8 @@ module _ (c : tie.Else2) where
   buffers : (length (now (start .args .map)) ≡ start .args .m) × (scratchSize (start .args .m) (start .args .n) ≤ length (now (start .args .scratch)))
   buffers = let size = c .before .scratch-size .ensures in let room = c .if2 .left in (c .before .before .if1 .left, omega arith)
 
-  abbrev asked : maps.Kind → Called
-  asked kind = let a = start .args in called kind (a .next) (a .limit) (a .m) (a .source .now) (a .n) (a .target .now) (a .map .now) (a .scratch .now)
+  abbrev asked : maps.Kind → Replied
+  asked kind = let a = start .args in replied kind (a .next) (a .limit) (a .m) (a .source .now) (a .n) (a .target .now) (a .map .now) (a .scratch .now)
 
   -- The kind that the search meets is the kind asked for, unless it is turned.
   as-asked : {kind : Kind} → start .args .kind ≡ kind → facing (kindOf kind) ≡ kindOf kind → asked (facing (kindOf (start .args .kind))) ≡ asked (kindOf (start .args .kind))
@@ -103,7 +103,7 @@ same-length-2 : tie.Need-same-length-2
 same-length-2 c = search needs
 
 returns-4 : tie.Need-returns-4
-returns-4 c = as-called (as-asked (c .before .before .before .before .before .before .before .before .before) (c .before .before .before .before .before .before .before .enum-told2 .given .1) refl) (c .before .before .before .before .answer .ensures)
+returns-4 c = as-replied (as-asked (c .before .before .before .before .before .before .before .before .before) (c .before .before .before .before .before .before .before .enum-told2 .given .1) refl) (c .before .before .before .before .answer .ensures)
 
 same-length-3 : tie.Need-same-length-3
 same-length-3 c = search needs
@@ -112,7 +112,7 @@ same-length-4 : tie.Need-same-length-4
 same-length-4 c = search needs
 
 returns-5 : tie.Need-returns-5
-returns-5 c = as-called (as-asked (c .before .before .before .before .before .before .before .before .before) (c .before .before .before .before .before .before .before .enum-told3 .given .1) refl) (c .before .before .before .before .answer2 .ensures)
+returns-5 c = as-replied (as-asked (c .before .before .before .before .before .before .before .before .before) (c .before .before .before .before .before .before .before .enum-told3 .given .1) refl) (c .before .before .before .before .answer2 .ensures)
 
 same-length-5 : tie.Need-same-length-5
 same-length-5 c = search needs
@@ -123,7 +123,7 @@ same-length-6 c = search needs
 returns-6 : tie.Need-returns-6
 returns-6 c =
     let k = c .before .before .before .before .before .before .before .before .before in
-    as-called (ap (λ (q : Kind). asked k (kindOf q)) (sym (c .before .before .before .before .before .before .before .enum-told4 .given .1))) (c .before .before .before .before .answer-reversed .ensures)
+    as-replied (ap (λ (q : Kind). asked k (kindOf q)) (sym (c .before .before .before .before .before .before .before .enum-told4 .given .1))) (c .before .before .before .before .answer-reversed .ensures)
 
 pub find-spec : {M : Type 1} → statement M
 find-spec =

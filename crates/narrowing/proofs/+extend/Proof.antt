@@ -11,7 +11,7 @@ use Rattle.semigroups.specs.Tables.{product, Closed}
 use Rattle.semigroups.proofs.Tables.{product-element}
 use Rattle.backtrack.specs.declared.Found.{Found}
 use Rattle.backtrack.proofs.Steps.{lowest}
-use Rattle.narrowing.specs.State.{Called}
+use Rattle.narrowing.specs.State.{Due}
 use Rattle.narrowing.proofs.Extending.{Rest, Turn, Verdict, dead, done-bound, done-none, done-found, begins, ends, row-marked, shut, onward, fail, found}
 use Rattle.narrowing.proofs.extend.Reads as extend
 use Rattle.narrowing.proofs.extend.Kinds as extend-kinds
@@ -34,7 +34,7 @@ extend-below t = and 4 extend-kinds.ps (falls 4 extend-kinds.ps _<_ μ-extend t)
 
 abbrev extend-Inv-loop : extend-lts.InvT-loop
 extend-Inv-loop source m target n scratch after tight p alive at low x₀ x =
-    (1 ≤ x) × (x ≤ n + 1) × (low ≡ lowest tight after (p .len)) × (Called (product m source) m (product n target) n scratch after tight p ≡ Rest (product m source) m (product n target) n scratch after tight p x)
+    (1 ≤ x) × (x ≤ n + 1) × (low ≡ lowest tight after (p .len)) × (Due (product m source) m (product n target) n scratch after tight p ≡ Rest (product m source) m (product n target) n scratch after tight p x)
 
 abbrev extend-μ-loop : extend-lts.MeasureT-loop
 extend-μ-loop source m target n scratch after tight p alive at low x₀ x = n + 1 - x

@@ -1,7 +1,7 @@
 -- `first_within` meets its contract: the search under the limit says and leaves it. Assumes nothing.
 use borrow.Author.Needs.{needs}
 use Rattle.kinds.specs.Kinds.{kindOf}
-use Rattle.engine.proofs.Calls.{as-called}
+use Rattle.engine.proofs.Calls.{as-replied}
 use Rattle.search.specs.Calls.{lend}
 use Rattle.search.proofs.Limited.{as-limited}
 use Rattle.search.proofs.first_within.Statement.{statement}
@@ -20,7 +20,7 @@ returns : tie.Need-returns
 returns c =
     let f = c .before .before .before .before in
     let a = f .before .before .before .before .before .before .before .args in
-    as-called (as-limited (kindOf (a .kind)) (a .limit) (lend (a .source .now) (a .m) (a .target .now) (a .n) (a .map .now) (a .scratch .now))) (f .find .ensures)
+    as-replied (as-limited (kindOf (a .kind)) (a .limit) (lend (a .source .now) (a .m) (a .target .now) (a .n) (a .map .now) (a .scratch .now))) (f .find .ensures)
 
 pub first-within-spec : {M : Type 1} → statement M
 first-within-spec = tie.close (tie.spec find-requires same-length same-length-2 returns)
