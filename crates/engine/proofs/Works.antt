@@ -23,7 +23,7 @@ use Rattle.semigroups.proofs.Search.{search-earliest}
 use Rattle.semigroups.proofs.Trials.{counted-finds, counted-same, counted-agrees}
 use Rattle.backtrack.specs.State.{bounded}
 use Rattle.kinds.specs.Kinds.{orderFits}
-use Rattle.kinds.specs.Facing.{facing}
+use Rattle.kinds.specs.Straight.{straight}
 use Rattle.engine.specs.Calls.{readBy, workOf}
 use Rattle.engine.specs.Finding.{markedWork}
 
@@ -37,12 +37,6 @@ unfit : (kind : Kind) (m : ℕ) (s : Product) (n : ℕ) (t : Product) → orderF
 unfit embeddings m s n t e ask = ap (earliest ask) (no-embedding m s n t (leb-false m n e)) ∙ earliest-empty ask
 unfit isomorphisms m s n t e ask = ap (earliest ask) (no-isomorphism m s n t (eqb-false m n e)) ∙ earliest-empty ask
 unfit reversed m s n t e ask = ap (earliest ask) (no-reversed m s n t (eqb-false m n e)) ∙ earliest-empty ask
-
--- The orders fit where they do for the kind that the search meets.
-pub fits-facing : (kind : Kind) (m n : ℕ) → orderFits kind m n ≡ orderFits (facing kind) m n
-fits-facing embeddings m n = refl
-fits-facing isomorphisms m n = refl
-fits-facing reversed m n = refl
 
 -- ---- the work of a kind
 
@@ -66,20 +60,19 @@ module _ (kind : Kind) (ask : Ask) (m : ℕ) (source : List ℕ) (n : ℕ) (targ
       go true e = ap (λ (w : Work). w .found) (work-by true e) ∙ fit e
       go false e = ap (λ (w : Work). w .found) (work-unfit e) ∙ sym (unfit kind m (product m source) n (product n target) e ask)
 
--- On the target as the search meets it, products are tested as they stand.
-read-facing : (kind : Kind) (t : Product) → t ≡ readBy (facing kind) t
-read-facing embeddings t = refl
-read-facing isomorphisms t = refl
-read-facing reversed t = refl
+-- Products are tested as they stand.
+read-straight : (onto : Bool) (t : Product) → t ≡ readBy (straight onto) t
+read-straight true t = refl
+read-straight false t = refl
 
--- Marks read back as the candidates, so the search over them does the work of the kind that it meets.
-pub work-marked : (kind : Kind) (next : Bool) (m : ℕ) (source : List ℕ) (n : ℕ) (target bytes before scratch : List ℕ) → scratch ≡ scratchAfter m n (candidate (facing kind) m (product m source) n (product n target)) before → orderFits (facing kind) m n ≡ true
-    → workOf (facing kind) (bounded next bytes) m source n target ≡ markedWork next m source n target bytes scratch
-work-marked kind next m source n target bytes before scratch filled e =
+-- Marks read back as the candidates, so the search over them does the work of the kind.
+pub work-marked : (onto next : Bool) (m : ℕ) (source : List ℕ) (n : ℕ) (target bytes before scratch : List ℕ) → scratch ≡ scratchAfter m n (candidate (straight onto) m (product m source) n (product n target)) before → orderFits (straight onto) m n ≡ true
+    → workOf (straight onto) (bounded next bytes) m source n target ≡ markedWork next m source n target bytes scratch
+work-marked onto next m source n target bytes before scratch filled e =
     let s = product m source in
     let t = product n target in
-    let c = candidate (facing kind) m s n t in
-    work-by (facing kind) (bounded next bytes) m source n target true e ∙ ap (searched (facing kind) (bounded next bytes) m source n target) (sym (read-facing kind t))
+    let c = candidate (straight onto) m s n t in
+    work-by (straight onto) (bounded next bytes) m source n target true e ∙ ap (searched (straight onto) (bounded next bytes) m source n target) (sym (read-straight onto t))
     ∙ sym (ap (markedWork next m source n target bytes) filled
     ∙ counted-same s t m n (marked n (scratchAfter m n c before)) c (marked-candidate m n c before) (bounded next bytes) m [] (let z : 0 + m ≡ m = omega arith in z))
 

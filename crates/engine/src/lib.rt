@@ -11,7 +11,7 @@ ghost use Rattle.semigroups.specs.Scratch.{scratchSize};
 ghost use Rattle.semigroups.specs.Calls.{gives, mapUnless};
 ghost use Rattle.semigroups.specs.Maps.{reversed};
 ghost use Rattle.kinds.specs.Kinds.{kindOf};
-ghost use Rattle.kinds.specs.Facing.{facing};
+ghost use Rattle.kinds.specs.Straight.{straight};
 ghost use Rattle.engine.specs.Answers.{replySays};
 ghost use Rattle.engine.specs.Finding.{told, foundUnder, replied, markedWork};
 ghost use Rattle.engine.specs.declared.Limit.the-variants.{Unlimited, Trials};
@@ -90,9 +90,9 @@ fn find_marked_within(
     Reply::Found(trials)
 }
 
-// The search behind the questions. For reversed isomorphisms the target is turned already.
+// The search behind the questions for embeddings, or with `onto` for isomorphisms.
 fn answer(
-    kind: Kind,
+    onto: bool,
     next: bool,
     limit: Limit,
     source: &[u8],
@@ -104,12 +104,12 @@ fn answer(
 ) -> Reply
     requires { ⌜ Accepted m (now source) × Accepted n (now target) ⌝ }
     requires { ⌜ (length (now map) ≡ m) × (scratchSize m n ≤ length (now scratch)) ⌝ }
-    ensures answer { λ r. ⌜ replySays r ≡ replied (facing (kindOf kind)) next limit m (now (source .entry)) n (now (target .entry)) (now (map .entry)) (now (scratch .entry)) .says ⌝ }
-    ensures map { λ _. ⌜ now (map .exit) ≡ replied (facing (kindOf kind)) next limit m (now (source .entry)) n (now (target .entry)) (now (map .entry)) (now (scratch .entry)) .mapBytes ⌝ }
-    ensures scratch { λ _. ⌜ now (scratch .exit) ≡ replied (facing (kindOf kind)) next limit m (now (source .entry)) n (now (target .entry)) (now (map .entry)) (now (scratch .entry)) .scratch ⌝ }
+    ensures answer { λ r. ⌜ replySays r ≡ replied (straight onto) next limit m (now (source .entry)) n (now (target .entry)) (now (map .entry)) (now (scratch .entry)) .says ⌝ }
+    ensures map { λ _. ⌜ now (map .exit) ≡ replied (straight onto) next limit m (now (source .entry)) n (now (target .entry)) (now (map .entry)) (now (scratch .entry)) .mapBytes ⌝ }
+    ensures scratch { λ _. ⌜ now (scratch .exit) ≡ replied (straight onto) next limit m (now (source .entry)) n (now (target .entry)) (now (map .entry)) (now (scratch .entry)) .scratch ⌝ }
 {
-    kinds::fill(kind, source, m, target, n, scratch);
-    if !kinds::order_fits(kind, m, n) {
+    kinds::fill(onto, source, m, target, n, scratch);
+    if !kinds::order_fits(onto, m, n) {
         return Reply::Nothing(0);
     }
     match limit {
@@ -141,17 +141,7 @@ fn answer_turned(
 {
     let size = n * n;
     tables::turn(target, n, room);
-    answer(
-        Kind::Reversed,
-        next,
-        limit,
-        source,
-        m,
-        &room[..size],
-        n,
-        map,
-        scratch,
-    )
+    answer(true, next, limit, source, m, &room[..size], n, map, scratch)
 }
 
 // The same. Small tables take a small array, so that clearing it is no part of the time.
@@ -206,8 +196,8 @@ pub fn find(
         return Reply::ScratchLength;
     }
     match kind {
-        Kind::Embeddings => answer(kind, next, limit, source, m, target, n, map, scratch),
-        Kind::Isomorphisms => answer(kind, next, limit, source, m, target, n, map, scratch),
+        Kind::Embeddings => answer(false, next, limit, source, m, target, n, map, scratch),
+        Kind::Isomorphisms => answer(true, next, limit, source, m, target, n, map, scratch),
         Kind::Reversed => answer_reversed(next, limit, source, m, target, n, map, scratch),
     }
 }

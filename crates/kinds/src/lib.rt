@@ -1,4 +1,4 @@
-// The kinds of maps that a search is asked for: which orders they fit, and their candidates.
+// The kinds of maps that a search is asked for; which orders fit those that it meets, and their candidates.
 ghost use mathlib.Core.Path.{_≡_};
 ghost use Prim.Native.Nat.{_≤_};
 ghost use lib.ListN.{length};
@@ -6,8 +6,8 @@ ghost use Rattle.semigroups.specs.Tables.{product, Accepted};
 ghost use Rattle.semigroups.specs.Scratch.{scratchSize};
 ghost use Rattle.semigroups.specs.Calls.{scratchAfter};
 ghost use Rattle.semigroups.specs.Candidates.{candidate};
-ghost use Rattle.kinds.specs.Kinds.{kindOf, orderFits};
-ghost use Rattle.kinds.specs.Facing.{facing};
+ghost use Rattle.kinds.specs.Kinds.{orderFits};
+ghost use Rattle.kinds.specs.Straight.{straight};
 
 pub enum Kind {
     Embeddings,
@@ -15,26 +15,25 @@ pub enum Kind {
     Reversed,
 }
 
-// Whether tables of orders m and n can have a map of the kind.
-pub fn order_fits(kind: Kind, m: usize, n: usize) -> bool
-    ensures answer { λ r. ⌜ r ≡ orderFits (kindOf kind) m n ⌝ }
+// Whether tables of orders m and n can have an embedding, or with `onto` an isomorphism.
+pub fn order_fits(onto: bool, m: usize, n: usize) -> bool
+    ensures answer { λ r. ⌜ r ≡ orderFits (straight onto) m n ⌝ }
 {
-    match kind {
-        Kind::Embeddings => m <= n,
-        Kind::Isomorphisms => m == n,
-        Kind::Reversed => m == n,
+    if onto {
+        return m == n;
     }
+    m <= n
 }
 
-// Marks the candidates of the kind in scratch. For reversed isomorphisms the target is turned already, and they are those of isomorphisms.
-pub fn fill(kind: Kind, source: &[u8], m: usize, target: &[u8], n: usize, scratch: &mut [u8])
+// Marks the candidates of embeddings in scratch, or with `onto` those of isomorphisms.
+pub fn fill(onto: bool, source: &[u8], m: usize, target: &[u8], n: usize, scratch: &mut [u8])
     requires { ⌜ Accepted m (now source) × Accepted n (now target) ⌝ }
     requires { ⌜ scratchSize m n ≤ length (now scratch) ⌝ }
-    ensures scratch { λ _. ⌜ now (scratch .exit) ≡ scratchAfter m n (candidate (facing (kindOf kind)) m (product m (now (source .entry))) n (product n (now (target .entry)))) (now (scratch .entry)) ⌝ }
+    ensures scratch { λ _. ⌜ now (scratch .exit) ≡ scratchAfter m n (candidate (straight onto) m (product m (now (source .entry))) n (product n (now (target .entry)))) (now (scratch .entry)) ⌝ }
 {
-    match kind {
-        Kind::Embeddings => candidates::fill_embeddings(source, m, target, n, scratch),
-        Kind::Isomorphisms => candidates::fill_isomorphisms(source, m, target, n, scratch),
-        Kind::Reversed => candidates::fill_isomorphisms(source, m, target, n, scratch),
+    if onto {
+        candidates::fill_isomorphisms(source, m, target, n, scratch);
+    } else {
+        candidates::fill_embeddings(source, m, target, n, scratch);
     }
 }

@@ -19,8 +19,8 @@ use Rattle.search.specs.Wanted.{Passes}
 use Rattle.search.specs.Answers.{requestOf, withoutTrials}
 use Rattle.search.proofs.Calls.{refused-unchanged, not-refused}
 
-abbrev told : engine.Replied → Called
-told c = record { says = withoutTrials (c .says); mapBytes = c .mapBytes; scratch = c .scratch }
+abbrev as-search : engine.Replied → Called
+as-search c = record { says = withoutTrials (c .says); mapBytes = c .mapBytes; scratch = c .scratch }
 
 module _ (kind : Kind) (next : Bool) (l : Lent) where
   abbrev unlimited : engine.Replied
@@ -34,15 +34,15 @@ module _ (kind : Kind) (next : Bool) (l : Lent) where
       go true = sym (work-finds kind (bounded true (l .mapBytes)) (l .m) (l .source) (l .n) (l .target) (p .check .source-table) (p .check .target-table))
       go false = sym (work-finds kind (bounded false (l .mapBytes)) (l .m) (l .source) (l .n) (l .target) (p .check .source-table) (p .check .target-table))
 
-  by-refusal : (q : Option Refusal) → refusalOf kind (requestOf next) l ≡ q → told unlimited ≡ call kind (requestOf next) l
+  by-refusal : (q : Option Refusal) → refusalOf kind (requestOf next) l ≡ q → as-search unlimited ≡ call kind (requestOf next) l
   unfolding scratchAfter
   by-refusal (some r) e =
-      ap told (engine-laws.refused-unchanged kind next Unlimited (l .m) (l .source) (l .n) (l .target) (l .mapBytes) (l .scratch) r e) ∙ sym (refused-unchanged kind l (requestOf next) r e)
+      ap as-search (engine-laws.refused-unchanged kind next Unlimited (l .m) (l .source) (l .n) (l .target) (l .mapBytes) (l .scratch) r e) ∙ sym (refused-unchanged kind l (requestOf next) r e)
   by-refusal none e =
       let p = search-passes (l .m) (l .source) (l .n) (l .target) (length (l .mapBytes)) (length (l .scratch)) .0 e in
       let w = workOf kind (bounded next (l .mapBytes)) (l .m) (l .source) (l .n) (l .target) in
-      ap told (engine-laws.not-refused kind next Unlimited (l .m) (l .source) (l .n) (l .target) (l .mapBytes) (l .scratch) p Unlimited refl w refl)
+      ap as-search (engine-laws.not-refused kind next Unlimited (l .m) (l .source) (l .n) (l .target) (l .mapBytes) (l .scratch) p Unlimited refl w refl)
       ∙ sym (not-refused kind l (requestOf next) e (w .found) (finds p))
 
-  pub as-searched : told unlimited ≡ call kind (requestOf next) l
+  pub as-searched : as-search unlimited ≡ call kind (requestOf next) l
   as-searched = by-refusal (refusalOf kind (requestOf next) l) refl

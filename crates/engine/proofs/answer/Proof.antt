@@ -11,10 +11,10 @@ use Rattle.semigroups.specs.Calls.{gives, mapUnless}
 use Rattle.semigroups.specs.Passing.{SearchPasses}
 use Rattle.semigroups.specs.Trials.{work}
 use Rattle.backtrack.specs.State.{bounded}
-use Rattle.kinds.specs.Kinds.{kindOf, orderFits}
-use Rattle.kinds.specs.Facing.{facing}
+use Rattle.kinds.specs.Kinds.{orderFits}
+use Rattle.kinds.specs.Straight.{straight}
 use Rattle.engine.proofs.Calls.{not-refused, told-nothing, as-replied}
-use Rattle.engine.proofs.Works.{fits-facing, work-unfit, work-marked}
+use Rattle.engine.proofs.Works.{work-unfit, work-marked}
 use Rattle.engine.proofs.answer.Statement.{statement}
 use Rattle.engine.proofs.answer.Tie as tie
 
@@ -26,8 +26,8 @@ module _ (c : tie.After-order-fits) where
   passes : let a = start .args in SearchPasses (a .m) (a .source .now) (a .n) (a .target .now) (length (a .map .now)) (length (a .scratch .now))
   passes = let p = start .pre in record { check = record { source-table = p .0 .0; target-table = p .0 .1; map-size = p .1 .0 }; scratch-room = p .1 .1 }
 
-  fits : {b : Bool} → c .order-fits .result ≡ b → orderFits (facing (kindOf (start .args .kind))) (start .args .m) (start .args .n) ≡ b
-  fits e = let a = start .args in sym (fits-facing (kindOf (a .kind)) (a .m) (a .n)) ∙ sym (c .order-fits .ensures) ∙ e
+  fits : {b : Bool} → c .order-fits .result ≡ b → orderFits (straight (start .args .onto)) (start .args .m) (start .args .n) ≡ b
+  fits e = sym (c .order-fits .ensures) ∙ e
 
 fill-requires : tie.Need-fill-requires
 fill-requires c κs = search needs
@@ -43,7 +43,7 @@ returns c =
     let k = c .before in
     let a = start k .args in
     let nothing = told-nothing (a .limit) in
-    as-replied (sym (not-refused (facing (kindOf (a .kind))) (a .next) (a .limit) (a .m) (a .source .now) (a .n) (a .target .now) (a .map .now) (a .scratch .now) (passes k) (a .limit) refl (work none 0) (work-unfit (facing (kindOf (a .kind))) (bounded (a .next) (a .map .now)) (a .m) (a .source .now) (a .n) (a .target .now) (fits k (not-true (k .order-fits .result) (c .if1 .taken))))))
+    as-replied (sym (not-refused (straight (a .onto)) (a .next) (a .limit) (a .m) (a .source .now) (a .n) (a .target .now) (a .map .now) (a .scratch .now) (passes k) (a .limit) refl (work none 0) (work-unfit (straight (a .onto)) (bounded (a .next) (a .map .now)) (a .m) (a .source .now) (a .n) (a .target .now) (fits k (not-true (k .order-fits .result) (c .if1 .taken))))))
     (ap gives (nothing .0), (ap (λ (o : Option (List ℕ)). mapUnless none o (a .map .now)) (nothing .1), k .before .before .before .fill .ensures))
 
 enum-told : tie.Need-enum-told
@@ -69,9 +69,9 @@ returns-2 c =
     let k = c .before .before .before .before .before .before .before .before in
     let a = start k .args in
     let filled = k .before .before .before .fill .ensures in
-    let w = work-marked (kindOf (a .kind)) (a .next) (a .m) (a .source .now) (a .n) (a .target .now) (a .map .now) (a .scratch .now) _ filled (fits k (not-false (k .order-fits .result) (c .before .before .before .before .before .before .before .if1 .left))) in
+    let w = work-marked (a .onto) (a .next) (a .m) (a .source .now) (a .n) (a .target .now) (a .map .now) (a .scratch .now) _ filled (fits k (not-false (k .order-fits .result) (c .before .before .before .before .before .before .before .if1 .left))) in
     let e = c .before .before .find-marked .ensures in
-    as-replied (sym (not-refused (facing (kindOf (a .kind))) (a .next) (a .limit) (a .m) (a .source .now) (a .n) (a .target .now) (a .map .now) (a .scratch .now) (passes k) _ (c .before .before .before .before .before .enum-told .given .1) _ w)) (e .0, (e .1, filled))
+    as-replied (sym (not-refused (straight (a .onto)) (a .next) (a .limit) (a .m) (a .source .now) (a .n) (a .target .now) (a .map .now) (a .scratch .now) (passes k) _ (c .before .before .before .before .before .enum-told .given .1) _ w)) (e .0, (e .1, filled))
 
 same-length-4 : tie.Need-same-length-4
 same-length-4 c = search needs
@@ -84,9 +84,9 @@ returns-3 c =
     let k = c .before .before .before .before .before .before .before .before .before in
     let a = start k .args in
     let filled = k .before .before .before .fill .ensures in
-    let w = work-marked (kindOf (a .kind)) (a .next) (a .m) (a .source .now) (a .n) (a .target .now) (a .map .now) (a .scratch .now) _ filled (fits k (not-false (k .order-fits .result) (c .before .before .before .before .before .before .before .before .if1 .left))) in
+    let w = work-marked (a .onto) (a .next) (a .m) (a .source .now) (a .n) (a .target .now) (a .map .now) (a .scratch .now) _ filled (fits k (not-false (k .order-fits .result) (c .before .before .before .before .before .before .before .before .if1 .left))) in
     let e = c .before .before .find-marked-within .ensures in
-    as-replied (sym (not-refused (facing (kindOf (a .kind))) (a .next) (a .limit) (a .m) (a .source .now) (a .n) (a .target .now) (a .map .now) (a .scratch .now) (passes k) _ (c .before .before .before .before .before .before .limit .given .1) _ w)) (e .0, (e .1, filled))
+    as-replied (sym (not-refused (straight (a .onto)) (a .next) (a .limit) (a .m) (a .source .now) (a .n) (a .target .now) (a .map .now) (a .scratch .now) (passes k) _ (c .before .before .before .before .before .before .limit .given .1) _ w)) (e .0, (e .1, filled))
 
 pub answer-spec : {M : Type 1} → statement M
 answer-spec =

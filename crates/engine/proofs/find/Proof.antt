@@ -11,7 +11,6 @@ use Rattle.tables.specs.Answers.{pairRefusal}
 use Rattle.tables.proofs.Questions.{tables-accepted, tables-refused, map-refused, scratch-refused}
 use Rattle.semigroups.specs.Maps as maps
 use Rattle.kinds.specs.Kinds.{kindOf}
-use Rattle.kinds.specs.Facing.{facing}
 use Rattle.kinds.specs.declared.Kind.{Kind}
 use Rattle.engine.specs.Calls.{Replied}
 use Rattle.engine.specs.Finding.{replied}
@@ -74,9 +73,9 @@ module _ (c : tie.Else2) where
   abbrev asked : maps.Kind → Replied
   asked kind = let a = start .args in replied kind (a .next) (a .limit) (a .m) (a .source .now) (a .n) (a .target .now) (a .map .now) (a .scratch .now)
 
-  -- The kind that the search meets is the kind asked for, unless it is turned.
-  as-asked : {kind : Kind} → start .args .kind ≡ kind → facing (kindOf kind) ≡ kindOf kind → asked (facing (kindOf (start .args .kind))) ≡ asked (kindOf (start .args .kind))
-  as-asked e f = ap asked (ap (λ (k : Kind). facing (kindOf k)) e ∙ f ∙ sym (ap kindOf e))
+  -- What is asked for, once the kind is told.
+  as-asked : {kind : Kind} → start .args .kind ≡ kind → asked (kindOf kind) ≡ asked (kindOf (start .args .kind))
+  as-asked e = ap (λ (k : Kind). asked (kindOf k)) (sym e)
 
 enum-told-2 : tie.Need-enum-told-2
 enum-told-2 c = search needs
@@ -103,7 +102,7 @@ same-length-2 : tie.Need-same-length-2
 same-length-2 c = search needs
 
 returns-4 : tie.Need-returns-4
-returns-4 c = as-replied (as-asked (c .before .before .before .before .before .before .before .before .before) (c .before .before .before .before .before .before .before .enum-told2 .given .1) refl) (c .before .before .before .before .answer .ensures)
+returns-4 c = as-replied (as-asked (c .before .before .before .before .before .before .before .before .before) (c .before .before .before .before .before .before .before .enum-told2 .given .1)) (c .before .before .before .before .answer .ensures)
 
 same-length-3 : tie.Need-same-length-3
 same-length-3 c = search needs
@@ -112,7 +111,7 @@ same-length-4 : tie.Need-same-length-4
 same-length-4 c = search needs
 
 returns-5 : tie.Need-returns-5
-returns-5 c = as-replied (as-asked (c .before .before .before .before .before .before .before .before .before) (c .before .before .before .before .before .before .before .enum-told3 .given .1) refl) (c .before .before .before .before .answer2 .ensures)
+returns-5 c = as-replied (as-asked (c .before .before .before .before .before .before .before .before .before) (c .before .before .before .before .before .before .before .enum-told3 .given .1)) (c .before .before .before .before .answer2 .ensures)
 
 same-length-5 : tie.Need-same-length-5
 same-length-5 c = search needs
@@ -121,9 +120,7 @@ same-length-6 : tie.Need-same-length-6
 same-length-6 c = search needs
 
 returns-6 : tie.Need-returns-6
-returns-6 c =
-    let k = c .before .before .before .before .before .before .before .before .before in
-    as-replied (ap (λ (q : Kind). asked k (kindOf q)) (sym (c .before .before .before .before .before .before .before .enum-told4 .given .1))) (c .before .before .before .before .answer-reversed .ensures)
+returns-6 c = as-replied (as-asked (c .before .before .before .before .before .before .before .before .before) (c .before .before .before .before .before .before .before .enum-told4 .given .1)) (c .before .before .before .before .answer-reversed .ensures)
 
 pub find-spec : {M : Type 1} → statement M
 find-spec =
