@@ -28,6 +28,7 @@ use judging::tally::counted;
 use judging::tally::start;
 use plain::Said;
 use plain::failed;
+use search::Kind;
 use text::Loaded;
 use text::TextFault;
 use transformations::TransformationAnswer;
@@ -104,7 +105,15 @@ fn embedded(size: usize, said: usize, map: [u8; 2], scratch: [u8; 3], tally: Tal
 {
     let mut images = [0u8; 2];
     let mut marks = [255u8; 3];
-    let answer = search::first_embedding(&SWAP, 2, &TWO, 4, &mut images, &mut marks[..size]);
+    let answer = search::first(
+        Kind::Embeddings,
+        &SWAP,
+        2,
+        &TWO,
+        4,
+        &mut images,
+        &mut marks[..size],
+    );
     let answered = counted(tally, said_number(answer) == said);
     let mapped = counted(answered, same_bytes(&images, &map));
     counted(mapped, same_bytes(&marks, &scratch))

@@ -21,7 +21,7 @@ use files::load_then_check;
 use lines::put_break;
 use lines::put_bytes;
 use lines::put_field;
-use search::SearchAnswer;
+use search::Kind;
 
 // What is done with the next file that is read: it is a new one; or it is file j, to be compared with the new file's table of order n; or none is
 // read any more.
@@ -60,11 +60,16 @@ fn isomorphic(source: &[u8], m: usize, target: &[u8], n: usize) -> bool
 {
     let mut map = [0u8; 120];
     let mut scratch = [0u8; 14400];
-    let said = search::first_isomorphism(source, m, target, n, &mut map[..m], &mut scratch);
-    let SearchAnswer::Found = said else {
-        return false;
-    };
-    true
+    search::find(
+        Kind::Isomorphisms,
+        false,
+        source,
+        m,
+        target,
+        n,
+        &mut map[..m],
+        &mut scratch,
+    )
 }
 
 // Whether a file with these bytes is accepted and holds a table that is isomorphic to this one of order n. Another order is not tried.

@@ -6,7 +6,7 @@ ghost use Prim.Native.Nat.{_≤_};
 ghost use lib.Dec.{eqb};
 ghost use lib.ListN.{length, drop};
 ghost use Rattle.semigroups.specs.Tables.{Accepted};
-ghost use Rattle.kinds.specs.Kinds.{kindOf as searchKindOf};
+ghost use Rattle.search.specs.Kinds.{kindOf as searchKindOf};
 ghost use Rattle.plain.specs.Enumeration.{kindOf};
 ghost use Rattle.comparisons.specs.Said.{saidNumber};
 ghost use Rattle.judging.specs.Tally.{agreed};
@@ -14,8 +14,8 @@ ghost use Rattle.comparisons.specs.Walking.{called, walkCalls};
 use crate::said::said_number;
 use judging::tally::Tally;
 use judging::tally::counted;
-use kinds::Kind;
 use plain::next_map;
+use search::Kind;
 use search::search;
 
 // The kind of maps.

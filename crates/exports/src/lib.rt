@@ -4,7 +4,7 @@ ghost use mathlib.Core.Path.{_≡_};
 ghost use lib.ListN.{length};
 ghost use Rattle.semigroups.specs.Tables.{product};
 ghost use Rattle.semigroups.specs.Invariants.{indexPeriod, profile};
-ghost use Rattle.semigroups.specs.Maps.{embeddings, isomorphisms, reversed};
+ghost use Rattle.semigroups.specs.Maps.{embeddings, isomorphisms, reversed, first, next};
 ghost use Rattle.semigroups.specs.Questions.{tableRefusal, elementRefusal};
 ghost use Rattle.semigroups.specs.Light.{generatorsRefusal};
 ghost use Rattle.semigroups.specs.Calls.{givenUnless};
@@ -13,20 +13,18 @@ ghost use Rattle.invariants.specs.Answers.{indexPeriodSays, profileSays};
 ghost use Rattle.maps.specs.Answers.{mapCheck, mapAnswerSays};
 ghost use Rattle.generated.specs.Answers.{generatorsVerdictRefusal, subsemigroupSays, partAfter, elementsAfter, subsemigroupAnswerSays};
 ghost use Rattle.copies.specs.Answers.{copiesSays, copiesScratch, copiesAnswerSays};
-ghost use Rattle.search.specs.Calls.{theFirst, theNext, lend, call};
-ghost use Rattle.search.specs.Answers.{searchAnswerSays};
-ghost use Rattle.engine.specs.Answers.{replySays};
+ghost use Rattle.search.specs.Calls.{lend, call};
+ghost use Rattle.search.specs.Answers.{searchAnswerSays, limitedAnswerSays};
 ghost use Rattle.search.specs.Limited.{limitedCall};
 ghost use Rattle.transformations.specs.Answers.{transformationSays, transformationCellsAfter, transformationAnswerSays};
 ghost use Rattle.csv.specs.Calls.{loadAnswer, cellsAfter, saveAnswer, textAfter};
 ghost use Rattle.text.specs.Answers.{loadedAnswer, savedAnswer};
-ghost use Rattle.exports.specs.Answers.{questionWords, answerWords, indexPeriodValues, profileValues, checkedValues, soughtValues, limitedValues, numberValues, degreeValues, copiesValues};
+ghost use Rattle.exports.specs.Answers.{questionWords, valueWords, answerWords, returned, wordsOf, indexPeriodValues, profileValues, checkedValues, soughtValues, limitedValues, numberValues, degreeValues, copiesValues};
 ghost use Rattle.planning.specs.Answers.{degreeSays, positionsAfter, degreeAnswerSays};
 ghost use Rattle.sheets.specs.Readings.{Reading};
 ghost use Rattle.sheets.specs.Calls.{loadNamesAnswer, namesAfter, lengthsAfter, saveNamesAnswer, sheetAfter};
 ghost use Rattle.names.specs.Answers.{namesAnswerSays};
 use copies::CopiesAnswer;
-use engine::Reply;
 use generated::GeneratorsVerdict;
 use generated::SubsemigroupAnswer;
 use invariants::IndexPeriodAnswer;
@@ -36,6 +34,8 @@ use names::NamesAnswer;
 use numbers::refusal_words;
 use numbers::words;
 use planning::DegreeAnswer;
+use search::Kind;
+use search::LimitedAnswer;
 use search::SearchAnswer;
 use tables::Refusal;
 use tables::Verdict;
@@ -126,22 +126,18 @@ fn search_words(said: SearchAnswer) -> [u64; 16]
     match said {
         SearchAnswer::Found => words(0, 0, &[1]),
         SearchAnswer::Nothing => words(0, 0, &[0]),
-        SearchAnswer::Refused(side, fault) => refusal_words(fault.refusal().naming(side)),
-        SearchAnswer::MapLength => refusal_words(Refusal::by(5, 0)),
-        SearchAnswer::ScratchLength => refusal_words(Refusal::by(6, 0)),
+        SearchAnswer::Refused(fault) => refusal_words(fault.refusal()),
     }
 }
 
-fn limited_words(said: Reply) -> [u64; 16]
-    ensures answer { λ r. ⌜ r ≡ answerWords limitedValues (replySays said) ⌝ }
+fn limited_words(said: LimitedAnswer) -> [u64; 16]
+    ensures answer { λ r. ⌜ r ≡ answerWords limitedValues (limitedAnswerSays said) ⌝ }
 {
     match said {
-        Reply::Found(trials) => words(0, 0, &[1, trials as usize]),
-        Reply::Nothing(trials) => words(0, 0, &[0, trials as usize]),
-        Reply::Stopped => words(0, 0, &[2]),
-        Reply::Refused(side, fault) => refusal_words(fault.refusal().naming(side)),
-        Reply::MapLength => refusal_words(Refusal::by(5, 0)),
-        Reply::ScratchLength => refusal_words(Refusal::by(6, 0)),
+        LimitedAnswer::Found(trials) => words(0, 0, &[1, trials as usize]),
+        LimitedAnswer::Nothing(trials) => words(0, 0, &[0, trials as usize]),
+        LimitedAnswer::Stopped => words(0, 0, &[2]),
+        LimitedAnswer::Refused(fault) => refusal_words(fault.refusal()),
     }
 }
 
@@ -270,11 +266,9 @@ pub extern "C" fn tickdrizzle_first_embedding(
     scratch: &mut [u8],
     answer: &mut [u64; 16],
 )
-    ensures answer { λ _. ⌜ now (answer .exit) ≡ answerWords soughtValues (call embeddings theFirst (lend (now (source .entry)) m (now (target .entry)) n (now (map .entry)) (now (scratch .entry))) .says) ⌝ }
-    ensures map { λ _. ⌜ now (map .exit) ≡ call embeddings theFirst (lend (now (source .entry)) m (now (target .entry)) n (now (map .entry)) (now (scratch .entry))) .mapBytes ⌝ }
-    ensures scratch { λ _. ⌜ now (scratch .exit) ≡ call embeddings theFirst (lend (now (source .entry)) m (now (target .entry)) n (now (map .entry)) (now (scratch .entry))) .scratch ⌝ }
+    ensures call { λ _. ⌜ returned (now (answer .exit)) (now (map .exit)) (now (scratch .exit)) ≡ wordsOf soughtValues (call embeddings first (lend (now (source .entry)) m (now (target .entry)) n (now (map .entry)) (now (scratch .entry)))) ⌝ }
 {
-    *answer = search_words(search::first_embedding(source, m, target, n, map, scratch));
+    *answer = search_words(search::first(Kind::Embeddings, source, m, target, n, map, scratch));
 }
 
 // Writes the earliest embedding that is later than the bytes of `map` over them. Value: 1 for found, 0 for none.
@@ -288,11 +282,9 @@ pub extern "C" fn tickdrizzle_next_embedding(
     scratch: &mut [u8],
     answer: &mut [u64; 16],
 )
-    ensures answer { λ _. ⌜ now (answer .exit) ≡ answerWords soughtValues (call embeddings theNext (lend (now (source .entry)) m (now (target .entry)) n (now (map .entry)) (now (scratch .entry))) .says) ⌝ }
-    ensures map { λ _. ⌜ now (map .exit) ≡ call embeddings theNext (lend (now (source .entry)) m (now (target .entry)) n (now (map .entry)) (now (scratch .entry))) .mapBytes ⌝ }
-    ensures scratch { λ _. ⌜ now (scratch .exit) ≡ call embeddings theNext (lend (now (source .entry)) m (now (target .entry)) n (now (map .entry)) (now (scratch .entry))) .scratch ⌝ }
+    ensures call { λ _. ⌜ returned (now (answer .exit)) (now (map .exit)) (now (scratch .exit)) ≡ wordsOf soughtValues (call embeddings (next (now (map .entry))) (lend (now (source .entry)) m (now (target .entry)) n (now (map .entry)) (now (scratch .entry)))) ⌝ }
 {
-    *answer = search_words(search::next_embedding(source, m, target, n, map, scratch));
+    *answer = search_words(search::next(Kind::Embeddings, source, m, target, n, map, scratch));
 }
 
 // Writes the earliest isomorphism of the source onto the target to `map`. Value: 1 for found, 0 for none.
@@ -306,11 +298,9 @@ pub extern "C" fn tickdrizzle_first_isomorphism(
     scratch: &mut [u8],
     answer: &mut [u64; 16],
 )
-    ensures answer { λ _. ⌜ now (answer .exit) ≡ answerWords soughtValues (call isomorphisms theFirst (lend (now (source .entry)) m (now (target .entry)) n (now (map .entry)) (now (scratch .entry))) .says) ⌝ }
-    ensures map { λ _. ⌜ now (map .exit) ≡ call isomorphisms theFirst (lend (now (source .entry)) m (now (target .entry)) n (now (map .entry)) (now (scratch .entry))) .mapBytes ⌝ }
-    ensures scratch { λ _. ⌜ now (scratch .exit) ≡ call isomorphisms theFirst (lend (now (source .entry)) m (now (target .entry)) n (now (map .entry)) (now (scratch .entry))) .scratch ⌝ }
+    ensures call { λ _. ⌜ returned (now (answer .exit)) (now (map .exit)) (now (scratch .exit)) ≡ wordsOf soughtValues (call isomorphisms first (lend (now (source .entry)) m (now (target .entry)) n (now (map .entry)) (now (scratch .entry)))) ⌝ }
 {
-    *answer = search_words(search::first_isomorphism(source, m, target, n, map, scratch));
+    *answer = search_words(search::first(Kind::Isomorphisms, source, m, target, n, map, scratch));
 }
 
 // Writes the earliest isomorphism that is later than the bytes of `map` over them. Value: 1 for found, 0 for none.
@@ -324,11 +314,9 @@ pub extern "C" fn tickdrizzle_next_isomorphism(
     scratch: &mut [u8],
     answer: &mut [u64; 16],
 )
-    ensures answer { λ _. ⌜ now (answer .exit) ≡ answerWords soughtValues (call isomorphisms theNext (lend (now (source .entry)) m (now (target .entry)) n (now (map .entry)) (now (scratch .entry))) .says) ⌝ }
-    ensures map { λ _. ⌜ now (map .exit) ≡ call isomorphisms theNext (lend (now (source .entry)) m (now (target .entry)) n (now (map .entry)) (now (scratch .entry))) .mapBytes ⌝ }
-    ensures scratch { λ _. ⌜ now (scratch .exit) ≡ call isomorphisms theNext (lend (now (source .entry)) m (now (target .entry)) n (now (map .entry)) (now (scratch .entry))) .scratch ⌝ }
+    ensures call { λ _. ⌜ returned (now (answer .exit)) (now (map .exit)) (now (scratch .exit)) ≡ wordsOf soughtValues (call isomorphisms (next (now (map .entry))) (lend (now (source .entry)) m (now (target .entry)) n (now (map .entry)) (now (scratch .entry)))) ⌝ }
 {
-    *answer = search_words(search::next_isomorphism(source, m, target, n, map, scratch));
+    *answer = search_words(search::next(Kind::Isomorphisms, source, m, target, n, map, scratch));
 }
 
 // Writes the earliest reversed isomorphism of the source onto the target to `map`. Value: 1 for found, 0 for none.
@@ -342,11 +330,9 @@ pub extern "C" fn tickdrizzle_first_reversed_isomorphism(
     scratch: &mut [u8],
     answer: &mut [u64; 16],
 )
-    ensures answer { λ _. ⌜ now (answer .exit) ≡ answerWords soughtValues (call reversed theFirst (lend (now (source .entry)) m (now (target .entry)) n (now (map .entry)) (now (scratch .entry))) .says) ⌝ }
-    ensures map { λ _. ⌜ now (map .exit) ≡ call reversed theFirst (lend (now (source .entry)) m (now (target .entry)) n (now (map .entry)) (now (scratch .entry))) .mapBytes ⌝ }
-    ensures scratch { λ _. ⌜ now (scratch .exit) ≡ call reversed theFirst (lend (now (source .entry)) m (now (target .entry)) n (now (map .entry)) (now (scratch .entry))) .scratch ⌝ }
+    ensures call { λ _. ⌜ returned (now (answer .exit)) (now (map .exit)) (now (scratch .exit)) ≡ wordsOf soughtValues (call reversed first (lend (now (source .entry)) m (now (target .entry)) n (now (map .entry)) (now (scratch .entry)))) ⌝ }
 {
-    *answer = search_words(search::first_reversed_isomorphism(source, m, target, n, map, scratch));
+    *answer = search_words(search::first(Kind::Reversed, source, m, target, n, map, scratch));
 }
 
 // Writes the earliest reversed isomorphism that is later than the bytes of `map` over them. Value: 1 for found, 0 for none.
@@ -360,11 +346,9 @@ pub extern "C" fn tickdrizzle_next_reversed_isomorphism(
     scratch: &mut [u8],
     answer: &mut [u64; 16],
 )
-    ensures answer { λ _. ⌜ now (answer .exit) ≡ answerWords soughtValues (call reversed theNext (lend (now (source .entry)) m (now (target .entry)) n (now (map .entry)) (now (scratch .entry))) .says) ⌝ }
-    ensures map { λ _. ⌜ now (map .exit) ≡ call reversed theNext (lend (now (source .entry)) m (now (target .entry)) n (now (map .entry)) (now (scratch .entry))) .mapBytes ⌝ }
-    ensures scratch { λ _. ⌜ now (scratch .exit) ≡ call reversed theNext (lend (now (source .entry)) m (now (target .entry)) n (now (map .entry)) (now (scratch .entry))) .scratch ⌝ }
+    ensures call { λ _. ⌜ returned (now (answer .exit)) (now (map .exit)) (now (scratch .exit)) ≡ wordsOf soughtValues (call reversed (next (now (map .entry))) (lend (now (source .entry)) m (now (target .entry)) n (now (map .entry)) (now (scratch .entry)))) ⌝ }
 {
-    *answer = search_words(search::next_reversed_isomorphism(source, m, target, n, map, scratch));
+    *answer = search_words(search::next(Kind::Reversed, source, m, target, n, map, scratch));
 }
 
 // ---- what a list of elements generates
@@ -440,6 +424,10 @@ pub extern "C" fn tickdrizzle_save(
     *answer = saved_words(text::save(cells, order, text));
 }
 
+// ---- searches with a limit
+
+// Writes the earliest embedding to `map` if the search needs at most `limit` trials. Values: 1 for found or 0 for none, and the number of trials; or 2 for
+// stopped.
 #[no_mangle]
 pub extern "C" fn tickdrizzle_first_embedding_within(
     source: &[u8],
@@ -451,11 +439,10 @@ pub extern "C" fn tickdrizzle_first_embedding_within(
     limit: u32,
     answer: &mut [u64; 16],
 )
-    ensures answer { λ _. ⌜ now (answer .exit) ≡ answerWords limitedValues (limitedCall embeddings limit (lend (now (source .entry)) m (now (target .entry)) n (now (map .entry)) (now (scratch .entry))) .says) ⌝ }
-    ensures map { λ _. ⌜ now (map .exit) ≡ limitedCall embeddings limit (lend (now (source .entry)) m (now (target .entry)) n (now (map .entry)) (now (scratch .entry))) .mapBytes ⌝ }
-    ensures scratch { λ _. ⌜ now (scratch .exit) ≡ limitedCall embeddings limit (lend (now (source .entry)) m (now (target .entry)) n (now (map .entry)) (now (scratch .entry))) .scratch ⌝ }
+    ensures call { λ _. ⌜ returned (now (answer .exit)) (now (map .exit)) (now (scratch .exit)) ≡ wordsOf limitedValues (limitedCall embeddings limit (lend (now (source .entry)) m (now (target .entry)) n (now (map .entry)) (now (scratch .entry)))) ⌝ }
 {
-    *answer = limited_words(search::first_embedding_within(
+    *answer = limited_words(search::first_within(
+        Kind::Embeddings,
         source,
         m,
         target,
@@ -466,6 +453,8 @@ pub extern "C" fn tickdrizzle_first_embedding_within(
     ));
 }
 
+// Writes the earliest isomorphism to `map` if the search needs at most `limit` trials. Values: 1 for found or 0 for none, and the number of trials; or 2 for
+// stopped.
 #[no_mangle]
 pub extern "C" fn tickdrizzle_first_isomorphism_within(
     source: &[u8],
@@ -477,11 +466,37 @@ pub extern "C" fn tickdrizzle_first_isomorphism_within(
     limit: u32,
     answer: &mut [u64; 16],
 )
-    ensures answer { λ _. ⌜ now (answer .exit) ≡ answerWords limitedValues (limitedCall isomorphisms limit (lend (now (source .entry)) m (now (target .entry)) n (now (map .entry)) (now (scratch .entry))) .says) ⌝ }
-    ensures map { λ _. ⌜ now (map .exit) ≡ limitedCall isomorphisms limit (lend (now (source .entry)) m (now (target .entry)) n (now (map .entry)) (now (scratch .entry))) .mapBytes ⌝ }
-    ensures scratch { λ _. ⌜ now (scratch .exit) ≡ limitedCall isomorphisms limit (lend (now (source .entry)) m (now (target .entry)) n (now (map .entry)) (now (scratch .entry))) .scratch ⌝ }
+    ensures call { λ _. ⌜ returned (now (answer .exit)) (now (map .exit)) (now (scratch .exit)) ≡ wordsOf limitedValues (limitedCall isomorphisms limit (lend (now (source .entry)) m (now (target .entry)) n (now (map .entry)) (now (scratch .entry)))) ⌝ }
 {
-    *answer = limited_words(search::first_isomorphism_within(
+    *answer = limited_words(search::first_within(
+        Kind::Isomorphisms,
+        source,
+        m,
+        target,
+        n,
+        map,
+        scratch,
+        limit,
+    ));
+}
+
+// Writes the earliest reversed isomorphism to `map` if the search needs at most `limit` trials. Values: 1 for found or 0 for none, and the number of trials;
+// or 2 for stopped.
+#[no_mangle]
+pub extern "C" fn tickdrizzle_first_reversed_isomorphism_within(
+    source: &[u8],
+    m: usize,
+    target: &[u8],
+    n: usize,
+    map: &mut [u8],
+    scratch: &mut [u8],
+    limit: u32,
+    answer: &mut [u64; 16],
+)
+    ensures call { λ _. ⌜ returned (now (answer .exit)) (now (map .exit)) (now (scratch .exit)) ≡ wordsOf limitedValues (limitedCall reversed limit (lend (now (source .entry)) m (now (target .entry)) n (now (map .entry)) (now (scratch .entry)))) ⌝ }
+{
+    *answer = limited_words(search::first_within(
+        Kind::Reversed,
         source,
         m,
         target,
@@ -507,33 +522,6 @@ pub extern "C" fn tickdrizzle_least_degree(
     ensures positions { λ _. ⌜ now (positions .exit) ≡ positionsAfter order (now (cells .entry)) (now (positions .entry)) ⌝ }
 {
     *answer = degree_words(planning::least_degree(cells, order, positions));
-}
-
-// Writes the earliest reversed isomorphism to `map`, where `limit` trials suffice. Values: 1 for found or 0 for none, and the trials; or 2 for stopped.
-#[no_mangle]
-pub extern "C" fn tickdrizzle_first_reversed_isomorphism_within(
-    source: &[u8],
-    m: usize,
-    target: &[u8],
-    n: usize,
-    map: &mut [u8],
-    scratch: &mut [u8],
-    limit: u32,
-    answer: &mut [u64; 16],
-)
-    ensures answer { λ _. ⌜ now (answer .exit) ≡ answerWords limitedValues (limitedCall reversed limit (lend (now (source .entry)) m (now (target .entry)) n (now (map .entry)) (now (scratch .entry))) .says) ⌝ }
-    ensures map { λ _. ⌜ now (map .exit) ≡ limitedCall reversed limit (lend (now (source .entry)) m (now (target .entry)) n (now (map .entry)) (now (scratch .entry))) .mapBytes ⌝ }
-    ensures scratch { λ _. ⌜ now (scratch .exit) ≡ limitedCall reversed limit (lend (now (source .entry)) m (now (target .entry)) n (now (map .entry)) (now (scratch .entry))) .scratch ⌝ }
-{
-    *answer = limited_words(search::first_reversed_isomorphism_within(
-        source,
-        m,
-        target,
-        n,
-        map,
-        scratch,
-        limit,
-    ));
 }
 
 // ---- name sheets

@@ -18,7 +18,7 @@ use lines::put_break;
 use lines::put_bytes;
 use lines::put_field;
 use lines::put_number;
-use search::SearchAnswer;
+use search::Kind;
 
 // Writes the record of a word and two numbers to the start of `out`. Answers its length.
 fn put_record(out: &mut [u8], word: &[u8], a: usize, b: usize) -> usize
@@ -73,7 +73,7 @@ fn put_found(out: &mut [u8], n: usize, map: &[u8]) -> usize
 }
 
 // Asks for the first embedding of one table in another, writes what is found, or none, to the start of `out` and answers the length. The map buffer has
-// the right length, and scratch is enough for the largest tables, so no question fails.
+// the right length, and scratch is enough for the largest tables, so no question is asked.
 fn put_answer(out: &mut [u8; 1095], source: &[u8], m: usize, target: &[u8], n: usize) -> usize
     requires tables { ⌜ Accepted m (now source) × Accepted n (now target) ⌝ }
     ensures answer { λ r. ⌜ r ≡ length (rowsText (answerRecords m (now (source .entry)) n (now (target .entry)))) ⌝ }
@@ -81,10 +81,19 @@ fn put_answer(out: &mut [u8; 1095], source: &[u8], m: usize, target: &[u8], n: u
 {
     let mut map = [0u8; 120];
     let mut scratch = [0u8; 1800];
-    let said = search::first_embedding(source, m, target, n, &mut map[..m], &mut scratch);
-    let SearchAnswer::Found = said else {
+    let found = search::find(
+        Kind::Embeddings,
+        false,
+        source,
+        m,
+        target,
+        n,
+        &mut map[..m],
+        &mut scratch,
+    );
+    if !found {
         return put_record(out, b"none", m, n);
-    };
+    }
     put_found(out, n, &map[..m])
 }
 

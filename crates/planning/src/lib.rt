@@ -13,7 +13,7 @@ ghost use Rattle.semigroups.specs.Transformations.{transformationOrder, transfo
 ghost use Rattle.tables.specs.Answers.{refusalNumbers};
 ghost use Rattle.planning.specs.Degrees.{firstAt, leastFit, leastDegree, landings, fitPositions};
 ghost use Rattle.planning.specs.Answers.{degreeFaultRefusal, degreeAnswerSays, degreeSays, positionsAfter};
-use search::SearchAnswer;
+use search::Kind;
 use tables::Fault;
 use tables::Refusal;
 use tables::Verdict;
@@ -56,8 +56,8 @@ fn write_positions(image: &[u8], m: usize, degree: usize, positions: &mut [u8])
 
 // ---- the least degree
 
-// Whether the table of all transformations of `degree` points holds an embedding; the first one is left in `image`. The buffers lent to the search have
-// the right length, so no question fails.
+// Whether the table of all transformations of `degree` points holds an embedding; the first one is left in `image`. The tables are accepted
+// and the buffers have the right length, so no question is asked.
 fn fits(cells: &[u8], m: usize, degree: usize, image: &mut [u8]) -> bool
     requires { ⌜ Accepted m (now cells) ⌝ ∗ ⌜ m ≤ 27 ⌝ ∗ ⌜ Element 3 degree ⌝ ∗ ⌜ length (now image) ≡ m ⌝ }
     ensures first { λ r. ⌜ cond r (some (now (image .exit))) none ≡ firstAt m (product m (now (cells .entry))) degree ⌝ }
@@ -69,11 +69,16 @@ fn fits(cells: &[u8], m: usize, degree: usize, image: &mut [u8]) -> bool
     };
     let size = n * n;
     let mut scratch = [0u8; 729];
-    let said = search::first_embedding(cells, m, &target[..size], n, image, &mut scratch);
-    let SearchAnswer::Found = said else {
-        return false;
-    };
-    true
+    search::find(
+        Kind::Embeddings,
+        false,
+        cells,
+        m,
+        &target[..size],
+        n,
+        image,
+        &mut scratch,
+    )
 }
 
 // Why a table is refused: its fault, or question 80.

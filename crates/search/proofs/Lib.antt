@@ -1,5 +1,9 @@
 pub mod Calls
-pub mod Unlimited
+pub mod Works
+pub mod Turned
+pub mod Marked
+pub mod Searching
+pub mod Refusals
 pub mod Limited
 pub mod Limits
 pub mod Demand3

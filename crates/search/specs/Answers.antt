@@ -1,30 +1,43 @@
--- What a search's answer means (01, "The questions"): what is said, and for each refusal the number, the side and the values.
+-- What the answers of a search mean (01, "The questions"; 02, (vi)): what is said, and for each refusal the number, the side and the values.
 -- Assumes nothing.
 use mathlib.Core.Bool.{Bool, true, false}
 use mathlib.Core.List.{[]}
-use Rattle.semigroups.specs.Questions.{no, naming}
+use mathlib.Core.Option.{Option, none, some}
+use Rattle.semigroups.specs.Questions.{Refusal, no, naming}
 use Rattle.semigroups.specs.Calls.{Answer, refused, gives}
 use Rattle.semigroups.specs.Maps as maps
 use Rattle.semigroups.specs.Trials.{Limited, stopped, ended}
 use Rattle.tables.specs.Answers.{faultRefusal, sideNumber}
-use Rattle.search.specs.Calls.{Request, theFirst, theNext}
+use Rattle.search.specs.declared.SearchFault.{SearchFault}
+use Rattle.search.specs.declared.SearchFault.the-variants.{Table, MapLength, ScratchLength}
+use Rattle.search.specs.declared.Questions.{Questions}
+use Rattle.search.specs.declared.Questions.the-variants as questions
 use Rattle.search.specs.declared.SearchAnswer.{SearchAnswer}
-use Rattle.search.specs.declared.SearchAnswer.the-variants.{Found, Nothing, Refused, MapLength, ScratchLength}
+use Rattle.search.specs.declared.SearchAnswer.the-variants as answer
+use Rattle.search.specs.declared.LimitedAnswer.{LimitedAnswer}
+use Rattle.search.specs.declared.LimitedAnswer.the-variants as limited
 
 -- 1 to 4 name their side and carry the cell or the triple; 5 and 6 name none and carry nothing.
+abbrev pub searchFaultRefusal : SearchFault → Refusal
+searchFaultRefusal (Table side fault) = naming (sideNumber side) (faultRefusal fault)
+searchFaultRefusal MapLength = no 5 []
+searchFaultRefusal ScratchLength = no 6 []
+
+abbrev pub questionsRefusal : Questions → Option Refusal
+questionsRefusal questions.Passed = none
+questionsRefusal (questions.Failed fault) = some (searchFaultRefusal fault)
+
+abbrev pub soughtIf : Bool → maps.Sought
+soughtIf true = maps.found
+soughtIf false = maps.nothing
+
 abbrev pub searchAnswerSays : SearchAnswer → Answer maps.Sought
-searchAnswerSays Found = gives maps.found
-searchAnswerSays Nothing = gives maps.nothing
-searchAnswerSays (Refused side fault) = refused (naming (sideNumber side) (faultRefusal fault))
-searchAnswerSays MapLength = refused (no 5 [])
-searchAnswerSays ScratchLength = refused (no 6 [])
+searchAnswerSays answer.Found = gives maps.found
+searchAnswerSays answer.Nothing = gives maps.nothing
+searchAnswerSays (answer.Refused fault) = refused (searchFaultRefusal fault)
 
-abbrev pub requestOf : Bool → Request
-requestOf true = theNext
-requestOf false = theFirst
-
--- What is said, without the number of trials; a search that may take all it needs is not stopped.
-abbrev pub withoutTrials : Answer Limited → Answer maps.Sought
-withoutTrials (refused r) = refused r
-withoutTrials (gives stopped) = gives maps.nothing
-withoutTrials (gives (ended found-or-not trials)) = gives found-or-not
+abbrev pub limitedAnswerSays : LimitedAnswer → Answer Limited
+limitedAnswerSays (limited.Found trials) = gives (ended maps.found trials)
+limitedAnswerSays (limited.Nothing trials) = gives (ended maps.nothing trials)
+limitedAnswerSays limited.Stopped = gives stopped
+limitedAnswerSays (limited.Refused fault) = refused (searchFaultRefusal fault)

@@ -1,19 +1,34 @@
--- A call of a search with a limit (02, (vi)): from all that is lent to all that is said and every byte that is left. One definition for every kind.
+-- A call of a search with a limit (02, (vi)), and the work that it takes. One definition for every kind.
 -- Assumes nothing.
+use mathlib.Core.Bool.{cond}
+use mathlib.Core.List.{List, []}
+use mathlib.Core.Option.{none}
 use Prim.Native.Nat.{ℕ}
-use Rattle.semigroups.specs.Calls.{givenUnless, writtenUnless, mapUnless}
-use Rattle.semigroups.specs.Maps.{Kind, first}
-use Rattle.semigroups.specs.Trials.{Work, limited, foundWithin}
-use Rattle.engine.specs.Calls.{Replied, workOf}
-use Rattle.search.specs.Calls.{Lent, theFirst, refusalOf, marksOf}
+use Rattle.semigroups.specs.Tables.{Product, product, turned}
+use Rattle.semigroups.specs.Maps.{Kind, embeddings, isomorphisms, reversed, Ask, first}
+use Rattle.semigroups.specs.Candidates.{candidate}
+use Rattle.semigroups.specs.Trials.{Work, work, counted, Limited, limited, foundWithin}
+use Rattle.search.specs.Kinds.{orderFits}
+use Rattle.search.specs.Calls.{Lent, Called, refusalOf, leaving}
+
+-- The target's product as a search of the kind tests it: for reversed maps each product's image in the reversed order (02, (ix)).
+abbrev pub readBy : Kind → Product → Product
+readBy embeddings t = t
+readBy isomorphisms t = t
+readBy reversed t = turned t
+
+-- The work of the search for a map of the kind. Where the orders rule a map out (m > n, and for isomorphisms m and n that differ) it is none.
+unfoldable pub workOf : Kind → Ask → ℕ → List ℕ → ℕ → List ℕ → Work
+workOf kind ask m source n target =
+    let s = product m source in
+    let t = product n target in
+    let searched = counted s (readBy kind t) (candidate kind m s n t) ask n m [] in
+    cond (orderFits kind m n) searched (work none 0)
 
 -- The work of the search for the first map of the kind.
 abbrev pub firstWork : Kind → Lent → Work
 firstWork kind l = workOf kind first (l .m) (l .source) (l .n) (l .target)
 
--- A call of a search with a limit. The questions and the marks in scratch are those of a search for the first map.
-unfoldable pub limitedCall : Kind → ℕ → Lent → Replied
-limitedCall kind limit l =
-    let refusal = refusalOf kind theFirst l in
-    let w = firstWork kind l in
-    record { says = givenUnless refusal (limited limit w); mapBytes = mapUnless refusal (foundWithin limit w) (l .mapBytes); scratch = writtenUnless refusal (marksOf kind theFirst l) (l .scratch) }
+-- A call of a search with a limit.
+unfoldable pub limitedCall : Kind → ℕ → Lent → Called Limited
+limitedCall kind limit l = let w = firstWork kind l in leaving kind l (refusalOf l) (limited limit w) (foundWithin limit w)

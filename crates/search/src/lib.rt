@@ -1,45 +1,296 @@
-// The first embedding, isomorphism or reversed isomorphism of a source table in a target table, and the next one after the bytes of the map buffer. The
-// caller lends the cells, the orders and both buffers; anything may be handed over. A refusal changes no lent byte, and "nothing" changes no byte of the
-// map. The first map also within a limit of trials: a trial is one candidate, unused so far, tested as the image of the next element, and a search that
-// needs more than the limit is stopped, which changes no byte of the map.
+// Searches for maps between two tables: the first map of a kind, the next one after the bytes of the map buffer, and the first one within a limit of
+// trials. The caller lends the cells, the orders and both buffers, with any content. A refused call changes no lent byte, and a call that finds no map
+// changes no byte of the map buffer. A reversed isomorphism is searched for as an isomorphism onto the target with rows and columns exchanged.
 ghost use mathlib.Core.Path.{_≡_};
-ghost use Rattle.semigroups.specs.Maps.{embeddings, isomorphisms, reversed};
-ghost use Rattle.kinds.specs.Kinds.{kindOf};
-ghost use Rattle.engine.specs.Answers.{replySays};
-ghost use Rattle.search.specs.Calls.{theFirst, theNext, lend, call};
+ghost use mathlib.Core.Option.{none};
+ghost use Prim.Native.Nat.{_*_, _≤_};
+ghost use lib.ListN.{length};
+ghost use Rattle.semigroups.specs.Tables.{product, Filled, Accepted};
+ghost use Rattle.semigroups.specs.Scratch.{scratchSize};
+ghost use Rattle.semigroups.specs.Questions.{searchRefusal};
+ghost use Rattle.semigroups.specs.Calls.{gives, scratchAfter, mapUnless};
+ghost use Rattle.semigroups.specs.Maps.{reversed, first, next, sought};
+ghost use Rattle.semigroups.specs.Candidates.{candidate};
+ghost use Rattle.backtrack.specs.State.{bounded};
+ghost use Rattle.tables.specs.Answers.{refusalNumbers};
+ghost use Rattle.search.specs.declared.Limit.the-variants.{Unlimited, Trials};
+ghost use Rattle.search.specs.Kinds.{kindOf, straight, orderFits};
+ghost use Rattle.search.specs.Calls.{lend, called, answered, call};
 ghost use Rattle.search.specs.Limited.{limitedCall};
-ghost use Rattle.search.specs.Answers.{searchAnswerSays, requestOf, withoutTrials};
-use engine::Limit;
-use engine::Reply;
-use kinds::Kind;
+ghost use Rattle.search.specs.Searching.{searchedSays, saidUnder, foundUnder, searched, markedWork};
+ghost use Rattle.search.specs.Answers.{searchFaultRefusal, questionsRefusal, soughtIf, searchAnswerSays, limitedAnswerSays};
 use tables::Fault;
+use tables::PairVerdict;
+use tables::Refusal;
 use tables::Side;
 
-// The map is found; there is none; or the earliest failed question: one of a table's four with the table's side, 5, or 6.
-pub enum SearchAnswer {
-    Found,
-    Nothing,
-    Refused(Side, Fault),
+pub enum Kind {
+    Embeddings,
+    Isomorphisms,
+    Reversed,
+}
+
+// The earliest failed question: one of the four about a table, with the side of that table; 5; or 6.
+pub enum SearchFault {
+    Table(Side, Fault),
     MapLength,
     ScratchLength,
 }
 
-// The answer of a search without a limit, which no limit stops.
-fn without_limit(reply: Reply) -> SearchAnswer
-    ensures answer { λ r. ⌜ searchAnswerSays r ≡ withoutTrials (replySays reply) ⌝ }
-{
-    match reply {
-        Reply::Found(_) => SearchAnswer::Found,
-        Reply::Nothing(_) => SearchAnswer::Nothing,
-        Reply::Stopped => SearchAnswer::Nothing,
-        Reply::Refused(side, fault) => SearchAnswer::Refused(side, fault),
-        Reply::MapLength => SearchAnswer::MapLength,
-        Reply::ScratchLength => SearchAnswer::ScratchLength,
+impl SearchFault {
+    // Returns its number, side and values.
+    pub fn refusal(self) -> Refusal
+        ensures answer { λ r. ⌜ r ≡ refusalNumbers (searchFaultRefusal self) ⌝ }
+    {
+        match self {
+            SearchFault::Table(side, fault) => fault.refusal().naming(side),
+            SearchFault::MapLength => Refusal::by(5, 0),
+            SearchFault::ScratchLength => Refusal::by(6, 0),
+        }
     }
 }
 
-// A search by its kind, for the first map or with `next` for the next.
-pub fn search(
+// What a search answers.
+pub enum SearchAnswer {
+    Found,
+    Nothing,
+    Refused(SearchFault),
+}
+
+// What a search with a limit answers: found or nothing, with the number of trials; or that it needs more trials than the limit.
+pub enum LimitedAnswer {
+    Found(u32),
+    Nothing(u32),
+    Stopped,
+    Refused(SearchFault),
+}
+
+// How many trials a search may take. A trial is one candidate, unused so far, tested as the image of the next element.
+enum Limit {
+    Unlimited,
+    Trials(u32),
+}
+
+// What a search comes to: whether it found a map; whether its limit stopped it; and its number of trials, which is 0 where none are counted.
+struct Searched {
+    found: bool,
+    stopped: bool,
+    trials: u32,
+}
+
+// ---- over given marks
+
+// Searches the marks in scratch for the first map, or with `next` for the next one after the bytes of `map`, and writes it to `map`. Returns whether there
+// is one.
+fn find_marked(
+    next: bool,
+    source: &[u8],
+    m: usize,
+    target: &[u8],
+    n: usize,
+    map: &mut [u8],
+    scratch: &[u8],
+) -> bool
+    requires { ⌜ Filled m (now source) × Filled n (now target) ⌝ }
+    requires { ⌜ (length (now map) ≡ m) × (scratchSize m n ≤ length (now scratch)) ⌝ }
+    ensures answer { λ r. ⌜ soughtIf r ≡ sought (markedWork next m (now (source .entry)) n (now (target .entry)) (now (map .entry)) (now (scratch .entry)) .found) ⌝ }
+    ensures map { λ _. ⌜ now (map .exit) ≡ mapUnless none (markedWork next m (now (source .entry)) n (now (target .entry)) (now (map .entry)) (now (scratch .entry)) .found) (now (map .entry)) ⌝ }
+{
+    let result = narrowing::find(source, m, target, n, scratch, &*map, next);
+    if !result.ok {
+        return false;
+    }
+    let image = result.image;
+    maps::write_images(map, &image, m);
+    true
+}
+
+// Searches the marks in scratch as `find_marked` does, within a limit of trials.
+fn find_marked_within(
+    next: bool,
+    limit: u32,
+    source: &[u8],
+    m: usize,
+    target: &[u8],
+    n: usize,
+    map: &mut [u8],
+    scratch: &[u8],
+) -> Searched
+    requires { ⌜ Filled m (now source) × Filled n (now target) ⌝ }
+    requires { ⌜ (length (now map) ≡ m) × (scratchSize m n ≤ length (now scratch)) ⌝ }
+    ensures answer { λ r. ⌜ searchedSays r ≡ saidUnder (Trials limit) (markedWork next m (now (source .entry)) n (now (target .entry)) (now (map .entry)) (now (scratch .entry))) ⌝ }
+    ensures map { λ _. ⌜ now (map .exit) ≡ mapUnless none (foundUnder (Trials limit) (markedWork next m (now (source .entry)) n (now (target .entry)) (now (map .entry)) (now (scratch .entry)))) (now (map .entry)) ⌝ }
+{
+    let result = backtrack::find_within(source, m, target, n, scratch, &*map, next, limit);
+    if result.stopped {
+        return Searched {
+            found: false,
+            stopped: true,
+            trials: 0,
+        };
+    }
+    let trials = limit - result.left;
+    if !result.ok {
+        return Searched {
+            found: false,
+            stopped: false,
+            trials,
+        };
+    }
+    let image = result.image;
+    maps::write_images(map, &image, m);
+    Searched {
+        found: true,
+        stopped: false,
+        trials,
+    }
+}
+
+// ---- over the candidates of a kind, between accepted tables
+
+// Returns whether tables of orders m and n can have an embedding, or with `onto` an isomorphism.
+fn order_fits(onto: bool, m: usize, n: usize) -> bool
+    ensures answer { λ r. ⌜ r ≡ orderFits (straight onto) m n ⌝ }
+{
+    if onto {
+        return m == n;
+    }
+    m <= n
+}
+
+// Marks the candidates of embeddings in scratch, or with `onto` those of isomorphisms.
+fn mark(onto: bool, source: &[u8], m: usize, target: &[u8], n: usize, scratch: &mut [u8])
+    requires { ⌜ Accepted m (now source) × Accepted n (now target) ⌝ }
+    requires { ⌜ scratchSize m n ≤ length (now scratch) ⌝ }
+    ensures scratch { λ _. ⌜ now (scratch .exit) ≡ scratchAfter m n (candidate (straight onto) m (product m (now (source .entry))) n (product n (now (target .entry)))) (now (scratch .entry)) ⌝ }
+{
+    if onto {
+        candidates::fill_isomorphisms(source, m, target, n, scratch);
+    } else {
+        candidates::fill_embeddings(source, m, target, n, scratch);
+    }
+}
+
+// Searches for embeddings, or with `onto` for isomorphisms.
+fn search_straight(
+    onto: bool,
+    next: bool,
+    limit: Limit,
+    source: &[u8],
+    m: usize,
+    target: &[u8],
+    n: usize,
+    map: &mut [u8],
+    scratch: &mut [u8],
+) -> Searched
+    requires { ⌜ Accepted m (now source) × Accepted n (now target) ⌝ }
+    requires { ⌜ (length (now map) ≡ m) × (scratchSize m n ≤ length (now scratch)) ⌝ }
+    ensures call { λ r. ⌜ called (gives (searchedSays r)) (now (map .exit)) (now (scratch .exit)) ≡ searched (straight onto) next limit (lend (now (source .entry)) m (now (target .entry)) n (now (map .entry)) (now (scratch .entry))) ⌝ }
+{
+    mark(onto, source, m, target, n, scratch);
+    if !order_fits(onto, m, n) {
+        return Searched {
+            found: false,
+            stopped: false,
+            trials: 0,
+        };
+    }
+    match limit {
+        Limit::Unlimited => {
+            let found = find_marked(next, source, m, target, n, map, &*scratch);
+            Searched {
+                found,
+                stopped: false,
+                trials: 0,
+            }
+        }
+        Limit::Trials(trials) => {
+            find_marked_within(next, trials, source, m, target, n, map, &*scratch)
+        }
+    }
+}
+
+// Searches for reversed isomorphisms. The target with rows and columns exchanged is written to `room`.
+fn search_turned(
+    next: bool,
+    limit: Limit,
+    source: &[u8],
+    m: usize,
+    target: &[u8],
+    n: usize,
+    map: &mut [u8],
+    scratch: &mut [u8],
+    room: &mut [u8],
+) -> Searched
+    requires { ⌜ Accepted m (now source) × Accepted n (now target) ⌝ }
+    requires { ⌜ (length (now map) ≡ m) × (scratchSize m n ≤ length (now scratch)) ⌝ }
+    requires { ⌜ n * n ≤ length (now room) ⌝ }
+    ensures call { λ r. ⌜ called (gives (searchedSays r)) (now (map .exit)) (now (scratch .exit)) ≡ searched reversed next limit (lend (now (source .entry)) m (now (target .entry)) n (now (map .entry)) (now (scratch .entry))) ⌝ }
+{
+    let size = n * n;
+    tables::turn(target, n, room);
+    search_straight(true, next, limit, source, m, &room[..size], n, map, scratch)
+}
+
+// Searches for reversed isomorphisms. Small tables take a small array, because clearing the large one would take longer than the search.
+fn search_reversed(
+    next: bool,
+    limit: Limit,
+    source: &[u8],
+    m: usize,
+    target: &[u8],
+    n: usize,
+    map: &mut [u8],
+    scratch: &mut [u8],
+) -> Searched
+    requires { ⌜ Accepted m (now source) × Accepted n (now target) ⌝ }
+    requires { ⌜ (length (now map) ≡ m) × (scratchSize m n ≤ length (now scratch)) ⌝ }
+    ensures call { λ r. ⌜ called (gives (searchedSays r)) (now (map .exit)) (now (scratch .exit)) ≡ searched reversed next limit (lend (now (source .entry)) m (now (target .entry)) n (now (map .entry)) (now (scratch .entry))) ⌝ }
+{
+    if n <= 30 {
+        let mut few = [0u8; 900];
+        return search_turned(next, limit, source, m, target, n, map, scratch, &mut few);
+    }
+    let mut all = [0u8; 14400];
+    search_turned(next, limit, source, m, target, n, map, scratch, &mut all)
+}
+
+// Searches for maps of the kind.
+fn search_kind(
+    kind: Kind,
+    next: bool,
+    limit: Limit,
+    source: &[u8],
+    m: usize,
+    target: &[u8],
+    n: usize,
+    map: &mut [u8],
+    scratch: &mut [u8],
+) -> Searched
+    requires { ⌜ Accepted m (now source) × Accepted n (now target) ⌝ }
+    requires { ⌜ (length (now map) ≡ m) × (scratchSize m n ≤ length (now scratch)) ⌝ }
+    ensures call { λ r. ⌜ called (gives (searchedSays r)) (now (map .exit)) (now (scratch .exit)) ≡ searched (kindOf kind) next limit (lend (now (source .entry)) m (now (target .entry)) n (now (map .entry)) (now (scratch .entry))) ⌝ }
+{
+    match kind {
+        Kind::Embeddings => search_straight(false, next, limit, source, m, target, n, map, scratch),
+        Kind::Isomorphisms => search_straight(
+            true,
+            next,
+            limit,
+            source,
+            m,
+            target,
+            n,
+            map,
+            scratch,
+        ),
+        Kind::Reversed => search_reversed(next, limit, source, m, target, n, map, scratch),
+    }
+}
+
+// Writes the first map of the kind between two accepted tables to `map`, or with `next` the next one after the bytes of `map`. Returns whether there is one.
+// For callers that have asked the questions.
+pub fn find(
     kind: Kind,
     next: bool,
     source: &[u8],
@@ -48,12 +299,12 @@ pub fn search(
     n: usize,
     map: &mut [u8],
     scratch: &mut [u8],
-) -> SearchAnswer
-    ensures answer { λ r. ⌜ searchAnswerSays r ≡ call (kindOf kind) (requestOf next) (lend (now (source .entry)) m (now (target .entry)) n (now (map .entry)) (now (scratch .entry))) .says ⌝ }
-    ensures map { λ _. ⌜ now (map .exit) ≡ call (kindOf kind) (requestOf next) (lend (now (source .entry)) m (now (target .entry)) n (now (map .entry)) (now (scratch .entry))) .mapBytes ⌝ }
-    ensures scratch { λ _. ⌜ now (scratch .exit) ≡ call (kindOf kind) (requestOf next) (lend (now (source .entry)) m (now (target .entry)) n (now (map .entry)) (now (scratch .entry))) .scratch ⌝ }
+) -> bool
+    requires { ⌜ Accepted m (now source) × Accepted n (now target) ⌝ }
+    requires { ⌜ (length (now map) ≡ m) × (scratchSize m n ≤ length (now scratch)) ⌝ }
+    ensures call { λ r. ⌜ called (gives (soughtIf r)) (now (map .exit)) (now (scratch .exit)) ≡ answered (kindOf kind) (bounded next (now (map .entry))) (lend (now (source .entry)) m (now (target .entry)) n (now (map .entry)) (now (scratch .entry))) ⌝ }
 {
-    let reply = engine::find(
+    let result = search_kind(
         kind,
         next,
         Limit::Unlimited,
@@ -64,11 +315,37 @@ pub fn search(
         map,
         scratch,
     );
-    without_limit(reply)
+    result.found
 }
 
-// The earliest embedding of the source in the target, written to `map`; or nothing; or the earliest question that fails.
-pub fn first_embedding(
+// ---- the questions
+
+enum Questions {
+    Passed,
+    Failed(SearchFault),
+}
+
+// Asks the questions about the two tables and about the lengths of the two buffers.
+fn ask(source: &[u8], m: usize, target: &[u8], n: usize, images: usize, marks: usize) -> Questions
+    ensures answer { λ r. ⌜ questionsRefusal r ≡ searchRefusal m (now (source .entry)) n (now (target .entry)) images marks ⌝ }
+{
+    let verdict = tables::check_pair(source, m, target, n);
+    if let PairVerdict::Refused(side, fault) = verdict {
+        return Questions::Failed(SearchFault::Table(side, fault));
+    }
+    if images != m {
+        return Questions::Failed(SearchFault::MapLength);
+    }
+    if marks < candidates::scratch_size(m, n) {
+        return Questions::Failed(SearchFault::ScratchLength);
+    }
+    Questions::Passed
+}
+
+// Asks the questions, then searches for the first map, or with `next` for the next one.
+pub fn search(
+    kind: Kind,
+    next: bool,
     source: &[u8],
     m: usize,
     target: &[u8],
@@ -76,15 +353,21 @@ pub fn first_embedding(
     map: &mut [u8],
     scratch: &mut [u8],
 ) -> SearchAnswer
-    ensures answer { λ r. ⌜ searchAnswerSays r ≡ call embeddings theFirst (lend (now (source .entry)) m (now (target .entry)) n (now (map .entry)) (now (scratch .entry))) .says ⌝ }
-    ensures map { λ _. ⌜ now (map .exit) ≡ call embeddings theFirst (lend (now (source .entry)) m (now (target .entry)) n (now (map .entry)) (now (scratch .entry))) .mapBytes ⌝ }
-    ensures scratch { λ _. ⌜ now (scratch .exit) ≡ call embeddings theFirst (lend (now (source .entry)) m (now (target .entry)) n (now (map .entry)) (now (scratch .entry))) .scratch ⌝ }
+    ensures call { λ r. ⌜ called (searchAnswerSays r) (now (map .exit)) (now (scratch .exit)) ≡ call (kindOf kind) (bounded next (now (map .entry))) (lend (now (source .entry)) m (now (target .entry)) n (now (map .entry)) (now (scratch .entry))) ⌝ }
 {
-    search(Kind::Embeddings, false, source, m, target, n, map, scratch)
+    let asked = ask(source, m, target, n, map.len(), scratch.len());
+    if let Questions::Failed(fault) = asked {
+        return SearchAnswer::Refused(fault);
+    }
+    if find(kind, next, source, m, target, n, map, scratch) {
+        return SearchAnswer::Found;
+    }
+    SearchAnswer::Nothing
 }
 
-// The earliest embedding that is later than the bytes of `map`, written to `map`; or nothing; or the earliest question that fails.
-pub fn next_embedding(
+// Writes the earliest map of the kind to `map`. Answers found, or nothing, or the earliest question that fails.
+pub fn first(
+    kind: Kind,
     source: &[u8],
     m: usize,
     target: &[u8],
@@ -92,15 +375,14 @@ pub fn next_embedding(
     map: &mut [u8],
     scratch: &mut [u8],
 ) -> SearchAnswer
-    ensures answer { λ r. ⌜ searchAnswerSays r ≡ call embeddings theNext (lend (now (source .entry)) m (now (target .entry)) n (now (map .entry)) (now (scratch .entry))) .says ⌝ }
-    ensures map { λ _. ⌜ now (map .exit) ≡ call embeddings theNext (lend (now (source .entry)) m (now (target .entry)) n (now (map .entry)) (now (scratch .entry))) .mapBytes ⌝ }
-    ensures scratch { λ _. ⌜ now (scratch .exit) ≡ call embeddings theNext (lend (now (source .entry)) m (now (target .entry)) n (now (map .entry)) (now (scratch .entry))) .scratch ⌝ }
+    ensures call { λ r. ⌜ called (searchAnswerSays r) (now (map .exit)) (now (scratch .exit)) ≡ call (kindOf kind) first (lend (now (source .entry)) m (now (target .entry)) n (now (map .entry)) (now (scratch .entry))) ⌝ }
 {
-    search(Kind::Embeddings, true, source, m, target, n, map, scratch)
+    search(kind, false, source, m, target, n, map, scratch)
 }
 
-// The earliest isomorphism of the source onto the target, written to `map`; or nothing; or the earliest question that fails.
-pub fn first_isomorphism(
+// Writes the earliest map of the kind that is later than the bytes of `map` over them. Answers found, or nothing, or the earliest question that fails.
+pub fn next(
+    kind: Kind,
     source: &[u8],
     m: usize,
     target: &[u8],
@@ -108,71 +390,13 @@ pub fn first_isomorphism(
     map: &mut [u8],
     scratch: &mut [u8],
 ) -> SearchAnswer
-    ensures answer { λ r. ⌜ searchAnswerSays r ≡ call isomorphisms theFirst (lend (now (source .entry)) m (now (target .entry)) n (now (map .entry)) (now (scratch .entry))) .says ⌝ }
-    ensures map { λ _. ⌜ now (map .exit) ≡ call isomorphisms theFirst (lend (now (source .entry)) m (now (target .entry)) n (now (map .entry)) (now (scratch .entry))) .mapBytes ⌝ }
-    ensures scratch { λ _. ⌜ now (scratch .exit) ≡ call isomorphisms theFirst (lend (now (source .entry)) m (now (target .entry)) n (now (map .entry)) (now (scratch .entry))) .scratch ⌝ }
+    ensures call { λ r. ⌜ called (searchAnswerSays r) (now (map .exit)) (now (scratch .exit)) ≡ call (kindOf kind) (next (now (map .entry))) (lend (now (source .entry)) m (now (target .entry)) n (now (map .entry)) (now (scratch .entry))) ⌝ }
 {
-    search(
-        Kind::Isomorphisms,
-        false,
-        source,
-        m,
-        target,
-        n,
-        map,
-        scratch,
-    )
+    search(kind, true, source, m, target, n, map, scratch)
 }
 
-// The earliest isomorphism that is later than the bytes of `map`, written to `map`; or nothing; or the earliest question that fails.
-pub fn next_isomorphism(
-    source: &[u8],
-    m: usize,
-    target: &[u8],
-    n: usize,
-    map: &mut [u8],
-    scratch: &mut [u8],
-) -> SearchAnswer
-    ensures answer { λ r. ⌜ searchAnswerSays r ≡ call isomorphisms theNext (lend (now (source .entry)) m (now (target .entry)) n (now (map .entry)) (now (scratch .entry))) .says ⌝ }
-    ensures map { λ _. ⌜ now (map .exit) ≡ call isomorphisms theNext (lend (now (source .entry)) m (now (target .entry)) n (now (map .entry)) (now (scratch .entry))) .mapBytes ⌝ }
-    ensures scratch { λ _. ⌜ now (scratch .exit) ≡ call isomorphisms theNext (lend (now (source .entry)) m (now (target .entry)) n (now (map .entry)) (now (scratch .entry))) .scratch ⌝ }
-{
-    search(Kind::Isomorphisms, true, source, m, target, n, map, scratch)
-}
-
-// The earliest reversed isomorphism of the source onto the target, written to `map`; or nothing; or the earliest question that fails.
-pub fn first_reversed_isomorphism(
-    source: &[u8],
-    m: usize,
-    target: &[u8],
-    n: usize,
-    map: &mut [u8],
-    scratch: &mut [u8],
-) -> SearchAnswer
-    ensures answer { λ r. ⌜ searchAnswerSays r ≡ call reversed theFirst (lend (now (source .entry)) m (now (target .entry)) n (now (map .entry)) (now (scratch .entry))) .says ⌝ }
-    ensures map { λ _. ⌜ now (map .exit) ≡ call reversed theFirst (lend (now (source .entry)) m (now (target .entry)) n (now (map .entry)) (now (scratch .entry))) .mapBytes ⌝ }
-    ensures scratch { λ _. ⌜ now (scratch .exit) ≡ call reversed theFirst (lend (now (source .entry)) m (now (target .entry)) n (now (map .entry)) (now (scratch .entry))) .scratch ⌝ }
-{
-    search(Kind::Reversed, false, source, m, target, n, map, scratch)
-}
-
-// The earliest reversed isomorphism of the source onto the target that is later than the bytes of `map`, written to `map`; or nothing; or the earliest question that fails.
-pub fn next_reversed_isomorphism(
-    source: &[u8],
-    m: usize,
-    target: &[u8],
-    n: usize,
-    map: &mut [u8],
-    scratch: &mut [u8],
-) -> SearchAnswer
-    ensures answer { λ r. ⌜ searchAnswerSays r ≡ call reversed theNext (lend (now (source .entry)) m (now (target .entry)) n (now (map .entry)) (now (scratch .entry))) .says ⌝ }
-    ensures map { λ _. ⌜ now (map .exit) ≡ call reversed theNext (lend (now (source .entry)) m (now (target .entry)) n (now (map .entry)) (now (scratch .entry))) .mapBytes ⌝ }
-    ensures scratch { λ _. ⌜ now (scratch .exit) ≡ call reversed theNext (lend (now (source .entry)) m (now (target .entry)) n (now (map .entry)) (now (scratch .entry))) .scratch ⌝ }
-{
-    search(Kind::Reversed, true, source, m, target, n, map, scratch)
-}
-
-// The first map of a kind within the limit.
+// Writes the earliest map of the kind to `map` if the search needs at most `limit` trials. Answers found or nothing, with the number of trials; or stopped;
+// or the earliest question that fails.
 pub fn first_within(
     kind: Kind,
     source: &[u8],
@@ -182,12 +406,14 @@ pub fn first_within(
     map: &mut [u8],
     scratch: &mut [u8],
     limit: u32,
-) -> Reply
-    ensures answer { λ r. ⌜ replySays r ≡ limitedCall (kindOf kind) limit (lend (now (source .entry)) m (now (target .entry)) n (now (map .entry)) (now (scratch .entry))) .says ⌝ }
-    ensures map { λ _. ⌜ now (map .exit) ≡ limitedCall (kindOf kind) limit (lend (now (source .entry)) m (now (target .entry)) n (now (map .entry)) (now (scratch .entry))) .mapBytes ⌝ }
-    ensures scratch { λ _. ⌜ now (scratch .exit) ≡ limitedCall (kindOf kind) limit (lend (now (source .entry)) m (now (target .entry)) n (now (map .entry)) (now (scratch .entry))) .scratch ⌝ }
+) -> LimitedAnswer
+    ensures call { λ r. ⌜ called (limitedAnswerSays r) (now (map .exit)) (now (scratch .exit)) ≡ limitedCall (kindOf kind) limit (lend (now (source .entry)) m (now (target .entry)) n (now (map .entry)) (now (scratch .entry))) ⌝ }
 {
-    engine::find(
+    let asked = ask(source, m, target, n, map.len(), scratch.len());
+    if let Questions::Failed(fault) = asked {
+        return LimitedAnswer::Refused(fault);
+    }
+    let result = search_kind(
         kind,
         false,
         Limit::Trials(limit),
@@ -197,67 +423,12 @@ pub fn first_within(
         n,
         map,
         scratch,
-    )
-}
-
-// The earliest embedding of the source in the target within `limit` trials, written to `map`; or nothing; or stopped; or the earliest question that fails.
-pub fn first_embedding_within(
-    source: &[u8],
-    m: usize,
-    target: &[u8],
-    n: usize,
-    map: &mut [u8],
-    scratch: &mut [u8],
-    limit: u32,
-) -> Reply
-    ensures answer { λ r. ⌜ replySays r ≡ limitedCall embeddings limit (lend (now (source .entry)) m (now (target .entry)) n (now (map .entry)) (now (scratch .entry))) .says ⌝ }
-    ensures map { λ _. ⌜ now (map .exit) ≡ limitedCall embeddings limit (lend (now (source .entry)) m (now (target .entry)) n (now (map .entry)) (now (scratch .entry))) .mapBytes ⌝ }
-    ensures scratch { λ _. ⌜ now (scratch .exit) ≡ limitedCall embeddings limit (lend (now (source .entry)) m (now (target .entry)) n (now (map .entry)) (now (scratch .entry))) .scratch ⌝ }
-{
-    first_within(Kind::Embeddings, source, m, target, n, map, scratch, limit)
-}
-
-// The earliest isomorphism of the source onto the target within `limit` trials, written to `map`; or nothing; or stopped; or the earliest question that
-// fails.
-pub fn first_isomorphism_within(
-    source: &[u8],
-    m: usize,
-    target: &[u8],
-    n: usize,
-    map: &mut [u8],
-    scratch: &mut [u8],
-    limit: u32,
-) -> Reply
-    ensures answer { λ r. ⌜ replySays r ≡ limitedCall isomorphisms limit (lend (now (source .entry)) m (now (target .entry)) n (now (map .entry)) (now (scratch .entry))) .says ⌝ }
-    ensures map { λ _. ⌜ now (map .exit) ≡ limitedCall isomorphisms limit (lend (now (source .entry)) m (now (target .entry)) n (now (map .entry)) (now (scratch .entry))) .mapBytes ⌝ }
-    ensures scratch { λ _. ⌜ now (scratch .exit) ≡ limitedCall isomorphisms limit (lend (now (source .entry)) m (now (target .entry)) n (now (map .entry)) (now (scratch .entry))) .scratch ⌝ }
-{
-    first_within(
-        Kind::Isomorphisms,
-        source,
-        m,
-        target,
-        n,
-        map,
-        scratch,
-        limit,
-    )
-}
-
-// The earliest reversed isomorphism of the source onto the target within `limit` trials, written to `map`; or nothing; or stopped; or the earliest question
-// that fails.
-pub fn first_reversed_isomorphism_within(
-    source: &[u8],
-    m: usize,
-    target: &[u8],
-    n: usize,
-    map: &mut [u8],
-    scratch: &mut [u8],
-    limit: u32,
-) -> Reply
-    ensures answer { λ r. ⌜ replySays r ≡ limitedCall reversed limit (lend (now (source .entry)) m (now (target .entry)) n (now (map .entry)) (now (scratch .entry))) .says ⌝ }
-    ensures map { λ _. ⌜ now (map .exit) ≡ limitedCall reversed limit (lend (now (source .entry)) m (now (target .entry)) n (now (map .entry)) (now (scratch .entry))) .mapBytes ⌝ }
-    ensures scratch { λ _. ⌜ now (scratch .exit) ≡ limitedCall reversed limit (lend (now (source .entry)) m (now (target .entry)) n (now (map .entry)) (now (scratch .entry))) .scratch ⌝ }
-{
-    first_within(Kind::Reversed, source, m, target, n, map, scratch, limit)
+    );
+    if result.stopped {
+        return LimitedAnswer::Stopped;
+    }
+    if result.found {
+        return LimitedAnswer::Found(result.trials);
+    }
+    LimitedAnswer::Nothing(result.trials)
 }

@@ -1,10 +1,6 @@
--- `limited_words` meets its contract: 1 for found and 0 for nothing, with the trials, 2 for stopped, or the failed question.
--- Assumes nothing.
-use mathlib.Core.Path.{ap, _∙_}
-use Rattle.tables.specs.Answers.{sideNumber}
-use Rattle.tables.proofs.Refusals.{fault-brief}
-use Rattle.numbers.specs.Words.{numbersWords}
-use Rattle.exports.proofs.Values.{side-said}
+-- `limited_words` meets its contract: 1 for found and 0 for nothing, with the trials, 2 for stopped, or the failed question. Assumes nothing.
+use Rattle.search.proofs.Refusals.{search-fault-brief}
+use Rattle.exports.proofs.Values.{refusal-said}
 use borrow.Author.Needs.{needs}
 use Rattle.exports.proofs.limited_words.Statement.{statement}
 use Rattle.exports.proofs.limited_words.Tie as tie
@@ -12,8 +8,8 @@ use Rattle.exports.proofs.limited_words.Tie as tie
 enum-known-said : tie.Need-enum-known-said
 enum-known-said c = search needs
 
-cast-t9 : tie.Need-cast-t9
-cast-t9 c = search needs
+cast-t8 : tie.Need-cast-t8
+cast-t8 c = search needs
 
 slice-aggregate-words : tie.Need-slice-aggregate-words
 slice-aggregate-words c = search needs
@@ -24,8 +20,8 @@ words-requires c κs = search needs
 enum-known-said-2 : tie.Need-enum-known-said-2
 enum-known-said-2 c = search needs
 
-cast-t13 : tie.Need-cast-t13
-cast-t13 c = search needs
+cast-t12 : tie.Need-cast-t12
+cast-t12 c = search needs
 
 slice-aggregate-words-2 : tie.Need-slice-aggregate-words-2
 slice-aggregate-words-2 c = search needs
@@ -48,29 +44,8 @@ enum-known-said-3 c = search needs
 refusal-requires : tie.Need-refusal-requires
 refusal-requires c κs = search needs
 
-naming-requires : tie.Need-naming-requires
-naming-requires c κs = search needs
-
 refusal-words-requires : tie.Need-refusal-words-requires
 refusal-words-requires c κs = search needs
-
-enum-told-2 : tie.Need-enum-told-2
-enum-told-2 c = search needs
-
-by-requires : tie.Need-by-requires
-by-requires c κs = search needs
-
-refusal-words-requires-2 : tie.Need-refusal-words-requires-2
-refusal-words-requires-2 c κs = search needs
-
-enum-told-3 : tie.Need-enum-told-3
-enum-told-3 c = search needs
-
-by-requires-2 : tie.Need-by-requires-2
-by-requires-2 c κs = search needs
-
-refusal-words-requires-3 : tie.Need-refusal-words-requires-3
-refusal-words-requires-3 c κs = search needs
 
 returns : tie.Need-returns
 returns c = rw (c .before .before .before .said .given .1) (c .words .ensures)
@@ -83,25 +58,19 @@ returns-3 c = rw (c .before .before .enum-told .given .1) (c .words3 .ensures)
 
 returns-4 : tie.Need-returns-4
 returns-4 c =
-    let m = c .before .before .before .before .said3 .given in
-    rw (m .1) (side-said (fault-brief (m .0 .1 .0)) (c .before .before .refusal .ensures) (sideNumber (m .0 .0)) (c .before .naming .ensures) (c .refusal-words .ensures))
-
-returns-5 : tie.Need-returns-5
-returns-5 c = rw (c .before .before .enum-told2 .given .1) (c .refusal-words2 .ensures ∙ ap numbersWords (c .before .by .ensures))
-
-returns-6 : tie.Need-returns-6
-returns-6 c = rw (c .before .before .enum-told3 .given .1) (c .refusal-words3 .ensures ∙ ap numbersWords (c .before .by2 .ensures))
+    let m = c .before .before .before .said3 .given in
+    rw (m .1) (refusal-said (search-fault-brief (m .0 .0)) (c .before .refusal .ensures) (c .refusal-words .ensures))
 
 pub limited-words-spec : {M : Type 1} → statement M
 limited-words-spec =
     tie.close
     (tie.spec
     enum-known-said
-    cast-t9
+    cast-t8
     slice-aggregate-words
     words-requires
     enum-known-said-2
-    cast-t13
+    cast-t12
     slice-aggregate-words-2
     words-requires-2
     enum-told
@@ -109,17 +78,8 @@ limited-words-spec =
     words-requires-3
     enum-known-said-3
     refusal-requires
-    naming-requires
     refusal-words-requires
-    enum-told-2
-    by-requires
-    refusal-words-requires-2
-    enum-told-3
-    by-requires-2
-    refusal-words-requires-3
     returns
     returns-2
     returns-3
-    returns-4
-    returns-5
-    returns-6)
+    returns-4)

@@ -1,4 +1,0 @@
-pub mod Calls
-pub mod Works
-pub mod Turned
-pub mod Marked
