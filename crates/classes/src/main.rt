@@ -9,7 +9,8 @@ use classification::Classifier;
 use classification::file_name;
 use libc::STDOUT_FILENO;
 
-// One byte more than a text may have: enough to see that a file is too long. Its later bytes do not matter (`first-bytes-decide`).
+// One byte more than a text may have: enough to see that a file is too long. Its later bytes do not matter (`first-bytes` of crate
+// `classification`).
 const ROOM: usize = 57721;
 
 // What came of a file: whether it could be opened, and how many bytes were read.

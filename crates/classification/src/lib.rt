@@ -384,9 +384,10 @@ impl Classifier {
         }
     }
 
-    // Writes the whole output, from what was noted of each file, to the start of `out`. Answers its length.
+    // Writes the whole output, from what was noted of each file, to the start of `out`, once no file is wanted any more. Answers its length.
     pub fn put(self, out: &mut [u8; 1700]) -> usize
         requires few { ⌜ self .count ≤ 50 ⌝ }
+        requires over { ⌜ ((cells : List ℕ) → progress.wanted (progressOf self cells) ≡ 0) ⌝ }
         ensures answer { λ r. ⌜ r ≡ length (output.notesText (notesIn self)) ⌝ }
         ensures out { λ _. ⌜ now (out .exit) ≡ overwritten (output.notesText (notesIn self)) (now (out .entry)) ⌝ }
     {

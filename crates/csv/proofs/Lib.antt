@@ -16,4 +16,6 @@ pub mod Saving
 pub mod Accepted
 pub mod Closing
 pub mod RoundTrips
+pub mod Rules
+pub mod Requests
 pub mod Examples

@@ -1,7 +1,7 @@
 -- Loading: which question refuses, from the first that fails; and the number of cells of a text that passes.
 -- Assumes nothing.
 use mathlib.Core.Path.{_≡_, refl, ap, _∙_}
-use mathlib.Core.Bool.{true, and-false}
+use mathlib.Core.Bool.{true, _&&_, and-false}
 use mathlib.Core.List.{List, [], _∷_, _++_, flatMap, flatten}
 use mathlib.Core.Option.{none, some, orElse}
 use Prim.Native.Nat.{ℕ, _*_, _≤_, _<_}
@@ -14,7 +14,7 @@ use Rattle.semigroups.specs.Lists.{all, firstOf, member}
 use Rattle.semigroups.specs.Tables.{isElement}
 use Rattle.semigroups.specs.Questions.{Question, ask, Refusal, no, firstNo}
 use Rattle.semigroups.proofs.Lists.{is-element}
-use Rattle.semigroups.proofs.Booleans.{and-left, and-right}
+use Rattle.semigroups.proofs.Booleans.{both, and-left, and-right}
 use Rattle.semigroups.proofs.Questions.{ask-passed, all-passed, failed-before, passed-before, both-passed, Listed, listed, listed-append}
 use Rattle.csv.specs.Records.{rows}
 use Rattle.csv.specs.Tables.{fieldsOf, orderOf, cellsOf}
@@ -58,7 +58,7 @@ cells-length n t s = simp length-map (square-length n (rows t) (s .square))
 
 module _ (t : List ℕ) (room : ℕ) where
   -- The questions from 23 on.
-  abbrev from-fields : List Question
+  abbrev pub from-fields : List Question
   from-fields = gridQuestions (orderOf t) t ++ sizeQuestions t room
 
   pub too-short : length t < 1 → loadRefusal t room ≡ some (no 20 [])
@@ -147,11 +147,19 @@ unfolding fieldsQuestions flatMap
 fields-listed ns h [] = listed ns [] (unfold all in refl)
 fields-listed ns h (f ∷ fs) = listed-append ns (fieldQuestions f) (fieldsQuestions fs) (listed ns (fieldQuestions f) h) (fields-listed ns h fs)
 
--- 20 to 26, and those of the two questions behind them.
-pub load-listed : (ns : List ℕ) → all (λ k. member k ns) (20 ∷ 21 ∷ []) ≡ true → all (λ k. member k ns) (24 ∷ 23 ∷ 25 ∷ []) ≡ true → all (λ k. member k ns) (26 ∷ []) ≡ true
-    → (t : List ℕ) (room : ℕ) → Listed ns (sizeQuestions t room) → Listed ns (loadQuestions t room)
-load-listed ns a b c t room h =
-    let begin = ask 20 (isElement longest (length t)) ∷ bytesQuestion t ∷ [] in
-    listed-append ns begin (from-fields t room) (listed ns begin a)
+-- Behind 20: 21 to 26, and those of the last two questions.
+pub later-listed : (ns : List ℕ) → all (λ k. member k ns) (21 ∷ []) ≡ true → all (λ k. member k ns) (24 ∷ 23 ∷ 25 ∷ []) ≡ true → all (λ k. member k ns) (26 ∷ []) ≡ true
+    → (t : List ℕ) (room : ℕ) → Listed ns (sizeQuestions t room) → Listed ns (bytesQuestion t ∷ from-fields t room)
+later-listed ns a b c t room h =
+    listed-append ns (bytesQuestion t ∷ []) (from-fields t room) (listed ns (bytesQuestion t ∷ []) a)
     (listed-append ns (gridQuestions (orderOf t) t) (sizeQuestions t room)
     (listed-append ns (fieldsQuestions (fieldsOf t)) (squareQuestion (orderOf t) t ∷ []) (fields-listed ns b (fieldsOf t)) (listed ns (squareQuestion (orderOf t) t ∷ []) c)) h)
+
+-- 20 to 26, and those of the last two questions.
+pub load-listed : (ns : List ℕ) → all (λ k. member k ns) (20 ∷ 21 ∷ []) ≡ true → all (λ k. member k ns) (24 ∷ 23 ∷ 25 ∷ []) ≡ true → all (λ k. member k ns) (26 ∷ []) ≡ true
+    → (t : List ℕ) (room : ℕ) → Listed ns (sizeQuestions t room) → Listed ns (loadQuestions t room)
+unfolding all
+load-listed ns a b c t room h =
+    let size = ask 20 (isElement longest (length t)) in
+    listed-append ns (size ∷ []) (bytesQuestion t ∷ from-fields t room) (listed ns (size ∷ []) (both (member 20 ns) true (and-left (member 20 ns) (member 21 ns && true) a) refl))
+    (later-listed ns (and-right (member 20 ns) (member 21 ns && true) a) b c t room h)

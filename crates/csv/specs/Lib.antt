@@ -7,3 +7,5 @@ pub mod Questions
 pub mod Passing
 pub mod Calls
 pub mod Rounds
+pub mod Rules
+pub mod Requests

@@ -1,3 +1,4 @@
 pub mod Files
 pub mod Numbers
 pub mod Length
+pub mod Rules

@@ -1,5 +1,4 @@
--- Which numbers a refused file can get where there is room for every table: 20 to 26, 1, 3 and 4. Not 2, since a text that loads has a cell for
--- each pair; not 27, since there is room. Assumes nothing.
+-- Which numbers a refused file can get where there is room for every table. Assumes nothing.
 use mathlib.Core.Path.{_≡_, refl, sym, _∙_}
 use mathlib.Core.Bool.{Bool, true, false}
 use mathlib.Core.List.{List, [], _∷_}
@@ -15,9 +14,7 @@ use Rattle.csv.specs.Tables.{orderOf}
 use Rattle.csv.specs.Questions.{sizeQuestions, loadQuestions}
 use Rattle.csv.proofs.Loading.{load-listed}
 use Rattle.files.specs.Files.{loadedQuestions, fileRefusal, room}
-
-abbrev pub numbers : List ℕ
-numbers = 1 ∷ 3 ∷ 4 ∷ 20 ∷ 21 ∷ 23 ∷ 24 ∷ 25 ∷ 26 ∷ []
+use Rattle.files.specs.Rules.{fileNumbers}
 
 -- Where the order passes there is room, so that 27 is as good as not asked.
 order-alone : (n : ℕ) → firstNo (ask 1 (leb n 120) ∷ ask 27 (leb (n * n) room) ∷ []) ≡ firstNo (ask 1 (leb n 120) ∷ [])
@@ -28,8 +25,8 @@ order-alone n = go (leb n 120) refl
     go true e = rw (le-leb (n * n) room (square-small n (leb-true n 120 e)))
     go false e = refl
 
-pub file-numbers : (t : List ℕ) (r : Refusal) → fileRefusal t room ≡ some r → member (r .number) numbers ≡ true
+pub file-numbers : (t : List ℕ) (r : Refusal) → fileRefusal t room ≡ some r → member (r .number) fileNumbers ≡ true
 unfolding fileRefusal all member
 file-numbers t =
-    let order : Listed numbers (sizeQuestions t room) = λ r e. listed numbers (ask 1 (leb (orderOf t) 120) ∷ []) refl r (sym (order-alone (orderOf t)) ∙ e) in
-    listed-append numbers (loadQuestions t room) (loadedQuestions t) (load-listed numbers refl refl refl t room order) (listed numbers (loadedQuestions t) refl)
+    let order : Listed fileNumbers (sizeQuestions t room) = λ r e. listed fileNumbers (ask 1 (leb (orderOf t) 120) ∷ []) refl r (sym (order-alone (orderOf t)) ∙ e) in
+    listed-append fileNumbers (loadQuestions t room) (loadedQuestions t) (load-listed fileNumbers refl refl refl t room order) (listed fileNumbers (loadedQuestions t) refl)

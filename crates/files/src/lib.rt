@@ -2,6 +2,7 @@
 ghost use mathlib.Core.Path.{_≡_};
 ghost use Prim.Native.Nat.{_<_};
 ghost use Rattle.csv.specs.Calls.{cellsAfter};
+ghost use Rattle.text.specs.Answers.{loadedAnswer};
 ghost use Rattle.files.specs.Files.{fileAnswer};
 ghost use Rattle.files.specs.Answers.{verdictAnswer, numberOf};
 use tables::Fault;
@@ -18,6 +19,16 @@ pub enum FileVerdict {
     Table(Fault),
 }
 
+// What loading alone says of a file.
+fn of_loading(loaded: Loaded) -> FileVerdict
+    ensures answer { λ r. ⌜ verdictAnswer r ≡ loadedAnswer loaded ⌝ }
+{
+    match loaded {
+        Loaded::Order(n) => FileVerdict::Accepted(n),
+        Loaded::Refused(fault) => FileVerdict::Text(fault),
+    }
+}
+
 // Loads the table that `text` holds into `cells`, as `text::load` does; then asks questions 3 and 4 of it, as `tables::check` does. A table that is
 // refused by 3 or 4 has been loaded.
 pub fn load_then_check(text: &[u8], cells: &mut [u8]) -> FileVerdict
@@ -25,16 +36,14 @@ pub fn load_then_check(text: &[u8], cells: &mut [u8]) -> FileVerdict
     ensures cells { λ _. ⌜ now (cells .exit) ≡ cellsAfter (now (text .entry)) (now (cells .entry)) ⌝ }
 {
     let loaded = text::load(text, cells);
-    match loaded {
-        Loaded::Refused(fault) => FileVerdict::Text(fault),
-        Loaded::Order(n) => {
-            let size = n * n;
-            let verdict = tables::check(&cells[..size], n);
-            match verdict {
-                Verdict::Refused(fault) => FileVerdict::Table(fault),
-                Verdict::Accepted => FileVerdict::Accepted(n),
-            }
-        }
+    let Loaded::Order(n) = loaded else {
+        return of_loading(loaded);
+    };
+    let size = n * n;
+    let verdict = tables::check(&cells[..size], n);
+    match verdict {
+        Verdict::Refused(fault) => FileVerdict::Table(fault),
+        Verdict::Accepted => FileVerdict::Accepted(n),
     }
 }
 

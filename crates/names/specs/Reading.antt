@@ -63,9 +63,9 @@ pub record Fits (rows : List Row) (nameRoom lengthRoom : ℕ) : Type 0 where
   pub names : length (flatten (rowsNames rows)) ≤ nameRoom
   pub lengths : length rows ≤ lengthRoom
 
--- 41 of each name, and the length of their text.
+-- 41 of each name, how many names there are, and the length of their text.
 abbrev pub JudgesNames : List ℕ → List ℕ → Judged → Type 0
-JudgesNames bytes lengths (Passed count total) = (firstNo (namesQuestions 1 bytes lengths) ≡ none) × (total ≡ length (namesText (namesAt bytes lengths)))
+JudgesNames bytes lengths (Passed count total) = (firstNo (namesQuestions 1 bytes lengths) ≡ none) × (count ≡ length lengths) × (total ≡ length (namesText (namesAt bytes lengths)))
 JudgesNames bytes lengths (Failed fault) = firstNo (namesQuestions 1 bytes lengths) ≡ some (namesFaultRefusal fault)
 
 -- There are at most 120 names, and each passes.

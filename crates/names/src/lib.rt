@@ -265,8 +265,10 @@ struct Value {
 }
 
 impl Value {
+    // The value of no byte, of a field at place 0.
     fn empty() -> Self
-        ensures answer { λ r. ⌜ Holds [] r ⌝ }
+        ensures value { λ r. ⌜ Holds [] r ⌝ }
+        ensures end { λ r. ⌜ r .end ≡ 0 ⌝ }
     {
         Value {
             bytes: [0u8; 41],
@@ -275,9 +277,10 @@ impl Value {
         }
     }
 
-    // With one byte more, unless there are 41.
+    // With one byte more, unless there are 41; the place stays.
     fn with(self, b: u8) -> Self
-        ensures answer { λ r. ⌜ ((s : List ℕ) → Holds s self → Holds (s ++ b ∷ []) r) ⌝ }
+        ensures value { λ r. ⌜ ((s : List ℕ) → Holds s self → Holds (s ++ b ∷ []) r) ⌝ }
+        ensures end { λ r. ⌜ r .end ≡ self .end ⌝ }
     {
         let at = self.size;
         if 41 <= at {

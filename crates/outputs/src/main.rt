@@ -1,20 +1,29 @@
 // The whole output of recue for files with given bytes: found, none, every refusal that can come for either file, and texts at the limit of 57,720 bytes.
 // What must come out stands in the file stdout, worked out by hand from the rules. The text of 121 records with 121 fields, which no constant holds,
 // comes from standard input.
+ghost use mathlib.Core.Path.{_≡_};
+ghost use mathlib.Core.List.{[], _∷_};
+ghost use lib.ListN.{length};
+ghost use Rattle.output.specs.Program.{recueOutput};
 use libc::STDIN_FILENO;
 use libc::STDOUT_FILENO;
 
-// Prints the output for two files with these bytes.
-fn show(source: &[u8], target: &[u8]) {
+// Prints the output for two files with these bytes. Returns its length.
+fn show(source: &[u8], target: &[u8]) -> usize
+    ensures answer { λ r. ⌜ r ≡ length (recueOutput (now (source .entry)) (now (target .entry))) ⌝ }
+{
     let mut out = [0u8; 1095];
     let written = output::recue(source, target, &mut out);
     io::write_all(STDOUT_FILENO, &out[..written]);
+    written
 }
 
-// The same text as the source, then as the target of an accepted source.
-fn refused(text: &[u8]) {
+// Prints the output for this text as the source, then for it as the target of the accepted source `1`. Returns the length of the second.
+fn refused(text: &[u8]) -> usize
+    ensures answer { λ r. ⌜ r ≡ length (recueOutput (49 ∷ 13 ∷ 10 ∷ []) (now (text .entry))) ⌝ }
+{
     show(text, b"1\r\n");
-    show(b"1\r\n", text);
+    show(b"1\r\n", text)
 }
 
 fn main() {

@@ -6,7 +6,8 @@ ghost use Rattle.io.specs.Counts.{Counts};
 ghost use Rattle.csv.specs.Questions.{longest};
 use libc::STDOUT_FILENO;
 
-// One byte more than a text may have: enough to see that a file is too long. Its later bytes do not matter (`first-bytes-decide`).
+// One byte more than a text may have: enough to see that a file is too long. Its later bytes do not matter (`first-bytes-decide`
+// of crate `output`).
 const ROOM: usize = 57721;
 
 // Reads a file to `text` and answers how many bytes came. A file that can't be opened or read counts as empty.

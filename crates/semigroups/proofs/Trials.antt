@@ -20,7 +20,7 @@ use Rattle.semigroups.specs.Candidates.{candidate}
 use Rattle.semigroups.specs.Search.{notBefore, fits, passes, admits, search}
 use Rattle.semigroups.specs.Transformations.{transformations, transformationOrder, transformation, numberOf, transformationProduct, transformationCells}
 use Rattle.semigroups.specs.Cases.{two}
-use Rattle.semigroups.specs.Trials.{Work, work, followed, andThen, inTurn, tried, workAt, counted, stopped, ended, limited, foundWithin, TrialsExamples}
+use Rattle.semigroups.specs.Trials.{Work, work, followed, andThen, inTurn, tried, workAt, counted, stopped, ended, limited, foundWithin, OutsideExample, TrialsExamples}
 use Rattle.semigroups.proofs.Booleans.{same-truth}
 use Rattle.semigroups.proofs.Lists.{mem-elements, length-snoc, pairs-at, pairs-of}
 use Rattle.semigroups.proofs.NoRepeats.{place-mem}
@@ -148,3 +148,7 @@ module _ (w : Work) (limit : ℕ) where
 trials-examples : TrialsExamples
 unfolding limited counted workAt inTurn tried candidate passes fits product two grid range elements at all find sum count least member earlier lists power periodFrom index period idempotentPower indexPeriod sameIndexPeriod after transformations transformationOrder transformation numberOf transformationProduct transformationCells flatMap
 trials-examples = (refl, refl, refl, refl, refl, refl)
+
+outside-example : OutsideExample
+unfolding counted workAt inTurn tried candidate passes fits product range elements at all find least member power periodFrom index period idempotentPower indexPeriod sameIndexPeriod
+outside-example = refl

@@ -12,6 +12,7 @@ pub mod Search
 pub mod Walks
 pub mod Transformations
 pub mod Passing
+pub mod Rules
 pub mod Cases
 pub mod Reversed
 pub mod Generated
@@ -19,3 +20,4 @@ pub mod Light
 pub mod Subsemigroups
 pub mod Copies
 pub mod Trials
+pub mod Requests

@@ -3,7 +3,7 @@
 -- Assumes nothing.
 use mathlib.Core.Path.{_≡_}
 use mathlib.Core.Bool.{Bool, true, false, _&&_, _||_, not, cond}
-use mathlib.Core.Logic.{_⊎_}
+use mathlib.Core.Logic.{_⊎_, _↔_}
 use mathlib.Core.List.{List, [], _∷_, map, flatMap, List·Memᴰ}
 use mathlib.Core.Option.{Option, none, some, Option·getD, orElse}
 use Prim.Native.Nat.{ℕ, zero, suc, _+_, _-_, _<_}
@@ -94,6 +94,13 @@ Sorted {A} R (x ∷ l) = ((y : A) → List·Memᴰ y l → R x y) × Sorted R l
 -- No entry equals one behind it.
 abbrev pub NoRepeats : {A : Type 0} → List A → Type 0
 NoRepeats {A} l = Sorted (λ (x y : A). x ≡ y → ⊥) l
+
+-- There are k numbers with the property P: a list of them, each once, has k entries.
+pub record IsCount (P : ℕ → Type 0) (k : ℕ) : Type 0 where
+  pub those : List ℕ
+  pub once : NoRepeats those
+  pub exactly : (x : ℕ) → List·Memᴰ x those ↔ P x
+  pub size : length those ≡ k
 
 -- Each list is earlier than every list behind it.
 abbrev pub Increasing : List (List ℕ) → Type 0

@@ -14,6 +14,7 @@ pub mod Scan
 pub mod Loading
 pub mod Memory
 pub mod RoundTrips
+pub mod Requests
 pub mod Steps
 pub mod Saves
 pub mod Examples

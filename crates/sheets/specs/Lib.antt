@@ -7,3 +7,4 @@ pub mod Calls
 pub mod Rounds
 pub mod Automaton
 pub mod Cursor
+pub mod Requests

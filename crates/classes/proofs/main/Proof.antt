@@ -1,5 +1,5 @@
--- `main` goes on while a file is wanted. The invariant: what holds of the progress at all times, and which file is wanted; the measure is how many files may
--- still be asked for. Assumes nothing.
+-- `main` goes on while a file is wanted, and prints once none is. The invariant: what holds of the progress at all times, and which file is wanted; the
+-- measure is how many files may still be asked for. Assumes nothing.
 use mathlib.Core.Path.{_≡_, refl, sym, _∙_}
 use mathlib.Core.List.{List}
 use mathlib.Core.Option.{Option}
@@ -16,7 +16,7 @@ use Rattle.classes.proofs.main.Tie as tie
 
 abbrev Inv-loop : tie.InvT-loop
 Inv-loop text₀ cells₀ out classifier₀ wanted₀ text cells classifier wanted =
-    (length text ≡ 57721) × (length cells ≡ 14400) × progress.Sound (progressOf classifier cells) × (wanted ≡ progress.wanted (progressOf classifier cells))
+    (length text ≡ 57721) × (length cells ≡ 14400) × progress.Sound (progressOf classifier cells) × ((any : List ℕ) → wanted ≡ progress.wanted (progressOf classifier any))
 
 abbrev μ-loop : tie.MeasureT-loop
 μ-loop text₀ cells₀ out classifier₀ wanted₀ text cells classifier wanted = progress.left (progressOf classifier cells)
@@ -32,7 +32,7 @@ wanted-requires : tie.Need-wanted-requires Inv-loop μ-loop
 wanted-requires c κs = tt
 
 loop-holds : tie.Need-loop-holds Inv-loop μ-loop
-loop-holds c = (refl, refl, start-sound _ (c .before .start .ensures _), c .wanted .ensures _)
+loop-holds c = (refl, refl, start-sound _ (c .before .start .ensures _), c .wanted .ensures)
 
 read-file-requires : tie.Need-read-file-requires Inv-loop μ-loop
 read-file-requires c κs = let v = c .before .before .loop .inv .0 in omega arith
@@ -50,7 +50,7 @@ step-requires : tie.Need-step-requires Inv-loop μ-loop
 step-requires c κs =
     let v = c .before .before .before .before .before .loop .inv in
     let t = c .before .before .before .before .loop-test .taken in
-    (v .1, (v .2, λ e. t (v .3 ∙ e)))
+    (v .1, (v .2, λ e. t (v .3 _ ∙ e)))
 
 wanted-requires-2 : tie.Need-wanted-requires-2 Inv-loop μ-loop
 wanted-requires-2 c κs = tt
@@ -60,7 +60,7 @@ loop-less c =
     let l = c .before .before .before .before .before .before .before .before .loop in
     let v = l .inv in
     let t = c .before .before .before .before .before .before .before .loop-test .taken in
-    later-fewer (progressOf (l .classifier) (l .cells)) (v .2) (λ e. t (v .3 ∙ e)) (came (c .before .before .before .before .before)) (c .before .before .step .ensures .0)
+    later-fewer (progressOf (l .classifier) (l .cells)) (v .2) (λ e. t (v .3 _ ∙ e)) (came (c .before .before .before .before .before)) (c .before .before .step .ensures .0)
 
 loop-again : tie.Need-loop-again Inv-loop μ-loop
 loop-again c =
@@ -70,12 +70,14 @@ loop-again c =
     let st = c .before .before .step in (
       c .before .before .before .before .before .read-file .ensures .1 ∙ v .0,
       st .kept .1 .1 .1 .0 ∙ v .1,
-      later-sound (progressOf (l .classifier) (l .cells)) (v .2) (λ e. t (v .3 ∙ e)) (came (c .before .before .before .before .before)) (st .ensures .0),
-      c .wanted2 .ensures _,
+      later-sound (progressOf (l .classifier) (l .cells)) (v .2) (λ e. t (v .3 _ ∙ e)) (came (c .before .before .before .before .before)) (st .ensures .0),
+      c .wanted2 .ensures,
     )
 
 put-requires : tie.Need-put-requires Inv-loop μ-loop
-put-requires c κs = let l = c .before .before .loop in few-notes (l .classifier) (l .cells) (l .inv .2)
+put-requires c κs =
+    let l = c .before .before .loop in
+    (few-notes (l .classifier) (l .cells) (l .inv .2), λ any. sym (l .inv .3 any) ∙ c .before .loop-test .left)
 
 array-share-prefix-out : tie.Need-array-share-prefix-out Inv-loop μ-loop
 array-share-prefix-out c = text-within (c .before .before .before .loop .classifier) _ (c .put .ensures .0) (c .put .ensures .1)

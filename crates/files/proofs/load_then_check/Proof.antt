@@ -16,7 +16,7 @@ use Rattle.files.proofs.load_then_check.Statement.{statement}
 use Rattle.files.proofs.load_then_check.Tie as tie
 
 -- The text is loaded.
-module _ (c : tie.After-known-told2) where
+module _ (c : tie.After-known-told) where
   abbrev loading-of : tie.After-load
   loading-of = c .before .before .before .before .before
 
@@ -24,10 +24,10 @@ module _ (c : tie.After-known-told2) where
   start-of = loading-of .before .before .before .before
 
   abbrev order-of : ℕ
-  order-of = c .before .loaded2 .given .0 .0
+  order-of = c .before .loaded .given .0 .0
 
   given-order : loadAnswer (now (start-of .args .text)) (now (start-of .args .cells)) ≡ gives order-of
-  given-order = sym (loading-of .load .ensures .0) ∙ ap loadedAnswer (c .before .loaded2 .given .1)
+  given-order = sym (loading-of .load .ensures .0) ∙ ap loadedAnswer (c .before .loaded .given .1)
 
   fits : order-of * order-of ≤ length (loading-of .load .last .1 .0)
   fits = loaded-room _ _ _ given-order (loading-of .load .ensures .1) (loading-of .load .kept .1 .0)
@@ -38,8 +38,20 @@ load-requires c κs = search needs
 enum-known-loaded : tie.Need-enum-known-loaded
 enum-known-loaded c = search needs
 
-enum-known-loaded-2 : tie.Need-enum-known-loaded-2
-enum-known-loaded-2 c = search needs
+enum-told : tie.Need-enum-told
+enum-told c = search needs
+
+of-loading-requires : tie.Need-of-loading-requires
+of-loading-requires c κs = search needs
+
+same-length : tie.Need-same-length
+same-length c = search needs
+
+returns : tie.Need-returns
+returns c =
+    let loading = c .before .before .before .before .before in
+    let told = ap loadedAnswer (c .before .enum-told .given .1) in
+    (c .of-loading .ensures ∙ told ∙ judged-text _ _ (sym told ∙ loading .load .ensures .0), loading .load .ensures .1)
 
 mul-size : tie.Need-mul-size
 mul-size c = omega (arith, square-small _ (loaded-order _ _ _ (given-order c)))
@@ -58,16 +70,8 @@ check-requires c κs = search needs
 enum-known-verdict : tie.Need-enum-known-verdict
 enum-known-verdict c = search needs
 
-enum-told : tie.Need-enum-told
-enum-told c = search needs
-
-same-length : tie.Need-same-length
-same-length c = search needs
-
-returns : tie.Need-returns
-returns c =
-    let loading = c .before .before .before .before .before in
-    (judged-text _ _ (sym (ap loadedAnswer (c .before .loaded .given .1)) ∙ loading .load .ensures .0), loading .load .ensures .1)
+enum-told-2 : tie.Need-enum-told-2
+enum-told-2 c = search needs
 
 same-length-2 : tie.Need-same-length-2
 same-length-2 c = search needs
@@ -87,7 +91,7 @@ returns-3 : tie.Need-returns-3
 returns-3 c =
     let told = c .before .before .before .before in
     let loading = loading-of told in (
-      judged-table _ _ _ (given-order told) (loading .load .ensures .1) (sym (ap verdictRefusal (c .enum-told .given .1)) ∙ c .before .before .check .ensures),
+      judged-table _ _ _ (given-order told) (loading .load .ensures .1) (sym (ap verdictRefusal (c .enum-told2 .given .1)) ∙ c .before .before .check .ensures),
       loading .load .ensures .1,
     )
 
@@ -97,15 +101,16 @@ load-then-check-spec =
     (tie.spec
     load-requires
     enum-known-loaded
-    enum-known-loaded-2
+    enum-told
+    of-loading-requires
+    same-length
+    returns
     mul-size
     slice-reshare-prefix-check
     slice-aggregate-check
     check-requires
     enum-known-verdict
-    enum-told
-    same-length
-    returns
+    enum-told-2
     same-length-2
     returns-2
     same-length-3

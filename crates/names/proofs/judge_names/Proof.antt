@@ -189,7 +189,10 @@ loop-again c =
     judge-names-next _ _ _ _ (more t) _ (inv t) _ (within t) (is-name-so (named c)) (omega arith)
 
 returns-3 : tie.Need-returns-3 Inv-loop μ-loop
-returns-3 c = judge-names-done _ _ _ _ _ (c .before .loop .inv) (c .loop-test .left)
+returns-3 c =
+    let done = judge-names-done _ _ _ _ _ (c .before .loop .inv) (c .loop-test .left) in
+    let few = c .before .loop .inv .few in
+    (done .0, omega arith, done .1)
 
 pub judge-names-spec : {M : Type 1} → statement M
 judge-names-spec = tie.close (tie.spec Inv-loop μ-loop loop-holds shared-slice-read-size cast-size sub-if1 add-t13 returns add-end sub-is-name part-is-name-start part-is-name-end is-name-requires add-t19 returns-2 add-digit-count digit-count-requires sub-name-length part-name-length-start part-name-length-end name-length-requires add-total add-total-2 add-total-3 add-k loop-less loop-again returns-3)

@@ -21,7 +21,7 @@ empty-requires : tie.Need-empty-requires Inv-loop μ-loop
 empty-requires c κs = tt
 
 loop-holds : tie.Need-loop-holds Inv-loop μ-loop
-loop-holds c = gathered-first _ _ _ _ _ (c .before .before .pre) (c .empty .ensures)
+loop-holds c = gathered-first _ _ _ _ _ (c .before .before .pre) (c .empty .ensures .0)
 
 shared-slice-read-b : tie.Need-shared-slice-read-b Inv-loop μ-loop
 shared-slice-read-b c = omega arith
@@ -57,7 +57,7 @@ loop-again : tie.Need-loop-again Inv-loop μ-loop
 loop-again c =
     let h = c .before .before .before in
     let t = h .loop-test .taken in
-    gathered-next _ _ _ _ _ _ (h .before .loop .inv) _ _ _ (omega arith) (omega arith) (bare-goes-on _ _ t (c .before .match .rest .0 .1) (c .before .match .rest .1)) (c .with .ensures)
+    gathered-next _ _ _ _ _ _ (h .before .loop .inv) _ _ _ (omega arith) (omega arith) (bare-goes-on _ _ t (c .before .match .rest .0 .1) (c .before .match .rest .1)) (c .with .ensures .0)
 
 ending-requires-3 : tie.Need-ending-requires-3 Inv-loop μ-loop
 ending-requires-3 c κs = tt

@@ -19,7 +19,7 @@ empty-requires : tie.Need-empty-requires Inv-loop μ-loop
 empty-requires c κs = tt
 
 loop-holds : tie.Need-loop-holds Inv-loop μ-loop
-loop-holds c = gathered-first _ _ _ _ _ (c .before .before .pre) (c .empty .ensures)
+loop-holds c = gathered-first _ _ _ _ _ (c .before .before .pre) (c .empty .ensures .0)
 
 shared-slice-read-b : tie.Need-shared-slice-read-b Inv-loop μ-loop
 shared-slice-read-b c = omega arith
@@ -72,7 +72,7 @@ loop-again c =
     let m = c .before .before .before .before in
     let h = m .before .before in
     let t = h .loop-test .taken in
-    gathered-next _ _ _ _ _ _ (h .before .loop .inv) _ _ _ (omega arith) (omega arith) (quoted-pair _ _ t (omega arith) (m .match .keys1) (c .before .if2 .left)) (c .with .ensures)
+    gathered-next _ _ _ _ _ _ (h .before .loop .inv) _ _ _ (omega arith) (omega arith) (quoted-pair _ _ t (omega arith) (m .match .keys1) (c .before .if2 .left)) (c .with .ensures .0)
 
 with-requires-2 : tie.Need-with-requires-2 Inv-loop μ-loop
 with-requires-2 c κs = tt
@@ -87,7 +87,7 @@ loop-again-2 : tie.Need-loop-again-2 Inv-loop μ-loop
 loop-again-2 c =
     let h = c .before .before .before in
     let t = h .loop-test .taken in
-    gathered-next _ _ _ _ _ _ (h .before .loop .inv) _ _ _ (omega arith) (omega arith) (quoted-goes-on _ _ t (c .before .match .rest .1)) (c .with2 .ensures)
+    gathered-next _ _ _ _ _ _ (h .before .loop .inv) _ _ _ (omega arith) (omega arith) (quoted-goes-on _ _ t (c .before .match .rest .1)) (c .with2 .ensures .0)
 
 ending-requires-3 : tie.Need-ending-requires-3 Inv-loop μ-loop
 ending-requires-3 c κs = tt

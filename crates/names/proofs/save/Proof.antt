@@ -27,13 +27,13 @@ returns-3 : tie.Need-returns-3
 returns-3 c =
     let j = c .before .before .before .before in
     let told = subst (JudgesNames _ _) (c .before .before .judged2 .given .1) (j .judge-names .ensures) in
-    short-text _ _ _ _ (j .before .before .if1 .left, j .before .if2 .left) told (c .if3 .taken)
+    short-text _ _ _ _ (j .before .before .if1 .left, j .before .if2 .left) (told .0, told .2) (c .if3 .taken)
 
 put-names-requires : tie.Need-put-names-requires
 put-names-requires c κs =
     let j = c .before .before .before .before .before in
     let told = subst (JudgesNames _ _) (c .before .before .before .judged2 .given .1) (j .judge-names .ensures) in
-    let t = told .1 in
+    let t = told .2 in
     let u = c .before .if3 .left in
     (record { few = j .before .if2 .left; passed = told .0 }, omega arith)
 
@@ -49,7 +49,7 @@ returns-5 : tie.Need-returns-5
 returns-5 c =
     let j = c .before .before .before .before .before .before .before .before in
     let told = subst (JudgesNames _ _) (c .before .before .before .before .before .before .judged2 .given .1) (j .judge-names .ensures) in
-    saves-text _ _ _ _ (j .before .before .if1 .left, j .before .if2 .left) told (c .before .before .before .before .if3 .left) _ (c .before .before .put-names .ensures)
+    saves-text _ _ _ _ (j .before .before .if1 .left, j .before .if2 .left) (told .0, told .2) (c .before .before .before .before .if3 .left) _ (c .before .before .put-names .ensures)
 
 pub save-spec : {M : Type 1} → statement M
 save-spec = tie.close (tie.spec returns returns-2 judge-names-requires enum-known-judged enum-known-judged-2 returns-3 put-names-requires returns-4 same-length returns-5)

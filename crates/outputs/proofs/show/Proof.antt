@@ -1,4 +1,4 @@
--- `show` prints the part of its buffer that holds the text. Assumes nothing.
+-- `show` prints the part of its buffer that holds the text, and returns how long it is. Assumes nothing.
 use mathlib.Core.Path.{sym}
 use lib.Seq.{length-take-le}
 use Rattle.output.proofs.Program.{output-within}

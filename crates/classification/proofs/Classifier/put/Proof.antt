@@ -17,7 +17,7 @@ put-totals-requires : tie.Need-put-totals-requires
 put-totals-requires c κs =
     let s = c .before .before .before .before .before .before .before .before .before in
     let z = s .args .self in
-    let few = s .pre in
+    let few = s .pre .0 in
     let size : length (now (s .args .out)) ≡ 1700 = search needs in
     let n = c .before .before .before .put-notes in
     (few, omega (arith, n .ensures .0, n .kept .0, notes-short (notesIn z), length-from (z .orders) (z .numbers) (z .count)))
@@ -26,7 +26,7 @@ returns : tie.Need-returns
 returns c =
     let s = c .before .before .before .before .before .before .before .before .before .before in
     let z = s .args .self in
-    let few = s .pre in
+    let few = s .pre .0 in
     let size : length (now (s .args .out)) ≡ 1700 = search needs in
     let n = c .before .before .before .before .put-notes .ensures in
     let t = c .put-totals .ensures in

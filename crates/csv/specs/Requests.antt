@@ -1,0 +1,45 @@
+-- The requests (ii) and (iv) of 02, as sentences about the definitions. Assumes nothing.
+use mathlib.Core.Path.{_≡_}
+use mathlib.Core.List.{List, [], _∷_, _++_}
+use mathlib.Core.Option.{some}
+use Prim.Native.Nat.{ℕ, suc, _≤_, _<_}
+use lib.ListN.{length, getD}
+use Rattle.semigroups.specs.Questions.{Refusal, no}
+use Rattle.semigroups.specs.Calls.{refused}
+use Rattle.csv.specs.Records.{closed}
+use Rattle.csv.specs.Tables.{fieldsOf, orderOf, cellsOf}
+use Rattle.csv.specs.Questions.{longest, firstOther, fieldRefusal, loadRefusal}
+use Rattle.csv.specs.Passing.{LoadPasses}
+use Rattle.csv.specs.Calls.{loadAnswer, cellsAfter}
+use Rattle.csv.specs.Rounds.{LoadedSaves, LoadsClosed, Buffers, textHeld, rounds, Closed}
+
+-- A text that only its last line break makes too long: as it came it passes 20 and fails a later question; closed it fails 20. No byte changes either way.
+pub record TooLongClosed (t cells : List ℕ) : Type 0 where
+  pub by : Refusal
+  pub refused-later : loadAnswer t cells ≡ refused by
+  pub not-20 : by .number ≡ 20 → ⊥
+  pub closed-20 : loadAnswer (closed t) cells ≡ refused (no 20 [])
+  pub kept : cellsAfter t cells ≡ cells
+  pub closed-kept : cellsAfter (closed t) cells ≡ cells
+
+pub record TextRequests : Type 0 where
+  -- (ii) "Such a text now loads exactly as if CR LF followed": a text of at most 57,720 bytes with its last line break, and any text that loads.
+  pub as-closed : (t cells : List ℕ) → length (closed t) ≤ longest → LoadsClosed t cells
+  pub loaded-as-closed : (t cells : List ℕ) → LoadPasses t (length cells) → LoadsClosed t cells
+  -- "20 and 21 speak of the text as it came": so a text of 57,719 or 57,720 bytes without its last line break is refused by another question than
+  -- closed; and the first other byte is the same.
+  pub too-long-closed : (t cells : List ℕ) → length t ≤ longest → longest < length (closed t) → TooLongClosed t cells
+  pub same-other-byte : (t : List ℕ) → firstOther (closed t) ≡ firstOther t
+  -- "A text that ends in a comma has an empty last field."
+  pub comma-last : (t : List ℕ) → (before : List (List ℕ)) × (fieldsOf (t ++ 44 ∷ []) ≡ before ++ [] ∷ [])
+  -- "Loading and then saving an accepted text whose entries lie within its order gives that text, with the break added where it was missing"; and doing
+  -- so again, however often, changes no further byte.
+  pub loaded-saves : (t buffer text : List ℕ) → LoadPasses t (length buffer) → ((k : ℕ) → k < length (cellsOf t) → getD (cellsOf t) k 0 ≤ orderOf t) → length (closed t) ≤ length text
+      → LoadedSaves t buffer text
+  pub loaded-stays : (b : Buffers) → LoadPasses (textHeld b) (length (b .cells)) → ((k : ℕ) → k < length (cellsOf (textHeld b)) → getD (cellsOf (textHeld b)) k 0 ≤ orderOf (textHeld b))
+      → length (closed (textHeld b)) ≤ length (b .text) → (r : ℕ) → Closed (textHeld b) b (rounds (suc r) b)
+  -- "22 is no longer asked and never occurs."
+  pub never-22 : (t : List ℕ) (room : ℕ) (r : Refusal) → loadRefusal t room ≡ some r → r .number ≡ 22 → ⊥
+  -- (iv) "24 is asked before 23. An empty field has no first byte, so it passes 24 and gets 23."
+  pub leading-zero : (f : List ℕ) → getD f 0 0 ≡ 48 → fieldRefusal f ≡ some (no 24 [])
+  pub empty-field : fieldRefusal [] ≡ some (no 23 [])
