@@ -3,19 +3,20 @@
 // `index_period` and `profile` answer for one element of any cells, order and element, behind the questions about them.
 // `all_index_periods` and `all_counts` answer for every element of cells that fill a table.
 ghost use mathlib.Core.Path.{_≡_};
-ghost use Prim.Native.Nat.{_≤_};
 ghost use Rattle.semigroups.specs.Tables.{product, Element, Filled, Associative};
 ghost use Rattle.semigroups.specs.Questions.{elementRefusal};
 ghost use Rattle.semigroups.specs.Invariants.{indexPeriod, rowFrequency, columnFrequency, commuting, profile};
 ghost use Rattle.semigroups.specs.Calls.{givenUnless};
 ghost use Rattle.tables.specs.Answers.{refusalNumbers};
 ghost use Rattle.invariants.specs.Answers.{elementFaultRefusal, elementVerdictRefusal, indexPeriodValue, indexPeriodSays, profileValue, profileSays};
-ghost use Rattle.invariants.specs.PerElement.{perElement, AllIndexPeriods, AllLineCounts, AllCounts};
+ghost use Rattle.invariants.specs.PerElement.{AllIndexPeriods, AllLineCounts, AllCounts};
 ghost use Rattle.invariants.specs.Powers.{settled};
-ghost use Rattle.invariants.specs.Counts.{occurrences, InRange};
+ghost use Rattle.tables.specs.Counting.{occurrences, InRange};
 use tables::Fault;
 use tables::Refusal;
 use tables::Verdict;
+use tables::counts::frequencies;
+use tables::counts::tally;
 
 // ---- the questions
 
@@ -149,21 +150,6 @@ fn count(cells: &[u8], k: usize, step: usize, a: usize) -> usize
     found
 }
 
-// The same for every element in one pass.
-fn tally(cells: &[u8], n: usize, k: usize, step: usize) -> [u16; 120]
-    requires { ⌜ Filled n (now cells) ⌝ ∗ ⌜ InRange k step (now cells) ⌝ ∗ ⌜ k ≤ 14400 ⌝ }
-    ensures answer { λ r. ⌜ r ≡ perElement n (λ a. occurrences a step k (now (cells .entry))) ⌝ }
-{
-    let mut found = [0u16; 120];
-    let mut i: usize = 0;
-    while i < k {
-        let x = cells[i * step] as usize;
-        found[x - 1] += 1;
-        i += 1;
-    }
-    found
-}
-
 // How often a stands in row a: the n cells that start at (a - 1) × n.
 fn row_frequency(cells: &[u8], n: usize, a: usize) -> usize
     requires { ⌜ Filled n (now cells) ⌝ ∗ ⌜ Element n a ⌝ }
@@ -288,7 +274,7 @@ pub fn all_counts(cells: &[u8], n: usize) -> ElementCounts
     let column = lines.column;
     let commuting = lines.commuting;
     ElementCounts {
-        frequency: tally(cells, n, cells.len(), 1),
+        frequency: frequencies(cells, n),
         diagonal: tally(cells, n, n, n + 1),
         row,
         column,
