@@ -5,12 +5,12 @@ use Prim.Native.Nat.{ℕ}
 use Rattle.semigroups.specs.Tables.{Product}
 use Rattle.semigroups.specs.Invariants as marks
 unfoldable pub use Rattle.tables.specs.PerElement.{perElement}
-use Rattle.invariants.specs.declared.IndexPeriods.{IndexPeriods}
+use Rattle.invariants.specs.declared.IndexPeriodKeys.{IndexPeriodKeys}
 use Rattle.invariants.specs.declared.LineCounts.{LineCounts}
 use Rattle.invariants.specs.declared.ElementCounts.{ElementCounts}
 
--- The index and the period of every element.
-pub record AllIndexPeriods (n : ℕ) (s : Product) (r : IndexPeriods) : Type 0 where
+-- The keys of every element that are compared, its index and its period; the idempotent power is none.
+pub record AllIndexPeriodKeys (n : ℕ) (s : Product) (r : IndexPeriodKeys) : Type 0 where
   pub index : r .index ≡ perElement n (marks.index n s)
   pub period : r .period ≡ perElement n (marks.period n s)
 
