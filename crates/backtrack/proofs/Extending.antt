@@ -19,10 +19,8 @@ use Rattle.semigroups.proofs.Candidates.{size-rows}
 use Rattle.backtrack.specs.declared.Partial.{Partial}
 use Rattle.backtrack.specs.declared.Outcome.{Outcome}
 use Rattle.backtrack.specs.State.{prefix, Holds, Ready, foundIn, Remainder, exhausted, remaining, within, outcomeOf, bounded}
-use Rattle.constraints.specs.Constraints.{allows}
-use Rattle.constraints.specs.Tracking.{Placing, Tracks}
+use Rattle.constraints.specs.Tracking.{Tracks}
 use Rattle.constraints.proofs.Placing.{prefix-length, image-padded, used-image}
-use Rattle.constraints.proofs.Noting.{constraints-refuse}
 use Rattle.backtrack.proofs.Limits.{resumed, within-nothing, within-skip, within-unpaid, within-paid, over-stopped, over-found, not-over}
 use Rattle.backtrack.proofs.Steps.{lowest, leftFrom, whole, begin, end, isOpen, tested, shut, opened, fails, goes, still}
 
@@ -137,11 +135,6 @@ pub handed-on : (s t : Product) (p q : Partial) → q .len ≡ p .len + 1 → ta
     → Tracks s t (prefix p) (p .len) 0 (p .forced) (p .owner) → Tracks s t (take (q .len - 1) (q .image)) (q .len - 1) 0 (q .forced) (q .owner)
 handed-on s t p q el ep ef eo W = let e : q .len - 1 ≡ p .len = omega arith in rw (e, ep, ef, eo) W
 
--- A map that passes the test is handed back with its newest pairs noted.
-pub held : (s t : Product) (n : ℕ) (r q : Partial) → Placing n (r .image) (r .used) (r .len) → q .image ≡ r .image → q .used ≡ r .used → q .len ≡ r .len → Tracks s t (prefix r) (r .len) 0 (q .forced) (q .owner)
-    → Holds s n t q
-held s t n r q P ei eu el W = record { placing = rw (ei, eu, el) P; tracks = rw (ei, el) W }
-
 -- What was placed before x passes still.
 pub handed-passes : (s t : Product) (p q : Partial) → q .len ≡ p .len + 1 → take (p .len) (q .image) ≡ prefix p → passes s t (prefix p) ≡ true → passes s t (take (q .len - 1) (q .image)) ≡ true
 handed-passes s t p q el ep e = let k : q .len - 1 ≡ p .len = omega arith in rw (k, ep) e
@@ -196,14 +189,6 @@ module _ {s : Product} {m : ℕ} {t : Product} {n : ℕ} {scratch after : List �
         let test = eqb (getD (p .used) x 0) 0 in
         let mark = marked n scratch (p .len + 1) x in
         not-true (member x (prefix p)) (sym used-here ∙ and-left test mark (and-right (leb low x) (test && mark) (sym (T .opened) ∙ h)))
-
-    -- The constraints do not allow it, so the list does not pass.
-    pub disallowed : (allows (getD (p .forced) (p .len + 1) 0) x && allows (getD (p .owner) x 0) (p .len + 1)) ≡ false → passes s t longer ≡ false
-    disallowed e =
-        let small = T .orders in
-        let at = T .element in
-        constraints-refuse m s t (T .closed) (prefix p) (p .len) (long s m t n scratch after tight p (T .ready)) (T .room) x (p .forced) (p .owner) (T .ready .holds .tracks) (small .0) (T .ready .passed)
-        (let z : Element 120 x = omega arith in z) unused e
 
     -- No trial is left for it.
     pub stop : exhausted ≡ within left (work none 1) → record { stopped = true; left = 0; ok = false; image = replicate 120 0 } ≡ outcomeOf Answer

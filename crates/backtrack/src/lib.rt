@@ -98,57 +98,43 @@ impl Partial {
         p
     }
 
-    // Whether the list placed passes, where it does without its newest element. If so, the pairs of that element are noted in the constraints; else the map
-    // is handed back as it is.
+    // Whether the list placed passes, where it does without its newest element. The pairs of that element are noted in the constraints.
     fn test(self, source: &[u8], m: usize, target: &[u8], n: usize) -> Tested
         requires { ⌜ Filled m (now source) × Filled n (now target) ⌝ }
         requires { ⌜ Placing n (self .image) (self .used) (self .len) × Element m (self .len) ⌝ }
         requires { ⌜ Tracks (product m (now source)) (product n (now target)) (take (self .len - 1) (self .image)) (self .len - 1) 0 (self .forced) (self .owner) × (passes (product m (now source)) (product n (now target)) (take (self .len - 1) (self .image)) ≡ true) ⌝ }
         ensures answer { λ r. ⌜ r .ok ≡ passes (product m (now (source .entry))) (product n (now (target .entry))) (prefix self) ⌝ }
-        ensures same { λ r. ⌜ (r .partial .image ≡ self .image) × (r .partial .used ≡ self .used) × (r .partial .len ≡ self .len) ⌝ }
-        ensures passed { λ r. ⌜ (r .ok ≡ true → Tracks (product m (now (source .entry))) (product n (now (target .entry))) (prefix self) (self .len) 0 (r .partial .forced) (r .partial .owner)) ⌝ }
-        ensures failed { λ r. ⌜ (r .ok ≡ false → (r .partial .forced ≡ self .forced) × (r .partial .owner ≡ self .owner)) ⌝ }
-    {
-        let len = self.len;
-        let before = len - 1;
-        let x = self.image[before] as usize;
-        let image = &self.image;
-        let used = &self.used;
-        let forced = &self.forced;
-        let owner = &self.owner;
-        if !constraints::passes_with(source, m, target, n, image, used, forced, owner, before, x) {
-            return Tested {
-                ok: false,
-                partial: self,
-            };
-        }
-        Tested {
-            ok: true,
-            partial: self.noted(source, m, target, n),
-        }
-    }
-
-    // The map with the pairs of its newest element noted in the constraints.
-    fn noted(self, source: &[u8], m: usize, target: &[u8], n: usize) -> Self
-        requires { ⌜ Filled m (now source) × Filled n (now target) ⌝ }
-        requires { ⌜ Placing n (self .image) (self .used) (self .len) × Element m (self .len) ⌝ }
-        requires { ⌜ Tracks (product m (now source)) (product n (now target)) (prefix self) (self .len - 1) 0 (self .forced) (self .owner) ⌝ }
-        ensures same { λ r. ⌜ (r .image ≡ self .image) × (r .used ≡ self .used) × (r .len ≡ self .len) ⌝ }
-        ensures constraints { λ r. ⌜ Tracks (product m (now (source .entry))) (product n (now (target .entry))) (prefix self) (self .len) 0 (r .forced) (r .owner) ⌝ }
+        ensures holds { λ r. ⌜ Holds (product m (now (source .entry))) n (product n (now (target .entry))) (r .partial) ⌝ }
+        ensures same { λ r. ⌜ (r .partial .image ≡ self .image) × (r .partial .len ≡ self .len) ⌝ }
     {
         let len = self.len;
         let image = self.image;
         let used = self.used;
         let mut forced = self.forced;
         let mut owner = self.owner;
+        let before = len - 1;
+        let x = image[before] as usize;
+        let ok = constraints::passes_with(
+            source,
+            m,
+            target,
+            n,
+            &image,
+            &used,
+            &forced,
+            &owner,
+            before,
+            x,
+        );
         constraints::note_newest(source, m, target, n, &image, &mut forced, &mut owner, len);
-        Partial {
+        let partial = Partial {
             image,
             used,
             forced,
             owner,
             len,
-        }
+        };
+        Tested { ok, partial }
     }
 }
 
@@ -179,10 +165,9 @@ fn whole(tight: bool, limit: u32, image: [u8; 120]) -> Outcome
     }
 }
 
-// One trial more is paid for; where none is left, none is left then.
+// One trial more is paid for.
 fn pay(left: u32) -> Paid
     ensures answer { λ r. ⌜ cond (r .enough) (remaining (r .left) none) exhausted ≡ within left (work none 1) ⌝ }
-    ensures left { λ r. ⌜ r .left ≡ left - 1 ⌝ }
 {
     if left == 0 {
         return Paid {
@@ -227,10 +212,12 @@ fn extend(
                 return no_map(true, 0);
             }
             left = paid.left;
-            // A shortcut of constant time: an image that the constraints do not allow costs no copy of the map. The test decides.
+            // A look by reference first, so that an image that does not fit costs no copy of the map. The test decides.
+            let image = &p.image;
+            let used = &p.used;
             let forced = &p.forced;
             let owner = &p.owner;
-            if constraints::settled(forced, owner, at + 1, x) {
+            if constraints::passes_with(source, m, target, n, image, used, forced, owner, at, x) {
                 let q = p.place(n, x).test(source, m, target, n);
                 if q.ok {
                     let same = x == low;

@@ -156,8 +156,8 @@ fn new_fits<'a>(
     true
 }
 
-// Whether the constraints allow x as the image of element `next`: x is what they ask of it, and it is what they reserve x for.
-pub fn settled<'a>(forced: &'a [u8; 121], owner: &'a [u8; 121], next: usize, x: usize) -> bool
+// Whether the constraints allow x as the image of element `next`.
+fn settled<'a>(forced: &'a [u8; 121], owner: &'a [u8; 121], next: usize, x: usize) -> bool
     requires { ⌜ (next ≤ 120) × (x ≤ 120) ⌝ }
     ensures answer { λ r. ⌜ r ≡ (allows (getD (now (forced .entry)) next 0) x && allows (getD (now (owner .entry)) x 0) next) ⌝ }
 {

@@ -15,8 +15,9 @@ use Rattle.semigroups.specs.Search.{passes}
 use Rattle.semigroups.proofs.Tables.{product-element}
 use Rattle.backtrack.specs.State.{Remainder, exhausted, remaining, within}
 use Rattle.backtrack.specs.declared.Outcome.{Outcome}
+use Rattle.constraints.proofs.Placing.{as-trial}
 use Rattle.backtrack.proofs.Steps.{lowest}
-use Rattle.backtrack.proofs.Extending.{Ahead, Rest, Turn, Verdict, handed-on, done-whole, begins, ends, row-marked, unused, skip, stop, disallowed, refuse, handed-passes, held, onward, halt, found, fail}
+use Rattle.backtrack.proofs.Extending.{Ahead, Rest, Turn, Verdict, handed-on, done-whole, begins, ends, row-marked, unused, skip, stop, refuse, handed-passes, onward, halt, found, fail}
 use Rattle.backtrack.proofs.extend.Reads as extend
 use Rattle.backtrack.proofs.extend.Kinds as extend-kinds
 use Rattle.backtrack.proofs.+extend.Lts-extend as extend-lts
@@ -24,7 +25,7 @@ use Rattle.backtrack.proofs.Partial.place.Reads as place-reads
 use Rattle.backtrack.proofs.Partial.test.Reads as test-reads
 use Rattle.backtrack.proofs.no_map.Reads as no-map-reads
 use Rattle.backtrack.proofs.open.Reads as open-reads
-use Rattle.constraints.proofs.settled.Reads as settled-reads
+use Rattle.constraints.proofs.passes_with.Reads as passes-with-reads
 use Rattle.backtrack.proofs.pay.Reads as pay-reads
 use Rattle.backtrack.proofs.whole.Reads as whole-reads
 use Rattle.backtrack.proofs.+extend.{statement}
@@ -49,7 +50,7 @@ extend-μ-loop source m target n scratch after tight limit p at low left₀ x₀
 -- What the calls ask and tell.
 abbrev calls : ℕ → extend-lts.Claims
 calls t =
-    (whole-reads.Asked, whole-reads.Learnt, open-reads.Asked, open-reads.Learnt, pay-reads.Asked, pay-reads.Learnt, no-map-reads.Asked, no-map-reads.Learnt, settled-reads.Asked, settled-reads.Learnt, place-reads.Asked, place-reads.Learnt, test-reads.Asked, test-reads.Learnt, extend-below t, extend.Post)
+    (whole-reads.Asked, whole-reads.Learnt, open-reads.Asked, open-reads.Learnt, pay-reads.Asked, pay-reads.Learnt, no-map-reads.Asked, no-map-reads.Learnt, passes-with-reads.Asked, passes-with-reads.Learnt, place-reads.Asked, place-reads.Learnt, test-reads.Asked, test-reads.Learnt, extend-below t, extend.Post)
 
 abbrev Start : ℕ → Type 0
 Start t = extend-lts.Start (calls t) (extend-at t) extend.Post extend-Inv-loop extend-μ-loop
@@ -90,7 +91,7 @@ abbrev Tested : ℕ → Type 0
 Tested t = extend-lts.After-test (calls t) (extend-at t) extend.Post extend-Inv-loop extend-μ-loop
 
 -- What the test says, once it has answered.
-tested : (t : ℕ) (k : Tested t) → let o = k .before .before .before .before .before .before .before .before .before .before .before in
+tested : (t : ℕ) (k : Tested t) → let o = k .before .before .before .before .before .before .before .before .before .before .before .before .before in
     Verdict (product (start t o .args .m) (start t o .args .source .now)) (product (start t o .args .n) (start t o .args .target .now)) (start t o .args .t9) (o .before .before .before .before .loop .x) (k .before .place .result) (k .test .result .partial) (k .test .result .ok)
 tested t k =
     let more = k .before .place .ensures .1 .0 in
@@ -99,8 +100,8 @@ tested t k =
       longer = more .0;
       one-more = more .2;
       says = test .0;
-      same-images = test .1 .0 .0;
-      same-length = test .1 .0 .2;
+      same-images = test .1 .1 .0;
+      same-length = test .1 .1 .1;
     }
 
 extend-whole-requires : (t : ℕ) → extend-lts.Need-whole-requires (calls t) (extend-at t) extend.Post extend-Inv-loop extend-μ-loop
@@ -152,33 +153,27 @@ extend-no-map-requires t c κs = search needs
 extend-returns-2 : (t : ℕ) → extend-lts.Need-returns-2 (calls t) (extend-at t) extend.Post extend-Inv-loop extend-μ-loop
 extend-returns-2 t c =
     let y = c .before .before .before .pay in
-    c .no-map .ensures ∙ stop (turn t (c .before .before .before .before .before)) (c .before .before .before .before .if3 .taken) (unpaid (y .result .enough) (y .result .left) _ (y .ensures .0) (c .before .if4 .taken))
+    c .no-map .ensures ∙ stop (turn t (c .before .before .before .before .before)) (c .before .before .before .before .if3 .taken) (unpaid (y .result .enough) (y .result .left) _ (y .ensures) (c .before .if4 .taken))
 
-extend-add-settled : (t : ℕ) → extend-lts.Need-add-settled (calls t) (extend-at t) extend.Post extend-Inv-loop extend-μ-loop
-extend-add-settled t c =
-    let T = turn t (c .before .before .before .before .before .before .before) in
-    let room = T .room in
-    let orders = T .orders in
-    omega arith
-
-extend-settled-requires : (t : ℕ) → extend-lts.Need-settled-requires (calls t) (extend-at t) extend.Post extend-Inv-loop extend-μ-loop
-extend-settled-requires t c κs =
-    let T = turn t (c .before .before .before .before .before .before .before) in
-    let room = T .room in
-    let orders = T .orders in
-    let x = T .element in
-    (omega arith, omega arith)
+extend-passes-with-requires : (t : ℕ) → extend-lts.Need-passes-with-requires (calls t) (extend-at t) extend.Post extend-Inv-loop extend-μ-loop
+extend-passes-with-requires t c κs =
+    let k = c .before .before .before .before .before .before .before .before .before in
+    let a = start t k .args in
+    let p = a .t9 in
+    let T = turn t k in
+    let holds = T .ready .holds in
+    (start t k .pre .1 .0, ((as-trial (a .n) (p .image) (p .used) (p .len) (holds .placing) (k .before .before .before .before .loop .x) (T .element) (omega arith), T .room, unused T (c .before .before .before .before .before .before .before .before .if3 .taken)), (holds .tracks, T .ready .passed)))
 
 extend-place-requires : (t : ℕ) → extend-lts.Need-place-requires (calls t) (extend-at t) extend.Post extend-Inv-loop extend-μ-loop
 extend-place-requires t c κs =
-    let T = turn t (c .before .before .before .before .before .before .before .before .before) in
+    let T = turn t (c .before .before .before .before .before .before .before .before .before .before .before) in
     let room = T .room in
     let orders = T .orders in
-    (T .ready .holds .placing, (T .element, orders .1, omega arith, unused T (c .before .before .before .before .before .before .before .before .if3 .taken)))
+    (T .ready .holds .placing, (T .element, orders .1, omega arith, unused T (c .before .before .before .before .before .before .before .before .before .before .if3 .taken)))
 
 extend-test-requires : (t : ℕ) → extend-lts.Need-test-requires (calls t) (extend-at t) extend.Post extend-Inv-loop extend-μ-loop
 extend-test-requires t c κs =
-    let k = c .before .before .before .before .before .before .before .before .before .before in
+    let k = c .before .before .before .before .before .before .before .before .before .before .before .before in
     let z = start t k in
     let a = z .args in
     let s = product (a .m) (a .source .now) in
@@ -194,39 +189,39 @@ extend-test-requires t c κs =
 extend-extend-requires : (t : ℕ) → extend-lts.Need-extend-requires (calls t) (extend-at t) extend.Post extend-Inv-loop extend-μ-loop
 extend-extend-requires t c κs =
     let w = c .before in
-    let k = w .before .before .before .before .before .before .before .before .before .before .before in
+    let k = w .before .before .before .before .before .before .before .before .before .before .before .before .before in
     let z = start t k in
     let T = turn t k in
-    let y = w .before .before .before .before .before .before .before .before .before .pay in
-    let p = paid (y .result .enough) (y .result .left) _ (y .ensures .0) (w .before .before .before .before .before .before .before .if4 .left) in
-    let o = w .before .before .before .before .before .before .before .before .before .before .if3 .taken in
+    let y = w .before .before .before .before .before .before .before .before .before .before .before .pay in
+    let p = paid (y .result .enough) (y .result .left) _ (y .ensures) (w .before .before .before .before .before .before .before .before .before .if4 .left) in
+    let o = w .before .before .before .before .before .before .before .before .before .before .before .before .if3 .taken in
     let room = T .room in
     let v = tested t w in
     let one = v .one-more in
     let same = v .same-length in
-    (subst (λ (j : ℕ). z .args .m - w .test .result .partial .len < j) (z .pre .0) (omega arith), (z .pre .1 .0, onward T o (y .result .left) p (w .before .place .result) (w .test .result .partial) (w .test .result .ok) v (c .if6 .taken) (held _ _ _ (w .before .place .result) (w .test .result .partial) (w .before .place .ensures .0) (w .test .ensures .1 .0 .0) (w .test .ensures .1 .0 .1) (w .test .ensures .1 .0 .2) (w .test .ensures .1 .1 .0 (c .if6 .taken)))))
+    (subst (λ (j : ℕ). z .args .m - w .test .result .partial .len < j) (z .pre .0) (omega arith), (z .pre .1 .0, onward T o (y .result .left) p (w .before .place .result) (w .test .result .partial) (w .test .result .ok) v (c .if6 .taken) (w .test .ensures .1 .0)))
 
 extend-returns-3 : (t : ℕ) → extend-lts.Need-returns-3 (calls t) (extend-at t) extend.Post extend-Inv-loop extend-μ-loop
 extend-returns-3 t c =
     let w = c .before .before .before in
-    let k = w .before .before .before .before .before .before .before .before .before .before .before in
+    let k = w .before .before .before .before .before .before .before .before .before .before .before .before .before in
     let z = start t k in
     let T = turn t k in
-    let y = w .before .before .before .before .before .before .before .before .before .pay in
-    let p = paid (y .result .enough) (y .result .left) _ (y .ensures .0) (w .before .before .before .before .before .before .before .if4 .left) in
-    let o = w .before .before .before .before .before .before .before .before .before .before .if3 .taken in
+    let y = w .before .before .before .before .before .before .before .before .before .before .before .pay in
+    let p = paid (y .result .enough) (y .result .left) _ (y .ensures) (w .before .before .before .before .before .before .before .before .before .if4 .left) in
+    let o = w .before .before .before .before .before .before .before .before .before .before .before .before .if3 .taken in
     let i = c .before .extend in
     i .ensures ∙ halt T o (y .result .left) p (w .before .place .result) (w .test .result .partial) (w .test .result .ok) (tested t w) (c .before .before .if6 .taken) (ap (λ (r : Outcome). r .stopped) (sym (i .ensures)) ∙ c .if7 .taken)
 
 extend-returns-4 : (t : ℕ) → extend-lts.Need-returns-4 (calls t) (extend-at t) extend.Post extend-Inv-loop extend-μ-loop
 extend-returns-4 t c =
     let w = c .before .before .before .before in
-    let k = w .before .before .before .before .before .before .before .before .before .before .before in
+    let k = w .before .before .before .before .before .before .before .before .before .before .before .before .before in
     let z = start t k in
     let T = turn t k in
-    let y = w .before .before .before .before .before .before .before .before .before .pay in
-    let p = paid (y .result .enough) (y .result .left) _ (y .ensures .0) (w .before .before .before .before .before .before .before .if4 .left) in
-    let o = w .before .before .before .before .before .before .before .before .before .before .if3 .taken in
+    let y = w .before .before .before .before .before .before .before .before .before .before .before .pay in
+    let p = paid (y .result .enough) (y .result .left) _ (y .ensures) (w .before .before .before .before .before .before .before .before .before .if4 .left) in
+    let o = w .before .before .before .before .before .before .before .before .before .before .before .before .if3 .taken in
     let i = c .before .before .extend in
     i .ensures ∙ found T o (y .result .left) p (w .before .place .result) (w .test .result .partial) (w .test .result .ok) (tested t w) (c .before .before .before .if6 .taken) (ap (λ (r : Outcome). r .ok) (sym (i .ensures)) ∙ c .if8 .taken)
 
@@ -247,16 +242,16 @@ extend-loop-again t c =
       l .inv .2,
       ⊎-elim
           (λ w.
-          let more = w .9 .ensures .1 .0 in
-          let test = w .10 .ensures in
-          let v : Verdict _ _ _ _ (w .9 .result) (w .10 .result .partial) (w .10 .result .ok) = record { longer = more .0; one-more = more .2; says = test .0; same-images = test .1 .0 .0; same-length = test .1 .0 .2 } in
-          let r = w .12 in
-          fail T (w .0 .taken) (w .1 .result .left) (paid (w .1 .result .enough) (w .1 .result .left) _ (w .1 .ensures .0) (w .3 .left)) (w .9 .result) (w .10 .result .partial) (w .10 .result .ok) v (w .11 .taken) (ap (λ (q : Outcome). q .stopped) (sym (r .ensures)) ∙ w .13 .left) (ap (λ (q : Outcome). q .ok) (sym (r .ensures)) ∙ w .14 .left)
-          ∙ rw (w .15, ap (λ (q : Outcome). q .left) (r .ensures)))
+          let more = w .11 .ensures .1 .0 in
+          let test = w .12 .ensures in
+          let v : Verdict _ _ _ _ (w .11 .result) (w .12 .result .partial) (w .12 .result .ok) = record { longer = more .0; one-more = more .2; says = test .0; same-images = test .1 .1 .0; same-length = test .1 .1 .1 } in
+          let r = w .14 in
+          fail T (w .0 .taken) (w .1 .result .left) (paid (w .1 .result .enough) (w .1 .result .left) _ (w .1 .ensures) (w .3 .left)) (w .11 .result) (w .12 .result .partial) (w .12 .result .ok) v (w .13 .taken) (ap (λ (q : Outcome). q .stopped) (sym (r .ensures)) ∙ w .15 .left) (ap (λ (q : Outcome). q .ok) (sym (r .ensures)) ∙ w .16 .left)
+          ∙ rw (w .17, ap (λ (q : Outcome). q .left) (r .ensures)))
           (⊎-elim
-          (λ w. refuse T (w .0 .taken) (w .1 .result .left) (paid (w .1 .result .enough) (w .1 .result .left) _ (w .1 .ensures .0) (w .3 .left)) (ap (passes _ _) (sym (w .9 .ensures .1 .0 .0)) ∙ sym (w .10 .ensures .0) ∙ w .11 .left) ∙ rw (w .12))
+          (λ w. refuse T (w .0 .taken) (w .1 .result .left) (paid (w .1 .result .enough) (w .1 .result .left) _ (w .1 .ensures) (w .3 .left)) (ap (passes _ _) (sym (w .11 .ensures .1 .0 .0)) ∙ sym (w .12 .ensures .0) ∙ w .13 .left) ∙ rw (w .14))
           (⊎-elim
-          (λ w. refuse T (w .0 .taken) (w .1 .result .left) (paid (w .1 .result .enough) (w .1 .result .left) _ (w .1 .ensures .0) (w .3 .left)) (disallowed T (w .0 .taken) (sym (w .7 .ensures) ∙ w .8 .left)) ∙ rw (w .9))
+          (λ w. refuse T (w .0 .taken) (w .1 .result .left) (paid (w .1 .result .enough) (w .1 .result .left) _ (w .1 .ensures) (w .3 .left)) (sym (w .9 .ensures) ∙ w .10 .left) ∙ rw (w .11))
           (λ w. skip T (w .0 .left) ∙ rw (w .1))))
           (c .if3 .came),
     )
@@ -289,8 +284,7 @@ pub +extend-spec : {M : Type 1} → statement M
     (extend-pay-requires t)
     (extend-no-map-requires t)
     (extend-returns-2 t)
-    (extend-add-settled t)
-    (extend-settled-requires t)
+    (extend-passes-with-requires t)
     (extend-place-requires t)
     (extend-test-requires t)
     (extend-extend-requires t)
