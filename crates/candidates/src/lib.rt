@@ -64,7 +64,7 @@ fn index_period_keys(cells: &[u8], n: usize) -> [u64; 120]
     requires { ⌜ Filled n (now cells) ⌝ }
     ensures answer { λ r. ⌜ r ≡ perElement n (λ a. indexPeriodKey (indexPeriod n (product n (now (cells .entry))) a)) ⌝ }
 {
-    let powers = invariants::all_index_periods(cells, n);
+    let powers = invariants::all_index_period_keys(cells, n);
     let none = [0u64; 120];
     let indices = append(&none, n, 256, &powers.index);
     append(&indices, n, 256, &powers.period)

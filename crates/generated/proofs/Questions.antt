@@ -6,12 +6,12 @@ use mathlib.Core.Option.{none, some}
 use Prim.Native.Nat.{ℕ}
 use lib.ListN.{getD}
 use Rattle.semigroups.specs.Lists.{at, member}
-use Rattle.semigroups.specs.Tables.{Product, Element, badCell}
+use Rattle.semigroups.specs.Tables.{Product, Element, associates, badCell}
 use Rattle.semigroups.specs.Generated.{Inside}
-use Rattle.semigroups.proofs.Booleans.{both, impossible}
+use Rattle.semigroups.proofs.Booleans.{both, not-of-true, not-of-false, impossible}
 use Rattle.semigroups.proofs.NoRepeats.{mem-place, place-mem}
 use Rattle.semigroups.proofs.Tables.{cells-in-range, no-bad-cell}
-use Rattle.tables.proofs.Triples.{fails, no-failing, failing}
+use Rattle.tables.proofs.Triples.{fails}
 
 module _ (n : ℕ) (l : List ℕ) where
   pub entries-inside : badCell n l ≡ none → Inside n l
@@ -34,14 +34,14 @@ module _ (s : Product) (l : List ℕ) where
     unfolding at
     unlisted e = rw e
 
-    pub no-failing-through : s (s i j) k ≡ s i (s j k) → failsThrough (i ∷ j ∷ k ∷ []) ≡ false
+    pub no-failing-through : associates s i j k ≡ true → failsThrough (i ∷ j ∷ k ∷ []) ≡ false
     unfolding at
-    no-failing-through e = fine (member j l) (fails s (i ∷ j ∷ k ∷ [])) (no-failing s i j k e)
+    no-failing-through e = fine (member j l) (fails s (i ∷ j ∷ k ∷ [])) (not-of-true (associates s i j k) e)
       where
         fine : (a b : Bool) → b ≡ false → (a && b) ≡ false
         fine true b q = q
         fine false b q = refl
 
-    pub failing-through : member j l ≡ true → (s (s i j) k ≡ s i (s j k) → ⊥) → failsThrough (i ∷ j ∷ k ∷ []) ≡ true
+    pub failing-through : member j l ≡ true → associates s i j k ≡ false → failsThrough (i ∷ j ∷ k ∷ []) ≡ true
     unfolding at
-    failing-through m e = both (member j l) (fails s (i ∷ j ∷ k ∷ [])) m (failing s i j k e)
+    failing-through m e = both (member j l) (fails s (i ∷ j ∷ k ∷ [])) m (not-of-false (associates s i j k) e)

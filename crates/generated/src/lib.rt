@@ -13,28 +13,17 @@ ghost use Rattle.semigroups.specs.Generated.{Inside, generated};
 ghost use Rattle.semigroups.specs.Light.{badTripleThrough, generatorsRefusal};
 ghost use Rattle.semigroups.specs.Subsemigroups.{partCells};
 ghost use Rattle.tables.specs.Answers.{verdictRefusal, refusalNumbers};
-ghost use Rattle.generated.specs.Found.{indicator, adding, addingAll, productsUpTo, Found};
+ghost use Rattle.tables.specs.Found.{indicator, addingAll, Found};
+ghost use Rattle.generated.specs.Found.{productsUpTo};
 ghost use Rattle.generated.specs.Parts.{markedElements, numbering, ClosedPart};
 ghost use Rattle.generated.specs.Answers.{generatorsFaultRefusal, generatorsVerdictRefusal, subsemigroupFaultRefusal, subsemigroupAnswerSays, subsemigroupSays, partAfter, elementsAfter};
 use tables::Fault;
 use tables::Place;
 use tables::Refusal;
 use tables::Verdict;
+use tables::generators::add;
 
 // ---- what a list generates
-
-// Adds x to the elements found unless it is there; answers how many there are.
-fn add(found: &mut [u8; 120], marks: &mut [u8; 121], count: usize, x: usize) -> usize
-    requires { ⌜ Found (take count (now found)) (now found) (now marks) count ⌝ ∗ ⌜ Element 120 x ⌝ }
-    ensures found { λ r. ⌜ Found (adding (take count (now (found .entry))) x) (now (found .exit)) (now (marks .exit)) r ⌝ }
-{
-    if marks[x] != 0 {
-        return count;
-    }
-    marks[x] = 1;
-    found[count] = x as u8;
-    count + 1
-}
 
 // Adds the products of the element found at `place` with itself and each one before it, from both sides.
 fn multiply(
@@ -144,15 +133,10 @@ fn associative_through(cells: &[u8], n: usize, list: &[u8]) -> Verdict
         let mut j: usize = 1;
         while j <= n {
             if middles[j] != 0 {
-                let ij = tables::times(cells, n, i, j);
-                let mut k: usize = 1;
-                while k <= n {
-                    let jk = tables::times(cells, n, j, k);
-                    if tables::times(cells, n, ij, k) != tables::times(cells, n, i, jk) {
-                        verdict = Verdict::Refused(Fault::Triple(i, j, k));
-                        break 'triples;
-                    }
-                    k += 1;
+                let third = tables::failing_third(cells, n, i, j);
+                if let Place::At(k) = third {
+                    verdict = Verdict::Refused(Fault::Triple(i, j, k));
+                    break 'triples;
                 }
             }
             j += 1;

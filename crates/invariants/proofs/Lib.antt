@@ -1,4 +1,3 @@
-pub mod Lists
 pub mod Counts
 pub mod PerElement
 pub mod Powers

@@ -16,7 +16,7 @@ use Rattle.semigroups.proofs.IndexPeriod.{power-one, power-next, power-element,
 use Rattle.semigroups.proofs.Idempotents.{multiple-between, idempotent-power-at}
 use Rattle.invariants.specs.PerElement.{perElement}
 use Rattle.invariants.specs.Powers.{settling, settled}
-use Rattle.invariants.proofs.Lists.{getD-zeros}
+use Rattle.tables.proofs.Values.{getD-zeros}
 use Rattle.invariants.proofs.PerElement.{per-element-at, fill-start, fill-step}
 
 -- The powers before k were noted, each at its own place, and nothing else was.

@@ -1,4 +1,3 @@
 pub mod Powers
-pub mod Counts
 pub mod PerElement
 pub mod Answers

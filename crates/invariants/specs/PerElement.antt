@@ -1,22 +1,16 @@
--- Arrays with a place for each element of a table of any order (01, "Tables and elements": the order is at most 120), and which marks they hold.
+-- Arrays with a place for each element of a table of any order, and which marks they hold.
 -- Assumes nothing.
 use mathlib.Core.Path.{_≡_}
-use mathlib.Core.List.{List, map, _++_}
-use Prim.Native.Nat.{ℕ, _-_}
-use lib.ListN.{replicate}
-use Rattle.semigroups.specs.Lists.{elements}
+use Prim.Native.Nat.{ℕ}
 use Rattle.semigroups.specs.Tables.{Product}
 use Rattle.semigroups.specs.Invariants as marks
-use Rattle.invariants.specs.declared.IndexPeriods.{IndexPeriods}
+unfoldable pub use Rattle.tables.specs.PerElement.{perElement}
+use Rattle.invariants.specs.declared.IndexPeriodKeys.{IndexPeriodKeys}
 use Rattle.invariants.specs.declared.LineCounts.{LineCounts}
 use Rattle.invariants.specs.declared.ElementCounts.{ElementCounts}
 
--- The values of w at the elements 1 to n, element a's at place a - 1; then zeros: 120 entries in all.
-unfoldable pub perElement : ℕ → (ℕ → ℕ) → List ℕ
-perElement n w = map w (elements n) ++ replicate (120 - n) 0
-
--- The index and the period of every element.
-pub record AllIndexPeriods (n : ℕ) (s : Product) (r : IndexPeriods) : Type 0 where
+-- The keys of every element that are compared, its index and its period; the idempotent power is none.
+pub record AllIndexPeriodKeys (n : ℕ) (s : Product) (r : IndexPeriodKeys) : Type 0 where
   pub index : r .index ≡ perElement n (marks.index n s)
   pub period : r .period ≡ perElement n (marks.period n s)
 

@@ -1,21 +1,22 @@
 // Invariants of the elements of a table (arXiv 1603.06204, sections 3 and 4), which 01 calls their marks: index, period and idempotent power, and the
 // profile.
 // `index_period` and `profile` answer for one element of any cells, order and element, behind the questions about them.
-// `all_index_periods` and `all_counts` answer for every element of cells that fill a table.
+// `all_index_period_keys` and `all_counts` answer for every element of cells that fill a table.
 ghost use mathlib.Core.Path.{_≡_};
-ghost use Prim.Native.Nat.{_≤_};
 ghost use Rattle.semigroups.specs.Tables.{product, Element, Filled, Associative};
 ghost use Rattle.semigroups.specs.Questions.{elementRefusal};
 ghost use Rattle.semigroups.specs.Invariants.{indexPeriod, rowFrequency, columnFrequency, commuting, profile};
 ghost use Rattle.semigroups.specs.Calls.{givenUnless};
 ghost use Rattle.tables.specs.Answers.{refusalNumbers};
 ghost use Rattle.invariants.specs.Answers.{elementFaultRefusal, elementVerdictRefusal, indexPeriodValue, indexPeriodSays, profileValue, profileSays};
-ghost use Rattle.invariants.specs.PerElement.{perElement, AllIndexPeriods, AllLineCounts, AllCounts};
+ghost use Rattle.invariants.specs.PerElement.{AllIndexPeriodKeys, AllLineCounts, AllCounts};
 ghost use Rattle.invariants.specs.Powers.{settled};
-ghost use Rattle.invariants.specs.Counts.{occurrences, InRange};
+ghost use Rattle.tables.specs.Counting.{occurrences, InRange};
 use tables::Fault;
 use tables::Refusal;
 use tables::Verdict;
+use tables::counts::frequencies;
+use tables::counts::tally;
 
 // ---- the questions
 
@@ -108,16 +109,17 @@ pub fn index_period(cells: &[u8], n: usize, a: usize) -> IndexPeriodAnswer
     }
 }
 
-// Element a's index and period stand at place a - 1; places past the last element hold 0.
-pub struct IndexPeriods {
+// The keys by which candidates for embeddings are compared: element a's index and period stand at place a - 1; places past the last element hold 0. The
+// idempotent power is not compared.
+pub struct IndexPeriodKeys {
     pub index: [u16; 120],
     pub period: [u16; 120],
 }
 
-// The index and the period of every element.
-pub fn all_index_periods(cells: &[u8], n: usize) -> IndexPeriods
+// These keys of every element.
+pub fn all_index_period_keys(cells: &[u8], n: usize) -> IndexPeriodKeys
     requires { ⌜ Filled n (now cells) ⌝ }
-    ensures answer { λ r. ⌜ AllIndexPeriods n (product n (now (cells .entry))) r ⌝ }
+    ensures answer { λ r. ⌜ AllIndexPeriodKeys n (product n (now (cells .entry))) r ⌝ }
 {
     let mut index = [0u16; 120];
     let mut period = [0u16; 120];
@@ -128,7 +130,7 @@ pub fn all_index_periods(cells: &[u8], n: usize) -> IndexPeriods
         period[a - 1] = powers.period as u16;
         a += 1;
     }
-    IndexPeriods { index, period }
+    IndexPeriodKeys { index, period }
 }
 
 // ---- counts
@@ -144,21 +146,6 @@ fn count(cells: &[u8], k: usize, step: usize, a: usize) -> usize
         if cells[i * step] as usize == a {
             found += 1;
         }
-        i += 1;
-    }
-    found
-}
-
-// The same for every element in one pass.
-fn tally(cells: &[u8], n: usize, k: usize, step: usize) -> [u16; 120]
-    requires { ⌜ Filled n (now cells) ⌝ ∗ ⌜ InRange k step (now cells) ⌝ ∗ ⌜ k ≤ 14400 ⌝ }
-    ensures answer { λ r. ⌜ r ≡ perElement n (λ a. occurrences a step k (now (cells .entry))) ⌝ }
-{
-    let mut found = [0u16; 120];
-    let mut i: usize = 0;
-    while i < k {
-        let x = cells[i * step] as usize;
-        found[x - 1] += 1;
         i += 1;
     }
     found
@@ -288,7 +275,7 @@ pub fn all_counts(cells: &[u8], n: usize) -> ElementCounts
     let column = lines.column;
     let commuting = lines.commuting;
     ElementCounts {
-        frequency: tally(cells, n, cells.len(), 1),
+        frequency: frequencies(cells, n),
         diagonal: tally(cells, n, n, n + 1),
         row,
         column,

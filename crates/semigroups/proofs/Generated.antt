@@ -7,8 +7,8 @@ use Prim.Native.Nat.{ℕ, zero, suc, _≤_, _<_, zero-le}
 use native.Mathlib.Omega.{arith}
 use lib.ListN.{length}
 use Rattle.semigroups.specs.Lists.{range, elements, member, Sorted, NoRepeats}
-use Rattle.semigroups.specs.Tables.{Product, Element, Closed}
-use Rattle.semigroups.specs.Generated.{Inside, HoldsProducts, Smallest, setOf, products, grown, generated, GeneratedTheorem}
+use Rattle.semigroups.specs.Tables.{Product, Element, Closed, Associative}
+use Rattle.semigroups.specs.Generated.{Inside, HoldsProducts, Smallest, LeftProduct, entry, further, setOf, products, grown, generated, GeneratedTheorem}
 use Rattle.semigroups.proofs.Booleans.{same-truth, at-most-or-above}
 use Rattle.semigroups.proofs.Lists.{length-elements, mem-elements, elements-mem, mem-keep, keep-mem, member-mem, mem-member, mem-or-not, keep-agree, sorted-keep, sorted-range, sorted-weaken}
 use Rattle.semigroups.proofs.FlatMap.{mem-flatMap, flatMap-mem}
@@ -212,6 +212,31 @@ module _ (n : ℕ) (s : Product) (l : List ℕ) where
     (λ e x h. all-elements n (generated n s l) generated-rising generated-inside (omega arith) x h),
     λ h. same-length (generated n s l) (elements n) generated-no-repeats (elements-no-repeats n) (λ x m. elements-mem n x (generated-inside x m)) (λ x m. h x (mem-elements n x m)) ∙ length-elements n,
   )
+
+-- ---- products from left to right
+
+-- A list that holds another has its products.
+pub left-product-more : (s : Product) (l m : List ℕ) → ((y : ℕ) → List·Memᴰ y l → List·Memᴰ y m) → (x : ℕ) → LeftProduct s l x → LeftProduct s m x
+left-product-more s l m to _ (entry x k) = entry x (to x k)
+left-product-more s l m to _ (further x y z p k e) = further x y z (left-product-more s l m to x p) (to y k) e
+
+-- They are generated.
+pub left-product-generated : (n : ℕ) (s : Product) (l : List ℕ) → Closed n s → Inside n l → (x : ℕ) → LeftProduct s l x → List·Memᴰ x (generated n s l)
+left-product-generated n s l closed inside _ (entry x k) = generated-holds n s l closed inside .holds-list x k
+left-product-generated n s l closed inside _ (further x y z p k e) =
+    Memᴰ·cast e (generated-closed n s l closed x y (left-product-generated n s l closed inside x p) (generated-holds n s l closed inside .holds-list y k))
+
+-- Where the product is associative, all that is generated is such a product: x·(u·y) = (x·u)·y.
+pub generated-left-product : (n : ℕ) (s : Product) (l : List ℕ) → Closed n s → Inside n l → Associative n s → (x : ℕ) → List·Memᴰ x (generated n s l) → LeftProduct s l x
+generated-left-product n s l closed inside associative x m =
+    generated-smallest n s l closed inside .inside-others (LeftProduct s l) (record { holds-list = λ y k. entry y k; holds-products = times }) x m
+  where
+    element : (y : ℕ) → LeftProduct s l y → Element n y
+    element y p = generated-inside n s l y (left-product-generated n s l closed inside y p)
+
+    times : (y z : ℕ) → LeftProduct s l y → LeftProduct s l z → LeftProduct s l (s y z)
+    times y _ p (entry z k) = further y z (s y z) p k refl
+    times y _ p (further u v z q k e) = further (s y u) v (s y z) (times y u p q) k (ap₂ s refl e ∙ sym (associative y u v (element y p) (element u q) (inside v k)))
 
 -- There is one smallest set.
 pub smallest-unique : (s : Product) (l : List ℕ) (P Q : ℕ → Type 0) → Smallest s l P → Smallest s l Q → (x : ℕ) → P x ↔ Q x

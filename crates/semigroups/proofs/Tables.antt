@@ -75,8 +75,11 @@ pub product-element : (n : ℕ) (cells : List ℕ) → length cells ≡ n * n �
 unfolding product
 product-element n cells e h i j hi hj = h (cellPlace n i j) (let b = place-below n n i j hi hj in omega arith)
 
+pub filled-closed : (n : ℕ) (cells : List ℕ) → Filled n cells → Closed n (product n cells)
+filled-closed n cells f = product-element n cells (f .size) (f .in-range)
+
 pub accepted-closed : (n : ℕ) (cells : List ℕ) → Accepted n cells → Closed n (product n cells)
-accepted-closed n cells a = product-element n cells (a .filled .size) (a .filled .in-range)
+accepted-closed n cells a = filled-closed n cells (a .filled)
 
 grid-element : (n : ℕ) (s : Product) → Closed n s → (x : ℕ) → List·Memᴰ x (grid n n s) → Element n x
 unfolding grid

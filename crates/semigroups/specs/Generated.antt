@@ -25,6 +25,12 @@ pub record Smallest (s : Product) (l : List ℕ) (P : ℕ → Type 0) : Type 1 w
   pub holds : HoldsProducts s l P
   pub inside-others : (Q : ℕ → Type 0) → HoldsProducts s l Q → (x : ℕ) → P x → Q x
 
+-- x is an entry of the list, or a product of entries taken from left to right, as ((a·b)·c)·d. Where the product is associative these are all that the
+-- list generates.
+pub data LeftProduct (s : Product) (l : List ℕ) : ℕ → Type 0 where
+  entry : (x : ℕ) → List·Memᴰ x l → LeftProduct s l x
+  further : (x y z : ℕ) → LeftProduct s l x → List·Memᴰ y l → z ≡ s x y → LeftProduct s l z
+
 -- ---- lists that compute
 
 -- The elements of a table of order n that stand in the list, each once, in rising order.

@@ -1,1 +1,5 @@
+pub mod Counting
+pub mod PerElement
+pub mod Found
+pub mod Choice
 pub mod Answers

@@ -1,13 +1,18 @@
 // The four questions about a table: an order and cells, of any content. The first "no" is the answer, with the cell or the triple that is said with it.
 ghost use mathlib.Core.Path.{_≡_};
+ghost use mathlib.Core.Bool.{not};
 ghost use mathlib.Core.List.{[], _∷_};
 ghost use mathlib.Core.Option.{Option·map};
 ghost use Prim.Native.Nat.{_*_, _≤_};
 ghost use lib.ListN.{length};
-ghost use Rattle.semigroups.specs.Tables.{Element, Filled, product, turnedCells, badCell, badTriple};
+ghost use Rattle.semigroups.specs.Lists.{elements, find};
+ghost use Rattle.semigroups.specs.Tables.{Element, Filled, product, turnedCells, associates, badCell, badTriple};
 ghost use Rattle.semigroups.specs.Questions.{no, cellsRefusal, tableRefusal, tablesRefusal};
 ghost use Rattle.semigroups.specs.Calls.{overwritten};
 ghost use Rattle.tables.specs.Answers.{faultRefusal, verdictRefusal, sideNumber, placeOption, pairRefusal, refusalNumbers, numbersNaming};
+
+pub mod counts;
+pub mod generators;
 
 // Why a table is refused: questions 1 to 4, with the first cell, counted from 1, or the first triple.
 pub enum Fault {
@@ -137,7 +142,24 @@ pub fn outside(cells: &[u8], n: usize) -> Place
     Place::Nowhere
 }
 
-// Question 4: (i·j)·k = i·(j·k) for every triple.
+// The first k for which (i·j)·k = i·(j·k) does not hold.
+pub fn failing_third(cells: &[u8], n: usize, i: usize, j: usize) -> Place
+    requires { ⌜ Filled n (now cells) ⌝ ∗ ⌜ Element n i ⌝ ∗ ⌜ Element n j ⌝ }
+    ensures answer { λ r. ⌜ placeOption r ≡ find (λ k. not (associates (product n (now (cells .entry))) i j k)) (elements n) ⌝ }
+{
+    let ij = times(cells, n, i, j);
+    let mut k: usize = 1;
+    while k <= n {
+        let jk = times(cells, n, j, k);
+        if times(cells, n, ij, k) != times(cells, n, i, jk) {
+            return Place::At(k);
+        }
+        k += 1;
+    }
+    Place::Nowhere
+}
+
+// The first triple for which (i·j)·k = i·(j·k) does not hold.
 fn associative(cells: &[u8], n: usize) -> Verdict
     requires { ⌜ Filled n (now cells) ⌝ }
     ensures answer { λ r. ⌜ verdictRefusal r ≡ Option·map (λ l. no 4 l) (badTriple n (product n (now (cells .entry)))) ⌝ }
@@ -162,6 +184,17 @@ fn associative(cells: &[u8], n: usize) -> Verdict
         i += 1;
     }
     verdict
+}
+
+// Question 4: (i·j)·k = i·(j·k) for every triple. Where few generators say so, not every triple is looked at.
+fn associativity(cells: &[u8], n: usize) -> Verdict
+    requires { ⌜ Filled n (now cells) ⌝ }
+    ensures answer { λ r. ⌜ verdictRefusal r ≡ Option·map (λ l. no 4 l) (badTriple n (product n (now (cells .entry)))) ⌝ }
+{
+    if generators::accept(cells, n) {
+        return Verdict::Accepted;
+    }
+    associative(cells, n)
 }
 
 // Questions 1 to 3: order, size, cells.
@@ -189,7 +222,7 @@ pub fn check(cells: &[u8], n: usize) -> Verdict
 {
     match check_cells(cells, n) {
         Verdict::Refused(fault) => Verdict::Refused(fault),
-        Verdict::Accepted => associative(cells, n),
+        Verdict::Accepted => associativity(cells, n),
     }
 }
 

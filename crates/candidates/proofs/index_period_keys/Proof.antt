@@ -13,7 +13,7 @@ use Rattle.candidates.proofs.index_period_keys.Statement.{statement}
 use Rattle.candidates.proofs.index_period_keys.Tie as tie
 
 -- The index behind no part, and the period behind the index.
-module _ (c : tie.After-all-index-periods) where
+module _ (c : tie.After-all-index-period-keys) where
   abbrev start : tie.Start
   start = c .before .before
 
@@ -23,16 +23,16 @@ module _ (c : tie.After-all-index-periods) where
   abbrev cells : List ℕ
   cells = now (start .args .cells)
 
-  append-index : Appends n (λ a. 0 * 256 + index n (product n cells) a) 256 256 (replicate 120 0) (c .all-index-periods .result .index)
+  append-index : Appends n (λ a. 0 * 256 + index n (product n cells) a) 256 256 (replicate 120 0) (c .all-index-period-keys .result .index)
   append-index =
-      append-part n (λ a. 0) 1 (replicate 120 0) (no-keys n (start .pre .order .1)) 256 (index n (product n cells)) _ (c .all-index-periods .ensures .index) (index-fits n cells (start .pre)) (omega arith)
+      append-part n (λ a. 0) 1 (replicate 120 0) (no-keys n (start .pre .order .1)) 256 (index n (product n cells)) _ (c .all-index-period-keys .ensures .index) (index-fits n cells (start .pre)) (omega arith)
 
   append-period : (keys : List ℕ) → AllKeys n (λ a. 0 * 256 + index n (product n cells) a) 256 keys
-      → Appends n (λ a. (0 * 256 + index n (product n cells) a) * 256 + period n (product n cells) a) 65536 256 keys (c .all-index-periods .result .period)
-  append-period keys k = append-part n _ 256 keys k 256 (period n (product n cells)) _ (c .all-index-periods .ensures .period) (period-fits n cells (start .pre)) (omega arith)
+      → Appends n (λ a. (0 * 256 + index n (product n cells) a) * 256 + period n (product n cells) a) 65536 256 keys (c .all-index-period-keys .result .period)
+  append-period keys k = append-part n _ 256 keys k 256 (period n (product n cells)) _ (c .all-index-period-keys .ensures .period) (period-fits n cells (start .pre)) (omega arith)
 
-all-index-periods-requires : tie.Need-all-index-periods-requires
-all-index-periods-requires c κs = search needs
+all-index-period-keys-requires : tie.Need-all-index-period-keys-requires
+all-index-period-keys-requires c κs = search needs
 
 append-requires : tie.Need-append-requires
 append-requires c κs = let p = c .before .before .before in (start p .pre .order .1, append-index p .0)
@@ -52,4 +52,4 @@ returns c =
 
 pub index-period-keys-spec : {M : Type 1} → statement M
 index-period-keys-spec =
-    tie.close (tie.spec all-index-periods-requires append-requires append-requires-2 returns)
+    tie.close (tie.spec all-index-period-keys-requires append-requires append-requires-2 returns)

@@ -9,8 +9,9 @@ use lib.ListN.{length, take}
 use Rattle.semigroups.specs.Tables.{product}
 use Rattle.semigroups.proofs.NoRepeats.{place-mem}
 use Rattle.semigroups.proofs.Tables.{product-element}
-use Rattle.generated.specs.Found.{addingAll, Found}
-use Rattle.generated.proofs.Found.{Growing, found-none, found-room, found-again, entry-added, growing-inside, growing-start, growing-next, growing-marks, growing-count}
+use Rattle.tables.specs.Found.{addingAll, Found}
+use Rattle.tables.proofs.Found.{found-none, found-room, found-again, entry-added}
+use Rattle.generated.proofs.Found.{Growing, growing-inside, growing-start, growing-next, growing-marks, growing-count}
 use Rattle.generated.proofs.generate.Statement.{statement}
 use Rattle.generated.proofs.generate.Tie as tie
 
@@ -53,7 +54,7 @@ loop-less c = omega arith
 loop-again : tie.Need-loop-again Inv-loop μ-loop Inv-loop2 μ-loop2
 loop-again c =
     let l = c .before .before .before .before .before in
-    (omega arith, entry-added _ _ _ (c .before .before .before .before .loop-test .taken) refl (l .loop .inv .1) (c .add .ensures))
+    (omega arith, entry-added _ _ _ _ (c .before .before .before .before .loop-test .taken) refl (l .loop .inv .1) (c .add .ensures))
 
 loop2-holds : tie.Need-loop2-holds Inv-loop μ-loop Inv-loop2 μ-loop2
 loop2-holds c =

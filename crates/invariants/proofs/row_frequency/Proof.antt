@@ -4,8 +4,9 @@ use denote.Ref.{now}
 use Prim.Native.Nat.{ℕ, _-_, _*_}
 use mathlib.Core.Path.{sym, ap, _∙_, subst}
 use mathlib.Core.List.{List}
-use Rattle.invariants.specs.Counts.{occurrences, InRange}
-use Rattle.invariants.proofs.Counts.{cells-at-most, row-within, row-in-range, row-counted, part-to-end}
+use Rattle.tables.specs.Counting.{occurrences, InRange}
+use Rattle.tables.proofs.Counting.{cells-at-most}
+use Rattle.invariants.proofs.Counts.{row-within, row-in-range, row-counted, part-to-end}
 use borrow.Author.Needs.{needs}
 use Rattle.invariants.proofs.row_frequency.Statement.{statement}
 use Rattle.invariants.proofs.row_frequency.Tie as tie

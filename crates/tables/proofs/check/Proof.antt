@@ -16,8 +16,8 @@ enum-known-fault c = search needs
 enum-told : tie.Need-enum-told
 enum-told c = search needs
 
-associative-requires : tie.Need-associative-requires
-associative-requires c κs = filled _ _ (sym (c .before .before .check-cells .ensures) ∙ ap verdictRefusal (c .enum-told .given .1))
+associativity-requires : tie.Need-associativity-requires
+associativity-requires c κs = filled _ _ (sym (c .before .before .check-cells .ensures) ∙ ap verdictRefusal (c .enum-told .given .1))
 
 returns : tie.Need-returns
 returns c =
@@ -27,7 +27,7 @@ returns c =
 returns-2 : tie.Need-returns-2
 returns-2 c =
     let v = c .before in
-    c .associative .ensures ∙ sym (cells-pass _ _ (sym (v .before .before .check-cells .ensures) ∙ ap verdictRefusal (v .enum-told .given .1)))
+    c .associativity .ensures ∙ sym (cells-pass _ _ (sym (v .before .before .check-cells .ensures) ∙ ap verdictRefusal (v .enum-told .given .1)))
 
 pub check-spec : {M : Type 1} → statement M
 check-spec =
@@ -36,6 +36,6 @@ check-spec =
     check-cells-requires
     enum-known-fault
     enum-told
-    associative-requires
+    associativity-requires
     returns
     returns-2)

@@ -100,12 +100,12 @@ pub fn generated(points: usize, generators: usize, numbers: &mut Numbers) -> Tab
     }
 }
 
-fn composed(a: &[usize], b: &[usize]) -> Vec<usize> {
+pub fn composed(a: &[usize], b: &[usize]) -> Vec<usize> {
     a.iter().map(|&point| b[point]).collect()
 }
 
 /// What the transformations generate, or the beginning of it where it has more than 120 elements.
-fn closure(first: &[Vec<usize>]) -> Vec<Vec<usize>> {
+pub fn closure(first: &[Vec<usize>]) -> Vec<Vec<usize>> {
     let mut all: Vec<Vec<usize>> = Vec::new();
     let mut waiting = first.to_vec();
     while let Some(f) = waiting.pop() {

@@ -5,6 +5,7 @@
 
 mod families;
 mod plain;
+mod real;
 mod tables;
 
 use families::{
@@ -40,6 +41,7 @@ fn main() {
     time_reversed();
     time_copies();
     time_families();
+    real::time();
 }
 
 /// Times a call by the library and by plain Rust, after a look whether they answer the same, and prints a row; the

@@ -7,12 +7,12 @@ use Prim.Native.Nat.{ℕ, _+_, _-_, _*_, _≤_, _<_}
 use mathlib.Core.Path.{_≡_, refl, ap, _∙_}
 use lib.ListN.{length, getD, set}
 use Rattle.semigroups.specs.Tables.{Element}
-use Rattle.invariants.specs.Counts.{occurrences}
-use Rattle.invariants.specs.PerElement.{perElement}
-use Rattle.invariants.proofs.Counts.{occurs-none, occurs, occurs-not, occurs-at-most}
-use Rattle.invariants.proofs.PerElement.{per-element-at, zero-start, raise}
-use Rattle.invariants.proofs.tally.Statement.{statement}
-use Rattle.invariants.proofs.tally.Tie as tie
+use Rattle.tables.specs.Counting.{occurrences}
+use Rattle.tables.specs.PerElement.{perElement}
+use Rattle.tables.proofs.Counting.{occurs-none, occurs, occurs-not, occurs-at-most}
+use Rattle.tables.proofs.PerElement.{per-element-at, zero-start, raise}
+use Rattle.tables.proofs.counts.tally.Statement.{statement}
+use Rattle.tables.proofs.counts.tally.Tie as tie
 
 abbrev Inv-loop : tie.InvT-loop
 Inv-loop cells n k step found₀ i₀ found i = (i ≤ k) × (found ≡ perElement n (λ a. occurrences a step i cells))

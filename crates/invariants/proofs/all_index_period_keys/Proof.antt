@@ -1,4 +1,4 @@
--- `all_index_periods` meets its contract: the arrays hold the values of the elements before a, then zeros. The measure is how many elements are left.
+-- `all_index_period_keys` meets its contract: the arrays hold the values of the elements before a, then zeros. The measure is how many elements are left.
 -- Assumes nothing.
 use native.Mathlib.Omega.{arith}
 use denote.Ref.{now}
@@ -11,8 +11,8 @@ use Rattle.invariants.proofs.Powers.{index-at-most, period-at-most}
 use Rattle.invariants.specs.PerElement.{perElement}
 use Rattle.invariants.specs.Powers.{settled}
 use Rattle.invariants.proofs.PerElement.{fill-start, fill-step, fill-end}
-use Rattle.invariants.proofs.all_index_periods.Statement.{statement}
-use Rattle.invariants.proofs.all_index_periods.Tie as tie
+use Rattle.invariants.proofs.all_index_period_keys.Statement.{statement}
+use Rattle.invariants.proofs.all_index_period_keys.Tie as tie
 
 abbrev Inv-loop : tie.InvT-loop
 Inv-loop cells n index₀ period₀ a₀ index period a =
@@ -115,8 +115,8 @@ returns c =
       period = fill-end (marks.period (a .n) table) (a .n) (l .a) (l .period) (l .inv .2) (l .inv .0) end;
     }
 
-pub all-index-periods-spec : {M : Type 1} → statement M
-all-index-periods-spec =
+pub all-index-period-keys-spec : {M : Type 1} → statement M
+all-index-period-keys-spec =
     tie.close
     (tie.spec
     Inv-loop

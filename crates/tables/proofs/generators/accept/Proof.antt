@@ -1,0 +1,56 @@
+-- `accept` meets its contract: it answers for the generators chosen. Assumes nothing.
+use mathlib.Core.Path.{_≡_, sym}
+use Prim.Native.Nat.{_≤_}
+use native.Mathlib.Omega.{arith}
+use borrow.Author.Needs.{needs}
+use borrow.Author.Tests.{not-true, not-false}
+use denote.Ref.{now}
+use lib.ListN.{length}
+use lib.Seq.{length-take-le}
+use Rattle.semigroups.specs.Tables.{product}
+use Rattle.tables.proofs.Choice.{chosen-inside, answer-given-up, answer-chosen}
+use borrow.Author.Needs.{needs}
+use Rattle.tables.proofs.generators.accept.Statement.{statement}
+use Rattle.tables.proofs.generators.accept.Tie as tie
+
+-- The list has room for the generators.
+few : (c : tie.After-choose) → c .choose .result .count ≤ length (c .choose .result .list)
+few c =
+    let o = c .before .before .pre .order in
+    let h = c .choose .ensures .few in
+    let e : length (c .choose .result .list) ≡ 30 = search needs in
+    omega arith
+
+choose-requires : tie.Need-choose-requires
+choose-requires c κs = search needs
+
+returns : tie.Need-returns
+returns c =
+    let s = c .before .before .before in
+    answer-given-up _ (product (s .args .n) (now (s .args .cells))) (c .before .choose .ensures) (not-true _ (c .if1 .taken))
+
+array-share-prefix-list : tie.Need-array-share-prefix-list
+array-share-prefix-list c = few (c .before .before)
+
+slice-aggregate-associative-through : tie.Need-slice-aggregate-associative-through
+slice-aggregate-associative-through c = sym (length-take-le _ _ (few (c .before .before .before)))
+
+associative-through-requires : tie.Need-associative-through-requires
+associative-through-requires c κs = (c .before .before .before .before .before .pre, chosen-inside (c .before .before .before .choose .ensures .rarest-first))
+
+returns-2 : tie.Need-returns-2
+returns-2 c =
+    let e = c .before .before .before in
+    let s = e .before .before .before in
+    answer-chosen _ (product (s .args .n) (now (s .args .cells))) (e .before .choose .ensures) (not-false _ (e .if1 .left)) _ (c .associative-through .ensures)
+
+pub accept-spec : {M : Type 1} → statement M
+accept-spec =
+    tie.close
+    (tie.spec
+    choose-requires
+    returns
+    array-share-prefix-list
+    slice-aggregate-associative-through
+    associative-through-requires
+    returns-2)

@@ -1,0 +1,30 @@
+// How often each element of a table stands among its cells.
+ghost use mathlib.Core.Path.{_≡_};
+ghost use Prim.Native.Nat.{_≤_};
+ghost use Rattle.semigroups.specs.Tables.{Filled, product};
+ghost use Rattle.semigroups.specs.Invariants.{frequency};
+ghost use Rattle.tables.specs.Counting.{occurrences, InRange};
+ghost use Rattle.tables.specs.PerElement.{perElement};
+
+// How often each element stands among k cells, the first and then each that is `step` further on: element a's count at place a - 1, then zeros.
+pub fn tally(cells: &[u8], n: usize, k: usize, step: usize) -> [u16; 120]
+    requires { ⌜ Filled n (now cells) ⌝ ∗ ⌜ InRange k step (now cells) ⌝ ∗ ⌜ k ≤ 14400 ⌝ }
+    ensures answer { λ r. ⌜ r ≡ perElement n (λ a. occurrences a step k (now (cells .entry))) ⌝ }
+{
+    let mut found = [0u16; 120];
+    let mut i: usize = 0;
+    while i < k {
+        let x = cells[i * step] as usize;
+        found[x - 1] += 1;
+        i += 1;
+    }
+    found
+}
+
+// How often each element stands in the table: element a's count at place a - 1, then zeros.
+pub fn frequencies(cells: &[u8], n: usize) -> [u16; 120]
+    requires { ⌜ Filled n (now cells) ⌝ }
+    ensures answer { λ r. ⌜ r ≡ perElement n (frequency n (product n (now (cells .entry)))) ⌝ }
+{
+    tally(cells, n, cells.len(), 1)
+}
