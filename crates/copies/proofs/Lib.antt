@@ -8,3 +8,4 @@ pub mod Answering
 pub mod Exchanges
 pub mod Absence
 pub mod Rearranging
+pub mod Onto
