@@ -5,3 +5,7 @@ pub mod Raising
 pub mod Going
 pub mod Fixing
 pub mod Answering
+pub mod Exchanges
+pub mod Absence
+pub mod Rearranging
+pub mod Onto

@@ -10,13 +10,22 @@ use lib.ListN.{length, getD}
 use Rattle.semigroups.specs.Lists.{elements, at, find, firstOf, lists}
 use Rattle.semigroups.specs.Tables.{Product, Element, IsList, isElement, badCell, product}
 use Rattle.semigroups.specs.Questions.{Question, ask, Refusal, no, firstNo, tablesQuestions, tablesRefusal, checkRefusal}
-use Rattle.semigroups.specs.Calls.{refused, gives}
-use Rattle.semigroups.specs.MapCheck.{holds, outside, equalImages, wrongProduct, unless, firstOutside, firstEqual, firstWrong, checkMap}
-use Rattle.semigroups.proofs.Booleans.{not-of-true, not-of-false}
+use Rattle.semigroups.specs.Calls.{Answer, refused, gives}
+use Rattle.semigroups.specs.Maps.{isEmbedding}
+use Rattle.semigroups.specs.MapCheck.{Checked, holds, outside, equalImages, wrongProduct, unless, firstOutside, firstEqual, firstWrong, checkMap}
+use Rattle.semigroups.proofs.Booleans.{not-of-true, not-of-false, untrue}
+use Rattle.semigroups.proofs.Maps.{is-embedding, embedding-is}
+use Rattle.semigroups.proofs.MapCheck.{holds-exactly}
 use Rattle.semigroups.proofs.Questions.{failed-before, passed-before}
 use Rattle.semigroups.proofs.NoRepeats.{mem-place}
 use Rattle.semigroups.proofs.Tables.{cells-in-range}
-use Rattle.maps.specs.Answers.{mapCheck}
+use denote.Enum.Declared.{tagOf}
+use types.Run.{OneOf, miss}
+use native.Mathlib.Omega.{arith}
+use Rattle.maps.specs.declared.MapAnswer.{MapAnswer}
+use Rattle.maps.specs.declared.MapAnswer.the-variants.{Refused, MapLength, Holds, Outside, EqualImages, WrongProduct}
+use Rattle.maps.specs.Answers.{mapCheck, mapAnswerSays}
+use Rattle.maps.proofs.MapAnswer as answers
 
 -- ---- the tests of pairs
 
@@ -114,3 +123,21 @@ module _ (m : ℕ) (source : List ℕ) (n : ℕ) (target f : List ℕ) where
     pub call-checked : length f ≡ m → mapCheck m source n target f ≡ gives (checkMap m (product m source) n (product n target) f)
     unfolding mapCheck firstOf orElse
     call-checked h = rw (map-left, eq-eqb (length f) m h)
+
+-- ---- an embedding or not
+
+module _ (m : ℕ) (s : Product) (n : ℕ) (t : Product) (f : List ℕ) (size : length f ≡ m) where
+  pub held-embeds : gives holds ≡ gives (checkMap m s n t f) → true ≡ isEmbedding m s n t f
+  held-embeds e = sym (embedding-is m s n t f (holds-exactly m s n t f size .0 (let z : checkMap m s n t f ≡ holds = cc in z)))
+
+  -- Where the check says anything but "holds".
+  pub other-fails : (v : MapAnswer) → OneOf (0 ∷ 1 ∷ 3 ∷ 4 ∷ 5 ∷ []) (tagOf answers.the-type v) → mapAnswerSays v ≡ gives (checkMap m s n t f) → false ≡ isEmbedding m s n t f
+  other-fails v h e = sym (untrue (isEmbedding m s n t f) (λ b. not-held v h (e ∙ ap {B = Answer Checked} gives (holds-exactly m s n t f size .1 (is-embedding m s n t f b)))))
+    where
+      not-held : (v : MapAnswer) → OneOf (0 ∷ 1 ∷ 3 ∷ 4 ∷ 5 ∷ []) (tagOf answers.the-type v) → mapAnswerSays v ≡ gives holds → ⊥
+      not-held (Refused side fault) h e = let z : _≡_ {A = ℕ} 0 1 = cc in omega arith
+      not-held MapLength h e = let z : _≡_ {A = ℕ} 0 1 = cc in omega arith
+      not-held Holds h e = absurd (miss (0 ∷ 1 ∷ 3 ∷ 4 ∷ 5 ∷ []) 2 tt h)
+      not-held (Outside i) h e = let z : _≡_ {A = ℕ} 0 1 = cc in omega arith
+      not-held (EqualImages i j) h e = let z : _≡_ {A = ℕ} 0 1 = cc in omega arith
+      not-held (WrongProduct i j) h e = let z : _≡_ {A = ℕ} 0 1 = cc in omega arith

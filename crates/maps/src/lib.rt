@@ -9,6 +9,7 @@ ghost use Prim.Native.Nat.{ℕ, _≤_};
 ghost use lib.ListN.{length, take};
 ghost use Rattle.semigroups.specs.Lists.{at};
 ghost use Rattle.semigroups.specs.Tables.{Product, Element, Filled, IsList, product};
+ghost use Rattle.semigroups.specs.Maps.{isEmbedding};
 ghost use Rattle.semigroups.specs.MapCheck.{firstEqual, firstWrong, checkMap};
 ghost use Rattle.semigroups.specs.Calls.{gives};
 ghost use Rattle.maps.specs.Answers.{mapCheck, mapAnswerSays, pairOption};
@@ -101,7 +102,19 @@ fn examine(source: &[u8], m: usize, target: &[u8], n: usize, map: &[u8]) -> MapA
     }
 }
 
-// Whether the map is an embedding of the source, of order m, in the target, of order n.
+// Whether m bytes are an embedding of one table in another, where cells are elements.
+pub fn embeds(source: &[u8], m: usize, target: &[u8], n: usize, map: &[u8]) -> bool
+    requires { ⌜ Filled m (now source) ⌝ ∗ ⌜ Filled n (now target) ⌝ ∗ ⌜ length (now map) ≡ m ⌝ }
+    ensures answer { λ r. ⌜ r ≡ isEmbedding m (product m (now (source .entry))) n (product n (now (target .entry))) (now (map .entry)) ⌝ }
+{
+    let verdict = examine(source, m, target, n, map);
+    if let MapAnswer::Holds = verdict {
+        return true;
+    }
+    false
+}
+
+// What a call says of a map: the first failed question, or what the check says of it.
 pub fn check(source: &[u8], m: usize, target: &[u8], n: usize, map: &[u8]) -> MapAnswer
     ensures answer { λ r. ⌜ mapAnswerSays r ≡ mapCheck m (now (source .entry)) n (now (target .entry)) (now (map .entry)) ⌝ }
 {

@@ -1,6 +1,6 @@
 -- A placing and a forced product lose no image of an embedding that begins so. The idea: an embedding keeps products, and which of some elements are
 -- equal. Assumes nothing.
-use mathlib.Core.Path.{_≡_, refl, sym, ap, ap₂, _∙_}
+use mathlib.Core.Path.{_≡_, refl, sym, ap, ap₂, _∙_, subst}
 use mathlib.Core.Bool.{Bool, true, false, _&&_, cond, true≢false}
 use mathlib.Core.Logic.{_⊎_, inl, inr}
 use mathlib.Core.List.{List}
@@ -13,12 +13,12 @@ use Rattle.semigroups.specs.Lists.{at}
 use Rattle.semigroups.specs.Tables.{Product, Element, Closed}
 use Rattle.semigroups.specs.Maps.{Embedding}
 use Rattle.semigroups.specs.Search.{Among}
-use Rattle.semigroups.proofs.Booleans.{both, untrue, clash, equal-or-not}
+use Rattle.semigroups.proofs.Booleans.{both, and-left, and-right, untrue, clash, equal-or-not}
 use Rattle.rows.specs.declared.Row.{Row}
-use Rattle.rows.specs.Rows.{bit, inRow, isEmpty, rowOf, has, word, packedRow, masked, Forced}
+use Rattle.rows.specs.Rows.{bit, inRow, isEmpty, rowOf, has, word, packedRow, masked, Shrinks, Forced}
 use Rattle.rows.proofs.Words.{word-same}
-use Rattle.rows.proofs.Rows.{row, row-low, row-high, in-packed-row, none-in-empty, has-masked, other-masked}
-use Rattle.narrowing.specs.Rows.{digit, pattern, narrowed, stays}
+use Rattle.rows.proofs.Rows.{row, row-low, row-high, in-packed-row, none-in-empty, has-masked, other-masked, shrinks-has, forced-has}
+use Rattle.narrowing.specs.Rows.{digit, pattern, narrowed, stays, Narrows}
 
 -- Two tests of equality agree where the equalities do.
 same-equality : (a b c d : ℕ) → (a ≡ b → c ≡ d) → (c ≡ d → a ≡ b) → eqb a b ≡ eqb c d
@@ -73,12 +73,52 @@ module _ (s t : Product) (lo hi : List ℕ) (l x c : ℕ) (looks : ℕ) (is : lo
       word-same (λ y. bit (old .hi) (y - 61) && stays t x looks left right y) (narrowed s t (has lo hi) l x c) 61 k
       (λ j b. ap (λ (w : Bool). w && stays t x looks left right (61 + j)) (row-high old (61 + j) (omega arith)) ∙ same-test (61 + j))
 
+-- ---- rows narrowed one after another: those before c are done
+
+-- What is left after a placing over rows that shrank is left over the rows before.
+narrowed-wider : (m : ℕ) (s t : Product) → Closed m s → m ≤ 120 → (lo₀ hi₀ lo hi : List ℕ) → Shrinks lo₀ hi₀ lo hi → (l x c y : ℕ) → Element m l → Element m c → narrowed s t (has lo hi) l x c y ≡ true → narrowed s t (has lo₀ hi₀) l x c y ≡ true
+unfolding narrowed
+narrowed-wider m s t closed lm lo₀ hi₀ lo hi less l x c y hl hc e =
+    let new : ℕ → ℕ → Bool = has lo hi in
+    let old : ℕ → ℕ → Bool = has lo₀ hi₀ in
+    let alike = eqb (pattern x y (t x y) (t y x)) (pattern l c (s l c) (s c l)) in
+    let right = new (s c l) (t y x) in
+    let left = new (s l c) (t x y) in
+    let lc = closed l c hl hc in
+    let cl = closed c l hc hl in
+    let rest = and-right (new c y) (left && (right && alike)) e in
+    let last = and-right left (right && alike) rest in
+    both (old c y) (old (s l c) (t x y) && (old (s c l) (t y x) && alike)) (shrinks-has lo₀ hi₀ lo hi less c y (omega arith) (and-left (new c y) (left && (right && alike)) e))
+    (both (old (s l c) (t x y)) (old (s c l) (t y x) && alike) (shrinks-has lo₀ hi₀ lo hi less (s l c) (t x y) (omega arith) (and-left left (right && alike) rest))
+    (both (old (s c l) (t y x)) alike (shrinks-has lo₀ hi₀ lo hi less (s c l) (t y x) (omega arith) (and-left right alike last)) (and-right right alike last)))
+
+pub narrows-more : (m : ℕ) (s : Product) (n : ℕ) (t : Product) → Closed m s → m ≤ 120 → (lo₀ hi₀ lo hi : List ℕ) → Shrinks lo₀ hi₀ lo hi → (l x c : ℕ) → Element m l → Element m c → (r : Row) → r ≡ packedRow n (narrowed s t (has lo hi) l x c)
+    → Narrows (c - 1) s n t l x (has lo₀ hi₀) (has lo hi) → Narrows (c + 1 - 1) s n t l x (has lo₀ hi₀) (has (masked lo c (r .lo)) (masked hi c (r .hi)))
+narrows-more m s n t closed lm lo₀ hi₀ lo hi less l x c hl hc r is N d y hd hy = go (equal-or-not d c)
+  where
+    new : ℕ → ℕ → Bool
+    new = has (masked lo c (r .lo)) (masked hi c (r .hi))
+
+    go : (d ≡ c) ⊎ (d ≡ c → ⊥) → new d y ≡ true → narrowed s t (has lo₀ hi₀) l x d y ≡ true
+    go (inl q) e =
+        let here = and-right (has lo hi c y) (inRow r y) (sym (has-masked lo hi c (omega arith) r y) ∙ ap (λ (k : ℕ). new k y) (sym q) ∙ e) in
+        ap (λ (k : ℕ). narrowed s t (has lo₀ hi₀) l x k y) q
+        ∙ narrowed-wider m s t closed lm lo₀ hi₀ lo hi less l x c y hl hc (sym (ap (λ (w : Row). inRow w y) is ∙ in-packed-row n (narrowed s t (has lo hi) l x c) y hy) ∙ here)
+    go (inr ne) e = N d y (omega arith) hy (sym (other-masked lo hi c (omega arith) r y d (omega arith) ne) ∙ e)
+
 -- ---- a forced row
 
-pub forced-kept : (m : ℕ) (s : Product) (n : ℕ) (t : Product) (f : List ℕ) → Embedding m s n t f → m ≤ 120 → n ≤ 120 → (old new : ℕ → ℕ → Bool) (c v : ℕ) → at f c ≡ v → Forced c v old new → Among m old f → Among m new f
-forced-kept m s n t f F lm ln old new c v e forced among d hd =
+cond-of : (a b : Bool) → (a ≡ true → b ≡ true) → cond a b true ≡ true
+cond-of true b h = h refl
+cond-of false b h = refl
+
+pub forced-kept : (m : ℕ) (s : Product) (n : ℕ) (t : Product) (f : List ℕ) → Embedding m s n t f → m ≤ 120 → n ≤ 120 → (lo hi newLo newHi : List ℕ) (c v : ℕ) → Element m c → at f c ≡ v → Forced c v lo hi newLo newHi
+    → Among m (has lo hi) f → Among m (has newLo newHi) f
+forced-kept m s n t f F lm ln lo hi newLo newHi c v hc e forced among d hd =
     let w = F .homomorphism .within d hd in
-    forced d (at f d) (omega arith) (omega arith) (among d hd) (λ q. ap (at f) q ∙ e)
+    let u : Element n v = subst (Element n) e (F .homomorphism .within c hc) in
+    forced-has lo hi newLo newHi c v (omega arith) (omega arith) forced d (at f d) (omega arith) (omega arith)
+    ∙ both (has lo hi d (at f d)) (cond (eqb d c) (eqb (at f d) v) true) (among d hd) (cond-of (eqb d c) (eqb (at f d) v) (λ q. eq-eqb (at f d) v (ap (at f) (eqb-true d c q) ∙ e)))
 
 -- ---- rows that an embedding is among
 
@@ -143,6 +183,6 @@ module _ (m : ℕ) (s : Product) (n : ℕ) (t : Product) (closed : Closed m s) (
 
   -- ---- the product of two elements whose images are placed
 
-  pub pair-kept : m ≤ 120 → n ≤ 120 → (image : List ℕ) (old new : ℕ → ℕ → Bool) (a b : ℕ) → Element m a → Element m b → at f a ≡ at image a → at f b ≡ at image b
-      → Forced (s a b) (t (at image a) (at image b)) old new → Among m old f → Among m new f
-  pair-kept lm ln image old new a b ha hb ea eb = forced-kept m s n t f F lm ln old new (s a b) (t (at image a) (at image b)) (sym (kept a b ha hb) ∙ ap₂ t ea eb)
+  pub pair-kept : m ≤ 120 → n ≤ 120 → (image lo hi newLo newHi : List ℕ) (a b : ℕ) → Element m a → Element m b → at f a ≡ at image a → at f b ≡ at image b
+      → Forced (s a b) (t (at image a) (at image b)) lo hi newLo newHi → Among m (has lo hi) f → Among m (has newLo newHi) f
+  pair-kept lm ln image lo hi newLo newHi a b ha hb ea eb = forced-kept m s n t f F lm ln lo hi newLo newHi (s a b) (t (at image a) (at image b)) (closed a b ha hb) (sym (kept a b ha hb) ∙ ap₂ t ea eb)

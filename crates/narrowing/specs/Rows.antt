@@ -1,6 +1,6 @@
 -- What a placing leaves of the rows, and what rows must not lose. A row says which target elements are left for a source element. Assumes nothing.
 use mathlib.Core.Path.{_≡_}
-use mathlib.Core.Bool.{Bool, _&&_, cond}
+use mathlib.Core.Bool.{Bool, true, _&&_, cond}
 use mathlib.Core.List.{List}
 use Prim.Native.Nat.{ℕ, _+_}
 use lib.Dec.{eqb}
@@ -10,7 +10,7 @@ use Rattle.semigroups.specs.Tables.{Product, Element}
 use Rattle.semigroups.specs.Maps.{Embedding}
 use Rattle.semigroups.specs.Search.{Among}
 use Rattle.rows.specs.declared.Row.{Row}
-use Rattle.rows.specs.Rows.{inRow}
+use Rattle.rows.specs.Rows.{inRow, Only}
 
 -- The weight where the two are equal, else 0.
 unfoldable pub digit : ℕ → ℕ → ℕ → ℕ
@@ -44,6 +44,14 @@ Images n image len = (i : ℕ) → Element len i → Element n (at image i)
 -- No embedding that begins with the images and is among the old rows is lost by the new.
 abbrev pub Keeps : ℕ → Product → ℕ → Product → List ℕ → ℕ → (ℕ → ℕ → Bool) → (ℕ → ℕ → Bool) → Type 0
 Keeps m s n t image len old new = (f : List ℕ) → Embedding m s n t f → Begins f image len → Among m old f → Among m new f
+
+-- The rows of the products of l with the first k elements, on both sides, have at most the products of their images.
+abbrev pub Multiplied : Product → Product → List ℕ → ℕ → ℕ → List ℕ → List ℕ → Type 0
+Multiplied s t image l k lo hi = (i : ℕ) → Element k i → Only lo hi (s i l) (t (at image i) (at image l)) × Only lo hi (s l i) (t (at image l) (at image i))
+
+-- What is left after a placing of x for l passes `narrowed` over the old rows.
+abbrev pub Narrows : ℕ → Product → ℕ → Product → ℕ → ℕ → (ℕ → ℕ → Bool) → (ℕ → ℕ → Bool) → Type 0
+Narrows m s n t l x old new = (c y : ℕ) → Element m c → Element n y → new c y ≡ true → narrowed s t old l x c y ≡ true
 
 -- No image yet.
 abbrev pub Blank : List ℕ → Type 0

@@ -1,18 +1,17 @@
 -- What the contracts of the search by rows say of its state, a partial map with rows. Assumes nothing.
 use mathlib.Core.Path.{_≡_}
-use mathlib.Core.Bool.{Bool, true, _&&_, cond}
+use mathlib.Core.Bool.{Bool, true}
 use mathlib.Core.Option.{Option}
 use mathlib.Core.List.{List}
 use Prim.Native.Nat.{ℕ, _-_, _≤_}
-use lib.Dec.{eqb}
 use lib.ListN.{length, take, drop, replicate}
-use Rattle.semigroups.specs.Lists.{elements, at, all}
+use Rattle.semigroups.specs.Lists.{at}
 use Rattle.semigroups.specs.Tables.{Product, Element}
 use Rattle.semigroups.specs.Scratch.{scratchSize, marked}
 use Rattle.semigroups.specs.Maps.{Embedding}
-use Rattle.semigroups.specs.Search.{earliestBehind, Among}
+use Rattle.semigroups.specs.Search.{passes, earliestBehind, Among, Placed}
 use Rattle.backtrack.specs.State.{bounded}
-use Rattle.rows.specs.Rows.{has}
+use Rattle.rows.specs.Rows.{has, Only}
 use Rattle.narrowing.specs.Rows.{Begins, Images}
 use Rattle.narrowing.specs.declared.Partial.{Partial}
 
@@ -22,18 +21,6 @@ prefix p = take (p .len) (p .image)
 
 abbrev pub rowsIn : Partial → ℕ → ℕ → Bool
 rowsIn p = has (p .lo) (p .hi)
-
-module _ (s t : Product) (f : List ℕ) where
-  -- The pair i, j of a whole map: its product goes where it must, and equal images are those of one element.
-  unfoldable pub pairKeeps : ℕ → ℕ → Bool
-  pairKeeps i j = let product = eqb (at f (s i j)) (t (at f i) (at f j)) in cond (eqb (at f i) (at f j)) (eqb i j) true && product
-
--- All pairs of i.
-unfoldable pub rowKeeps : ℕ → Product → Product → List ℕ → ℕ → Bool
-rowKeeps m s t f i = all (pairKeeps s t f i) (elements m)
-
-unfoldable pub allKeeps : ℕ → Product → Product → List ℕ → Bool
-allKeeps m s t f = all (rowKeeps m s t f) (elements m)
 
 -- What a call is to answer.
 abbrev pub Due : Product → ℕ → Product → ℕ → List ℕ → List ℕ → Bool → Partial → Option (List ℕ)
@@ -46,11 +33,19 @@ pub record Placing (n : ℕ) (image : List ℕ) (len : ℕ) : Type 0 where
   pub padded : drop len image ≡ replicate (120 - len) 0
   pub images : Images n image len
 
+-- What the rows know of the images placed: the row of a placed element has at most its image, and the row of the product of two of the first `paired`
+-- elements at most the product of their images.
+pub record Settled (s t : Product) (image : List ℕ) (len paired : ℕ) (lo hi : List ℕ) : Type 0 where
+  pub own : (i : ℕ) → Element len i → Only lo hi i (at image i)
+  pub products : (i j : ℕ) → Element paired i → Element paired j → Only lo hi (s i j) (t (at image i) (at image j))
+
 -- What holds where the search goes on from a partial map.
 pub record Reached (s : Product) (m : ℕ) (t : Product) (n : ℕ) (scratch after : List ℕ) (tight : Bool) (p : Partial) : Type 0 where
   pub placing : Placing n (p .image) (p .len)
   pub within : p .len ≤ m
   pub marks : (i : ℕ) → Element (p .len) i → marked n scratch i (at (p .image) i) ≡ true
+  pub settled : Settled s t (p .image) (p .len) (p .len) (p .lo) (p .hi)
+  pub passed : p .ok ≡ true → Placed n (prefix p) × (passes s t (prefix p) ≡ true)
   pub covers : (f : List ℕ) → Embedding m s n t f → Among m (marked n scratch) f → Begins f (p .image) (p .len) → (p .ok ≡ true) × Among m (has (p .lo) (p .hi)) f
   pub space : scratchSize m n ≤ length scratch
   pub bound : length after ≡ m

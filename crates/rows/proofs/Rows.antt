@@ -1,25 +1,26 @@
 -- The bits of a row, of a row that is replaced or masked, and of the row of one element. Assumes nothing.
-use mathlib.Core.Path.{_≡_, refl, sym, ap, ap₂, _∙_, subst}
-use mathlib.Core.Bool.{Bool, true, false, _&&_, cond}
+use mathlib.Core.Path.{_≡_, refl, sym, ap, ap₂, _∙_, subst, subst₂}
+use mathlib.Core.Bool.{Bool, true, false, _&&_, cond, and-true}
 use mathlib.Core.Logic.{_⊎_, inl, inr, ⊎-elim}
 use mathlib.Core.List.{List, [], _∷_}
-use Prim.Native.Nat.{ℕ, zero, suc, _+_, _-_, _*_, _/_, _%_, _^_, _≤_, _<_, min}
-use native.Mathlib.Nat.{zero-div}
+use Prim.Native.Nat.{ℕ, zero, suc, _+_, _-_, _*_, _%_, _^_, _≤_, _<_, min}
+use native.Mathlib.Nat.{zero-div, one-mul}
 use native.Mathlib.Omega.{arith}
-use borrow.Author.Tests.{le-leb, lt-leb, eqb-true}
-use lib.Bits.{bitAnd, and-zero-l}
+use borrow.Author.Tests.{le-leb, lt-leb, eqb-true, eq-eqb, ne-eqb}
+use lib.Bits.{bitAnd, and-zero-l, and-zero-r, and-self}
+use lib.Count.{ones}
 use lib.Dec.{eqb, leb}
 use lib.ListN.{getD, set}
-use lib.Pow.{shl-exact, shl-shr}
+use lib.Pow.{shl-exact}
 use lib.Seq.{getD-set-other}
 use Rattle.semigroups.specs.Lists.{at}
 use Rattle.semigroups.specs.Tables.{Element}
 use Rattle.semigroups.specs.Scratch.{marked}
-use Rattle.semigroups.proofs.Booleans.{both, and-left, and-right, at-most-or-above, equal-or-not}
+use Rattle.semigroups.proofs.Booleans.{and-left, and-right, at-most-or-above, equal-or-not}
 use Rattle.rows.specs.declared.Row.{Row}
-use Rattle.rows.specs.Rows.{bit, inRow, isEmpty, rowOf, has, packedRow, masked, Forced}
-use Rattle.rows.proofs.Words.{bit-of-word}
-use Rattle.rows.proofs.Masks.{and-bit}
+use Rattle.rows.specs.Rows.{bit, inRow, isEmpty, rowOf, has, packedRow, masked, singleRow, Inside, Only, Shrinks, Forced, Marked}
+use Rattle.rows.proofs.Words.{bit-of-word, bit-past, single-word, other-word}
+use Rattle.rows.proofs.Masks.{and-bit, inside-inside, inside-mask, inside-old, inside-bit, ones-zero, ones-power}
 
 abbrev pub row : ℕ → ℕ → Row
 row a b = record { lo = a; hi = b }
@@ -44,6 +45,20 @@ in-packed-row n p y hy =
     (λ (h : 60 < y). sym (row-high (packedRow n p) y h) ∙ bit-of-word p 61 (n - 60) (y - 61) (omega arith) ∙ ap p (let z : 61 + (y - 61) ≡ y = omega arith in z))
     (at-most-or-above y 60)
 
+-- It holds nothing behind.
+pub all-packed-row : (n : ℕ) (p : ℕ → Bool) (y : ℕ) → Element 120 y → inRow (packedRow n p) y ≡ (leb y n && p y)
+unfolding packedRow
+all-packed-row n p y hy =
+    ⊎-elim
+    (λ (h : y ≤ n). in-packed-row n p y (hy .0, h) ∙ sym (ap (λ (b : Bool). b && p y) (le-leb y n h)))
+    (λ (h : n < y).
+    ⊎-elim
+    (λ (l : y ≤ 60). sym (row-low (packedRow n p) y l) ∙ bit-past p 1 (min n 60) (y - 1) (omega arith))
+    (λ (l : 60 < y). sym (row-high (packedRow n p) y l) ∙ bit-past p 61 (n - 60) (y - 61) (omega arith))
+    (at-most-or-above y 60)
+    ∙ sym (ap (λ (b : Bool). b && p y) (lt-leb y n h)))
+    (at-most-or-above y n)
+
 -- An empty row has no element.
 pub none-in-empty : (row : Row) (y : ℕ) → isEmpty row ≡ true → inRow row y ≡ false
 unfolding isEmpty inRow bit
@@ -58,15 +73,63 @@ none-in-empty row y h =
 
 -- ---- the row of one element
 
-one-bit : (k : ℕ) → k < 63 → bit (1 * 2 ^ k % 2 ^ 64) k ≡ true
-unfolding bit
-one-bit k h = ap (λ (x : ℕ). eqb (x / 2 ^ k % 2) 1) (shl-exact 1 k 64 (omega arith) (omega arith)) ∙ ap (λ (x : ℕ). eqb (x % 2) 1) (shl-shr 1 k)
+one-shifted : (k : ℕ) → k < 63 → 1 * 2 ^ k % 2 ^ 64 ≡ 2 ^ k
+one-shifted k h = shl-exact 1 k 64 (omega arith) (omega arith) ∙ one-mul (2 ^ k)
 
-pub single-low : (w v : ℕ) → Element 60 v → inRow (row (1 * 2 ^ (v - 1) % 2 ^ 64) w) v ≡ true
-single-low w v h = sym (row-low (row (1 * 2 ^ (v - 1) % 2 ^ 64) w) v (h .1)) ∙ one-bit (v - 1) (omega arith)
+module _ (v : ℕ) (hv : Element 120 v) where
+  low-words : v ≤ 60 → (singleRow v .lo ≡ 2 ^ (v - 1)) × (singleRow v .hi ≡ 0)
+  unfolding singleRow packedRow
+  low-words h = (single-word v 1 60 (v - 1) (omega arith) (omega arith), other-word v 61 60 (λ j l q. let z : ⊥ = omega arith in z))
 
-pub single-high : (w v : ℕ) → 60 < v → v ≤ 120 → inRow (row w (1 * 2 ^ (v - 61) % 2 ^ 64)) v ≡ true
-single-high w v h k = sym (row-high (row w (1 * 2 ^ (v - 61) % 2 ^ 64)) v h) ∙ one-bit (v - 61) (omega arith)
+  high-words : 60 < v → (singleRow v .lo ≡ 0) × (singleRow v .hi ≡ 2 ^ (v - 61))
+  unfolding singleRow packedRow
+  high-words h = (other-word v 1 60 (λ j l q. let z : ⊥ = omega arith in z), single-word v 61 60 (v - 61) (omega arith) (omega arith))
+
+  pub single-low : v ≤ 60 → row (1 * 2 ^ (v - 1) % 2 ^ 64) 0 ≡ singleRow v
+  single-low h = let w = low-words h in ap₂ row (one-shifted (v - 1) (omega arith) ∙ sym (w .0)) (sym (w .1))
+
+  pub single-high : 60 < v → row 0 (1 * 2 ^ (v - 61) % 2 ^ 64) ≡ singleRow v
+  single-high h = let w = high-words h in ap₂ row (sym (w .0)) (one-shifted (v - 61) (omega arith) ∙ sym (w .1))
+
+  -- It has one bit.
+  pub single-size : ones (singleRow v .lo) + ones (singleRow v .hi) ≡ 1
+  single-size =
+      ⊎-elim
+      (λ (h : v ≤ 60). let w = low-words h in ap₂ _+_ (ap ones (w .0) ∙ ones-power (v - 1)) (ap ones (w .1) ∙ ones-zero))
+      (λ (h : 60 < v). let w = high-words h in ap₂ _+_ (ap ones (w .0) ∙ ones-zero) (ap ones (w .1) ∙ ones-power (v - 61)))
+      (at-most-or-above v 60)
+
+  -- A row inside it that has a bit is the same row.
+  pub inside-single : (r : Row) → Inside r (singleRow v) → 1 ≤ ones (r .lo) + ones (r .hi) → r ≡ singleRow v
+  inside-single r i h = ⊎-elim low high (at-most-or-above v 60)
+    where
+      nothing : (w : ℕ) → bitAnd w 0 ≡ w → w ≡ 0
+      nothing w e = sym e ∙ and-zero-r w
+
+      no-bits : r .lo ≡ 0 → r .hi ≡ 0 → ⊥
+      no-bits e f = let a = ap ones e ∙ ones-zero in let b = ap ones f ∙ ones-zero in omega arith
+
+      low : v ≤ 60 → r ≡ singleRow v
+      low l =
+          let w = low-words l in
+          let f : r .hi ≡ 0 = nothing (r .hi) (subst (λ (x : ℕ). bitAnd (r .hi) x ≡ r .hi) (w .1) (i .1)) in
+          ⊎-elim (λ (e : r .lo ≡ 0). absurd (no-bits e f)) (λ (e : r .lo ≡ 2 ^ (v - 1)). ap₂ row (e ∙ sym (w .0)) (f ∙ sym (w .1)))
+          (inside-bit (v - 1) (r .lo) (subst (λ (x : ℕ). bitAnd (r .lo) x ≡ r .lo) (w .0) (i .0)))
+
+      high : 60 < v → r ≡ singleRow v
+      high l =
+          let w = high-words l in
+          let f : r .lo ≡ 0 = nothing (r .lo) (subst (λ (x : ℕ). bitAnd (r .lo) x ≡ r .lo) (w .0) (i .0)) in
+          ⊎-elim (λ (e : r .hi ≡ 0). absurd (no-bits f e)) (λ (e : r .hi ≡ 2 ^ (v - 61)). ap₂ row (f ∙ sym (w .0)) (e ∙ sym (w .1)))
+          (inside-bit (v - 61) (r .hi) (subst (λ (x : ℕ). bitAnd (r .hi) x ≡ r .hi) (w .1) (i .1)))
+
+  -- Its element.
+  pub in-single : (y : ℕ) → Element 120 y → inRow (singleRow v) y ≡ eqb y v
+  unfolding singleRow
+  in-single y hy = in-packed-row 120 (λ z. eqb z v) y hy
+
+pub single-unique : (v w : ℕ) → Element 120 v → Element 120 w → singleRow v ≡ singleRow w → v ≡ w
+single-unique v w hv hw e = eqb-true v w (sym (in-single w hw v hv) ∙ ap (λ (r : Row). inRow r v) (sym e) ∙ in-single v hv v hv ∙ eq-eqb v v refl)
 
 -- ---- a row masked
 
@@ -93,24 +156,78 @@ module _ (lo hi : List ℕ) (c : ℕ) (hc : Element 120 c) (r : Row) (y : ℕ) w
       let apart : d - 1 ≡ c - 1 → ⊥ = (λ q. ne (omega arith)) in
       ap₂ (λ (u v : ℕ). inRow (row u v) y) (getD-set-other lo (c - 1) (d - 1) (bitAnd (getD lo (c - 1) 0) (r .lo)) 0 apart) (getD-set-other hi (c - 1) (d - 1) (bitAnd (getD hi (c - 1) 0) (r .hi)) 0 apart)
 
--- A row masked by one that has v.
-pub masked-forced : (lo hi : List ℕ) (c v : ℕ) → Element 120 c → (r : Row) → inRow r v ≡ true → Forced c v (has lo hi) (has (masked lo c (r .lo)) (masked hi c (r .hi)))
-masked-forced lo hi c v hc r e d y hd hy h k = go (equal-or-not d c)
+-- What is left where row c is masked by the row of v: of row c v alone, of the others what was.
+pub forced-has : (lo hi newLo newHi : List ℕ) (c v : ℕ) → Element 120 c → Element 120 v → Forced c v lo hi newLo newHi
+    → (d y : ℕ) → Element 120 d → Element 120 y → has newLo newHi d y ≡ (has lo hi d y && cond (eqb d c) (eqb y v) true)
+forced-has lo hi newLo newHi c v hc hv F d y hd hy = ap₂ (λ (l h : List ℕ). has l h d y) (F .0) (F .1) ∙ go (equal-or-not d c)
   where
     new : ℕ → ℕ → Bool
-    new = has (masked lo c (r .lo)) (masked hi c (r .hi))
+    new = has (masked lo c (singleRow v .lo)) (masked hi c (singleRow v .hi))
 
-    go : (d ≡ c) ⊎ (d ≡ c → ⊥) → new d y ≡ true
+    go : (d ≡ c) ⊎ (d ≡ c → ⊥) → new d y ≡ (has lo hi d y && cond (eqb d c) (eqb y v) true)
     go (inl q) =
-        subst (λ (b : ℕ). new b y ≡ true) (sym q)
-        (has-masked lo hi c hc r y ∙ both (has lo hi c y) (inRow r y) (subst (λ (b : ℕ). has lo hi b y ≡ true) q h) (ap (inRow r) (k q) ∙ e))
-    go (inr ne) = other-masked lo hi c hc r y d hd ne ∙ h
+        ap (λ (k : ℕ). new k y) q ∙ has-masked lo hi c hc (singleRow v) y
+        ∙ ap₂ _&&_ (ap (λ (k : ℕ). has lo hi k y) (sym q)) (in-single v hv y hy ∙ sym (ap (λ (b : Bool). cond b (eqb y v) true) (eq-eqb d c q)))
+    go (inr ne) = other-masked lo hi c hc (singleRow v) y d hd ne ∙ sym (ap (λ (b : Bool). has lo hi d y && cond b (eqb y v) true) (ne-eqb d c ne) ∙ and-true (has lo hi d y))
+
+-- ---- rows inside rows
+
+pub inside-trans : (a b c : Row) → Inside a b → Inside b c → Inside a c
+inside-trans a b c i j = (inside-inside (a .lo) (b .lo) (c .lo) (i .0) (j .0), inside-inside (a .hi) (b .hi) (c .hi) (i .1) (j .1))
+
+pub shrinks-none : (lo hi : List ℕ) → Shrinks lo hi lo hi
+shrinks-none lo hi c hc = (and-self (at lo c), and-self (at hi c))
+
+module _ (lo hi : List ℕ) (c : ℕ) (hc : Element 120 c) (r : Row) where
+  entry : (l : List ℕ) (w : ℕ) → at (masked l c w) c ≡ bitAnd (at l c) w
+  unfolding at masked
+  entry l w = masked-at l (c - 1) w
+
+  other : (l : List ℕ) (w d : ℕ) → Element 120 d → (d ≡ c → ⊥) → at (masked l c w) d ≡ at l d
+  unfolding at masked
+  other l w d hd ne = getD-set-other l (c - 1) (d - 1) (bitAnd (getD l (c - 1) 0) w) 0 (λ q. ne (omega arith))
+
+  pub masked-inside : Inside (rowOf (masked lo c (r .lo)) (masked hi c (r .hi)) c) r
+  masked-inside = (ap (λ (x : ℕ). bitAnd x (r .lo)) (entry lo (r .lo)) ∙ inside-mask (at lo c) (r .lo) ∙ sym (entry lo (r .lo)), ap (λ (x : ℕ). bitAnd x (r .hi)) (entry hi (r .hi)) ∙ inside-mask (at hi c) (r .hi) ∙ sym (entry hi (r .hi)))
+
+  word-shrinks : (l : List ℕ) (w d : ℕ) → Element 120 d → bitAnd (at (masked l c w) d) (at l d) ≡ at (masked l c w) d
+  word-shrinks l w d hd = go (equal-or-not d c)
+    where
+      go : (d ≡ c) ⊎ (d ≡ c → ⊥) → bitAnd (at (masked l c w) d) (at l d) ≡ at (masked l c w) d
+      go (inl q) = subst (λ (k : ℕ). bitAnd (at (masked l c w) k) (at l k) ≡ at (masked l c w) k) (sym q) (ap (λ (x : ℕ). bitAnd x (at l c)) (entry l w) ∙ inside-old (at l c) w ∙ sym (entry l w))
+      go (inr ne) = ap (λ (x : ℕ). bitAnd x (at l d)) (other l w d hd ne) ∙ and-self (at l d) ∙ sym (other l w d hd ne)
+
+  pub masked-shrinks : Shrinks lo hi (masked lo c (r .lo)) (masked hi c (r .hi))
+  masked-shrinks d hd = (word-shrinks lo (r .lo) d hd, word-shrinks hi (r .hi) d hd)
+
+module _ (lo hi newLo newHi : List ℕ) where
+  pub shrinks-more : (lo₀ hi₀ : List ℕ) → Shrinks lo₀ hi₀ lo hi → Shrinks lo hi newLo newHi → Shrinks lo₀ hi₀ newLo newHi
+  shrinks-more lo₀ hi₀ a b c hc = inside-trans (rowOf newLo newHi c) (rowOf lo hi c) (rowOf lo₀ hi₀ c) (b c hc) (a c hc)
+
+  -- What is left was left.
+  pub shrinks-has : Shrinks lo hi newLo newHi → (c y : ℕ) → Element 120 c → has newLo newHi c y ≡ true → has lo hi c y ≡ true
+  unfolding has
+  shrinks-has a c y hc e =
+      let i = a c hc in
+      let new = rowOf newLo newHi c in
+      let old = rowOf lo hi c in
+      and-right (inRow new y) (inRow old y) (sym (in-masked new old y) ∙ ap₂ (λ (u v : ℕ). inRow (row u v) y) (i .0) (i .1) ∙ e)
+
+  pub only-still : Shrinks lo hi newLo newHi → (c v : ℕ) → Element 120 c → Only lo hi c v → Only newLo newHi c v
+  only-still a c v hc o = inside-trans (rowOf newLo newHi c) (rowOf lo hi c) (singleRow v) (a c hc) o
+
+  module _ (c v : ℕ) (hc : Element 120 c) (F : Forced c v lo hi newLo newHi) where
+    pub forced-only : Only newLo newHi c v
+    forced-only = subst₂ (λ (l h : List ℕ). Only l h c v) (sym (F .0)) (sym (F .1)) (masked-inside lo hi c hc (singleRow v))
+
+    pub forced-shrinks : Shrinks lo hi newLo newHi
+    forced-shrinks = subst₂ (λ (l h : List ℕ). Shrinks lo hi l h) (sym (F .0)) (sym (F .1)) (masked-shrinks lo hi c hc (singleRow v))
 
 -- ---- rows masked one after another: those before c are done
 
 pub record Masking (n : ℕ) (scratch : List ℕ) (old new : ℕ → ℕ → Bool) (c : ℕ) : Type 0 where
-  pub done : (d y : ℕ) → 1 ≤ d → d < c → Element n y → new d y ≡ (old d y && marked n scratch d y)
-  pub ahead : (d y : ℕ) → c ≤ d → d ≤ 120 → Element n y → new d y ≡ old d y
+  pub done : (d y : ℕ) → 1 ≤ d → d < c → Element 120 y → new d y ≡ (old d y && (leb y n && marked n scratch d y))
+  pub ahead : (d y : ℕ) → c ≤ d → d ≤ 120 → Element 120 y → new d y ≡ old d y
 
 pub masking-start : (n : ℕ) (scratch : List ℕ) (old : ℕ → ℕ → Bool) → Masking n scratch old old 1
 masking-start n scratch old = record { done = λ d y a b hy. absurd (let z : ⊥ = omega arith in z); ahead = λ d y a b hy. refl }
@@ -126,8 +243,22 @@ masking-step n scratch old lo hi c hc M r e =
     new : ℕ → ℕ → Bool
     new = has (masked lo c (r .lo)) (masked hi c (r .hi))
 
-    go : (d y : ℕ) → 1 ≤ d → d < c + 1 → Element n y → (d ≡ c) ⊎ (d ≡ c → ⊥) → new d y ≡ (old d y && marked n scratch d y)
+    go : (d y : ℕ) → 1 ≤ d → d < c + 1 → Element 120 y → (d ≡ c) ⊎ (d ≡ c → ⊥) → new d y ≡ (old d y && (leb y n && marked n scratch d y))
     go d y a b hy (inl q) =
-        subst (λ (k : ℕ). new k y ≡ (old k y && marked n scratch k y)) (sym q)
-        (has-masked lo hi c hc r y ∙ ap₂ _&&_ (M .ahead c y (omega arith) (hc .1) hy) (ap (λ (w : Row). inRow w y) e ∙ in-packed-row n (marked n scratch c) y hy))
+        subst (λ (k : ℕ). new k y ≡ (old k y && (leb y n && marked n scratch k y))) (sym q)
+        (has-masked lo hi c hc r y ∙ ap₂ _&&_ (M .ahead c y (omega arith) (hc .1) hy) (ap (λ (w : Row). inRow w y) e ∙ all-packed-row n (marked n scratch c) y hy))
     go d y a b hy (inr ne) = other-masked lo hi c hc r y d (omega arith) ne ∙ M .done d y a (omega arith) hy
+
+pub masking-end : (m n : ℕ) (scratch : List ℕ) (old new : ℕ → ℕ → Bool) (c : ℕ) → c ≡ m + 1 → Masking n scratch old new c → Marked m n scratch old new
+masking-end m n scratch old new c e M d y hd hy = ⊎-elim below above (at-most-or-above d m)
+  where
+    below : d ≤ m → new d y ≡ (old d y && cond (leb d m) (leb y n && marked n scratch d y) true)
+    below h = M .done d y (hd .0) (omega arith) hy ∙ sym (ap (λ (b : Bool). old d y && cond b (leb y n && marked n scratch d y) true) (le-leb d m h))
+
+    above : m < d → new d y ≡ (old d y && cond (leb d m) (leb y n && marked n scratch d y) true)
+    above h = M .ahead d y (omega arith) (hd .1) hy ∙ sym (ap (λ (b : Bool). old d y && cond b (leb y n && marked n scratch d y) true) (lt-leb d m h) ∙ and-true (old d y))
+
+-- What is left of the first m rows and of n elements.
+pub marked-within : (m n : ℕ) (scratch : List ℕ) (old new : ℕ → ℕ → Bool) → Marked m n scratch old new → m ≤ 120 → n ≤ 120 → (c y : ℕ) → Element m c → Element n y → new c y ≡ (old c y && marked n scratch c y)
+marked-within m n scratch old new M lm ln c y hc hy =
+    M c y (omega arith) (omega arith) ∙ ap₂ (λ (a b : Bool). old c y && cond a (b && marked n scratch c y) true) (le-leb c m (hc .1)) (le-leb y n (hy .1))

@@ -45,12 +45,28 @@ packedRow n p = record { lo = word p 1 (min n 60); hi = word p 61 (n - 60) }
 unfoldable pub masked : List ℕ → ℕ → ℕ → List ℕ
 masked words c w = set words (c - 1) (bitAnd (at words c) w)
 
+-- The row of v alone.
+unfoldable pub singleRow : ℕ → Row
+singleRow v = packedRow 120 (λ y. eqb y v)
+
 -- ---- plain statements
 
--- Nothing is left for c but v; no other pair is lost.
-abbrev pub Forced : ℕ → ℕ → (ℕ → ℕ → Bool) → (ℕ → ℕ → Bool) → Type 0
-Forced c v old new = (d y : ℕ) → Element 120 d → Element 120 y → old d y ≡ true → (d ≡ c → y ≡ v) → new d y ≡ true
+-- Every bit of row a is one of row b.
+abbrev pub Inside : Row → Row → Type 0
+Inside a b = (bitAnd (a .lo) (b .lo) ≡ a .lo) × (bitAnd (a .hi) (b .hi) ≡ a .hi)
 
--- What is left is what was left and is marked.
+-- Row c has at most v.
+abbrev pub Only : List ℕ → List ℕ → ℕ → ℕ → Type 0
+Only lo hi c v = Inside (rowOf lo hi c) (singleRow v)
+
+-- No row has gained a bit.
+abbrev pub Shrinks : List ℕ → List ℕ → List ℕ → List ℕ → Type 0
+Shrinks lo hi newLo newHi = (c : ℕ) → Element 120 c → Inside (rowOf newLo newHi c) (rowOf lo hi c)
+
+-- Row c is masked by the row of v alone, and no other word has changed.
+abbrev pub Forced : ℕ → ℕ → List ℕ → List ℕ → List ℕ → List ℕ → Type 0
+Forced c v lo hi newLo newHi = (newLo ≡ masked lo c (singleRow v .lo)) × (newHi ≡ masked hi c (singleRow v .hi))
+
+-- In each of the first m rows the elements that were there, are at most n and are marked; the rows above m as they were.
 abbrev pub Marked : ℕ → ℕ → List ℕ → (ℕ → ℕ → Bool) → (ℕ → ℕ → Bool) → Type 0
-Marked m n scratch old new = (c y : ℕ) → Element m c → Element n y → new c y ≡ (old c y && marked n scratch c y)
+Marked m n scratch old new = (c y : ℕ) → Element 120 c → Element 120 y → new c y ≡ (old c y && cond (leb c m) (leb y n && marked n scratch c y) true)

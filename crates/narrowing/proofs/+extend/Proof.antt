@@ -12,12 +12,11 @@ use Rattle.semigroups.proofs.Tables.{product-element}
 use Rattle.backtrack.specs.declared.Found.{Found}
 use Rattle.backtrack.proofs.Steps.{lowest}
 use Rattle.narrowing.specs.State.{Due}
-use Rattle.narrowing.proofs.Extending.{Rest, Turn, Verdict, dead, done-bound, done-none, done-found, begins, ends, row-marked, shut, onward, fail, found}
+use Rattle.narrowing.proofs.Extending.{Rest, Turn, Verdict, dead, done-bound, done-found, begins, ends, row-marked, shut, onward, fail, found}
 use Rattle.narrowing.proofs.extend.Reads as extend
 use Rattle.narrowing.proofs.extend.Kinds as extend-kinds
 use Rattle.narrowing.proofs.+extend.Lts-extend as extend-lts
 use Rattle.narrowing.proofs.Partial.tried.Reads as tried-reads
-use Rattle.narrowing.proofs.all_keeps.Reads as all-keeps-reads
 use Rattle.narrowing.proofs.nothing.Reads as nothing-reads
 use Rattle.narrowing.proofs.open.Reads as open-reads
 use Rattle.narrowing.proofs.+extend.{statement}
@@ -42,7 +41,7 @@ extend-μ-loop source m target n scratch after tight p alive at low x₀ x = n +
 -- What the calls ask and tell.
 abbrev calls : ℕ → extend-lts.Claims
 calls t =
-    (nothing-reads.Asked, nothing-reads.Learnt, all-keeps-reads.Asked, all-keeps-reads.Learnt, open-reads.Asked, open-reads.Learnt, tried-reads.Asked, tried-reads.Learnt, extend-below t, extend.Post)
+    (nothing-reads.Asked, nothing-reads.Learnt, open-reads.Asked, open-reads.Learnt, tried-reads.Asked, tried-reads.Learnt, extend-below t, extend.Post)
 
 abbrev Start : ℕ → Type 0
 Start t = extend-lts.Start (calls t) (extend-at t) extend.Post extend-Inv-loop extend-μ-loop
@@ -58,7 +57,7 @@ closed t z = let source = z .pre .1 .0 .0 in product-element (z .args .m) (z .ar
 
 -- The turn, once `open` has answered.
 turn : (t : ℕ) (k : Opened t) → let a = start t k .args in
-    Turn (product (a .m) (a .source .now)) (a .m) (product (a .n) (a .target .now)) (a .n) (a .scratch .now) (a .after .now) (a .tight) (a .t8) (k .before .before .before .before .before .before .if5 .low) (k .before .before .before .before .before .loop .x) (k .«open» .result)
+    Turn (product (a .m) (a .source .now)) (a .m) (product (a .n) (a .target .now)) (a .n) (a .scratch .now) (a .after .now) (a .tight) (a .t8) (k .before .before .before .before .before .before .if4 .low) (k .before .before .before .before .before .loop .x) (k .«open» .result)
 turn t k =
     let z = start t k in
     let test = k .before .before .before .before .loop-test .taken in
@@ -77,7 +76,7 @@ Tried t = extend-lts.After-tried (calls t) (extend-at t) extend.Post extend-Inv-
 -- What is told of x, once it is tried.
 told : (t : ℕ) (k : Tried t) → let a = start t (k .before .before) .args in
     Verdict (product (a .m) (a .source .now)) (a .m) (product (a .n) (a .target .now)) (a .n) (a .t8) (k .before .before .before .before .before .before .before .loop .x) (k .tried .result)
-told t k = let e = k .tried .ensures in record { keeps = e .0; longer = e .1 .0; one-more = e .1 .1 }
+told t k = let e = k .tried .ensures in record { keeps = e .0; longer = e .1 .0 .0; one-more = e .1 .0 .1; settled = e .1 .1 .0; sound = e .1 .1 .1 .0 }
 
 extend-nothing-requires : (t : ℕ) → extend-lts.Need-nothing-requires (calls t) (extend-at t) extend.Post extend-Inv-loop extend-μ-loop
 extend-nothing-requires t c κs = search needs
@@ -97,31 +96,11 @@ extend-returns-2 t c =
     let a = z .args in
     c .nothing2 .ensures ∙ done-bound (product (a .m) (a .source .now)) (a .m) (product (a .n) (a .target .now)) (a .n) (a .scratch .now) (a .after .now) (a .tight) (a .t8) (z .pre .1 .1) (c .before .before .if2 .taken) (c .before .if3 .taken)
 
-extend-all-keeps-requires : (t : ℕ) → extend-lts.Need-all-keeps-requires (calls t) (extend-at t) extend.Post extend-Inv-loop extend-μ-loop
-extend-all-keeps-requires t c κs =
-    let z = c .before .before .before .before .before .before .before .before .before in
-    let h = c .before .before .before .if2 .taken in
-    (z .pre .1 .0, λ i hi. z .pre .1 .1 .placing .images i (omega arith))
-
-extend-nothing-requires-3 : (t : ℕ) → extend-lts.Need-nothing-requires-3 (calls t) (extend-at t) extend.Post extend-Inv-loop extend-μ-loop
-extend-nothing-requires-3 t c κs = search needs
-
 extend-returns-3 : (t : ℕ) → extend-lts.Need-returns-3 (calls t) (extend-at t) extend.Post extend-Inv-loop extend-μ-loop
 extend-returns-3 t c =
-    let z = c .before .before .before .before .before .before .before .before .before .before .before .before in
+    let z = c .before .before .before .before .before .before .before .before in
     let a = z .args in
-    let w = c .before .before .all-keeps in
-    c .nothing3 .ensures
-    ∙ done-none (product (a .m) (a .source .now)) (a .m) (product (a .n) (a .target .now)) (a .n) (a .scratch .now) (a .after .now) (a .tight) (a .t8) (z .pre .1 .1) (c .before .before .before .before .before .before .if2 .taken) (closed t z) (c .before .before .before .before .before .if3 .left)
-    (sym (w .ensures) ∙ not-true (w .result) (c .before .if4 .taken))
-
-extend-returns-4 : (t : ℕ) → extend-lts.Need-returns-4 (calls t) (extend-at t) extend.Post extend-Inv-loop extend-μ-loop
-extend-returns-4 t c =
-    let z = c .before .before .before .before .before .before .before .before .before .before .before in
-    let a = z .args in
-    let w = c .before .all-keeps in
-    done-found (product (a .m) (a .source .now)) (a .m) (product (a .n) (a .target .now)) (a .n) (a .scratch .now) (a .after .now) (a .tight) (a .t8) (z .pre .1 .1) (c .before .before .before .before .before .if2 .taken) (closed t z) (c .before .before .before .before .if3 .left)
-    (sym (w .ensures) ∙ not-false (w .result) (c .if4 .left))
+    done-found (product (a .m) (a .source .now)) (a .m) (product (a .n) (a .target .now)) (a .n) (a .scratch .now) (a .after .now) (a .tight) (a .t8) (z .pre .1 .1) (c .before .before .if2 .taken) (closed t z) (not-false (a .t8 .ok) (c .before .before .before .if1 .left)) (c .before .if3 .left)
 
 extend-shared-slice-read-low : (t : ℕ) → extend-lts.Need-shared-slice-read-low (calls t) (extend-at t) extend.Post extend-Inv-loop extend-μ-loop
 extend-shared-slice-read-low t c = let b = c .before .before .before .before .before .before .before .before .pre .1 .1 .bound in let e = c .before .before .if2 .left in omega arith
@@ -133,7 +112,7 @@ extend-loop-holds : (t : ℕ) → extend-lts.Need-loop-holds (calls t) (extend-a
 extend-loop-holds t c =
     let z = c .before .before .before .before .before .before .before in
     let a = z .args in
-    (omega arith, omega arith, ⊎-elim (λ w. w .2 ∙ rw (w .0 .taken)) (λ w. w .1 ∙ rw (w .0 .left)) (c .if5 .came), begins (product (a .m) (a .source .now)) (a .m) (product (a .n) (a .target .now)) (a .n) (a .scratch .now) (a .after .now) (a .tight) (a .t8) (z .pre .1 .1) (c .before .if2 .left))
+    (omega arith, omega arith, ⊎-elim (λ w. w .2 ∙ rw (w .0 .taken)) (λ w. w .1 ∙ rw (w .0 .left)) (c .if4 .came), begins (product (a .m) (a .source .now)) (a .m) (product (a .n) (a .target .now)) (a .n) (a .scratch .now) (a .after .now) (a .tight) (a .t8) (z .pre .1 .1) (c .before .if2 .left))
 
 extend-add-open : (t : ℕ) → extend-lts.Need-add-open (calls t) (extend-at t) extend.Post extend-Inv-loop extend-μ-loop
 extend-add-open t c = let m = c .before .before .before .before .before .before .before .before .before .before .before .before .pre .1 .0 .0 .order in let e = c .before .before .before .before .before .before .if2 .left in omega arith
@@ -152,7 +131,7 @@ extend-tried-requires : (t : ℕ) → extend-lts.Need-tried-requires (calls t) (
 extend-tried-requires t c κs =
     let k = c .before in
     let T = turn t k in
-    (start t k .pre .1 .0, (T .element, T .room, T .reached .placing .long, T .reached .placing .images))
+    (start t k .pre .1 .0, ((T .element, T .room, T .reached .placing .long, T .reached .placing .images), T .reached .settled))
 
 extend-extend-requires : (t : ℕ) → extend-lts.Need-extend-requires (calls t) (extend-at t) extend.Post extend-Inv-loop extend-μ-loop
 extend-extend-requires t c κs =
@@ -162,14 +141,14 @@ extend-extend-requires t c κs =
     let room = T .room in
     let v = told t c in
     let one = v .one-more in
-    (subst (λ (j : ℕ). z .args .m - c .tried .result .len < j) (z .pre .0) (omega arith), (z .pre .1 .0, onward T (c .before .if6 .taken) (c .tried .result) v))
+    (subst (λ (j : ℕ). z .args .m - c .tried .result .len < j) (z .pre .0) (omega arith), (z .pre .1 .0, onward T (c .before .if5 .taken) (c .tried .result) v))
 
-extend-returns-5 : (t : ℕ) → extend-lts.Need-returns-5 (calls t) (extend-at t) extend.Post extend-Inv-loop extend-μ-loop
-extend-returns-5 t c =
+extend-returns-4 : (t : ℕ) → extend-lts.Need-returns-4 (calls t) (extend-at t) extend.Post extend-Inv-loop extend-μ-loop
+extend-returns-4 t c =
     let w = c .before .before in
     let k = w .before .before in
     let i = c .before .extend in
-    i .ensures ∙ found (turn t k) (w .before .if6 .taken) (w .tried .result) (told t w) (ap (λ (f : Found). f .ok) (sym (i .ensures)) ∙ c .if7 .taken) (k .before .before .before .before .before .loop .inv .3)
+    i .ensures ∙ found (turn t k) (w .before .if5 .taken) (w .tried .result) (told t w) (ap (λ (f : Found). f .ok) (sym (i .ensures)) ∙ c .if6 .taken) (k .before .before .before .before .before .loop .inv .3)
 
 extend-add-x : (t : ℕ) → extend-lts.Need-add-x (calls t) (extend-at t) extend.Post extend-Inv-loop extend-μ-loop
 extend-add-x t c = let n = c .before .before .before .before .before .before .before .before .before .before .before .before .before .before .pre .1 .0 .1 .order in let t = c .before .before .before .before .before .loop-test .taken in omega arith
@@ -189,21 +168,21 @@ extend-loop-again t c =
       ⊎-elim
           (λ w.
           let e = w .1 .ensures in
-          let v : Verdict _ _ _ _ _ _ (w .1 .result) = record { keeps = e .0; longer = e .1 .0; one-more = e .1 .1 } in
+          let v : Verdict _ _ _ _ _ _ (w .1 .result) = record { keeps = e .0; longer = e .1 .0 .0; one-more = e .1 .0 .1; settled = e .1 .1 .0; sound = e .1 .1 .1 .0 } in
           fail T (w .0 .taken) (w .1 .result) v (ap (λ (f : Found). f .ok) (sym (w .2 .ensures)) ∙ w .3 .left) (i .3))
           (λ w. shut T (w .left) (i .3))
-          (c .if6 .came),
+          (c .if5 .came),
     )
 
-extend-nothing-requires-4 : (t : ℕ) → extend-lts.Need-nothing-requires-4 (calls t) (extend-at t) extend.Post extend-Inv-loop extend-μ-loop
-extend-nothing-requires-4 t c κs = search needs
+extend-nothing-requires-3 : (t : ℕ) → extend-lts.Need-nothing-requires-3 (calls t) (extend-at t) extend.Post extend-Inv-loop extend-μ-loop
+extend-nothing-requires-3 t c κs = search needs
 
-extend-returns-6 : (t : ℕ) → extend-lts.Need-returns-6 (calls t) (extend-at t) extend.Post extend-Inv-loop extend-μ-loop
-extend-returns-6 t c =
+extend-returns-5 : (t : ℕ) → extend-lts.Need-returns-5 (calls t) (extend-at t) extend.Post extend-Inv-loop extend-μ-loop
+extend-returns-5 t c =
     let z = c .before .before .before .before .before .before .before .before .before .before in
     let a = z .args in
     let l = c .before .before .loop in
-    c .nothing4 .ensures ∙ ends (product (a .m) (a .source .now)) (a .m) (product (a .n) (a .target .now)) (a .n) (a .scratch .now) (a .after .now) (a .tight) (a .t8) (z .pre .1 .1) (c .before .before .before .before .if2 .left) (l .x) (c .before .loop-test .left) (l .inv .3)
+    c .nothing3 .ensures ∙ ends (product (a .m) (a .source .now)) (a .m) (product (a .n) (a .target .now)) (a .n) (a .scratch .now) (a .after .now) (a .tight) (a .t8) (z .pre .1 .1) (c .before .before .before .before .if2 .left) (l .x) (c .before .loop-test .left) (l .inv .3)
 
 pub +extend-spec : {M : Type 1} → statement M
 +extend-spec = close μ-extend λ t. extend-lts.spec (calls t)
@@ -215,10 +194,7 @@ pub +extend-spec : {M : Type 1} → statement M
     (extend-returns t)
     (extend-nothing-requires-2 t)
     (extend-returns-2 t)
-    (extend-all-keeps-requires t)
-    (extend-nothing-requires-3 t)
     (extend-returns-3 t)
-    (extend-returns-4 t)
     (extend-shared-slice-read-low t)
     (extend-cast-low t)
     (extend-loop-holds t)
@@ -226,9 +202,9 @@ pub +extend-spec : {M : Type 1} → statement M
     (extend-open-requires t)
     (extend-tried-requires t)
     (extend-extend-requires t)
-    (extend-returns-5 t)
+    (extend-returns-4 t)
     (extend-add-x t)
     (extend-loop-less t)
     (extend-loop-again t)
-    (extend-nothing-requires-4 t)
-    (extend-returns-6 t)
+    (extend-nothing-requires-3 t)
+    (extend-returns-5 t)

@@ -1,5 +1,6 @@
--- `narrow` meets its contract. The invariant: the rows lost no embedding that sends l to x. Assumes nothing.
+-- `narrow` meets its contract. The invariant: the rows lost no embedding that sends l to x, gained nothing, and those before c are narrowed. Assumes nothing.
 use mathlib.Core.Path.{_≡_, refl, sym, subst₂, _∙_}
+use mathlib.Core.Bool.{false≢true}
 use mathlib.Core.List.{List}
 use Prim.Native.Nat.{ℕ, _+_, _-_}
 use native.Mathlib.Omega.{arith}
@@ -10,8 +11,10 @@ use Rattle.semigroups.specs.Maps.{Embedding}
 use Rattle.semigroups.specs.Search.{Among}
 use Rattle.semigroups.proofs.Booleans.{clash}
 use Rattle.semigroups.proofs.Tables.{product-element}
-use Rattle.rows.specs.Rows.{has}
-use Rattle.narrowing.proofs.Narrowed.{not-empty, mask-kept}
+use Rattle.rows.specs.Rows.{has, masked, Shrinks}
+use Rattle.rows.proofs.Rows.{shrinks-none, shrinks-more, masked-shrinks}
+use Rattle.narrowing.proofs.Narrowed.{not-empty, mask-kept, narrows-more}
+use Rattle.narrowing.specs.Rows.{Narrows}
 use Rattle.narrowing.proofs.narrow.Statement.{statement}
 use Rattle.narrowing.proofs.narrow.Tie as tie
 
@@ -20,13 +23,13 @@ abbrev Rows : List ℕ → ℕ → List ℕ → ℕ → List ℕ → List ℕ �
 Rows source m target n lo₀ hi₀ l x lo hi = (f : List ℕ) → Embedding m (product m source) n (product n target) f → at f l ≡ x → Among m (has lo₀ hi₀) f → Among m (has lo hi) f
 
 abbrev Inv-loop : tie.InvT-loop
-Inv-loop source m target n lo₀ hi₀ l x c₀ lo hi c = Element (m + 1) c × Rows source m target n lo₀ hi₀ l x lo hi
+Inv-loop source m target n lo₀ hi₀ l x c₀ lo hi c = Element (m + 1) c × Rows source m target n lo₀ hi₀ l x lo hi × Shrinks lo₀ hi₀ lo hi × Narrows (c - 1) (product m source) n (product n target) l x (has lo₀ hi₀) (has lo hi)
 
 abbrev μ-loop : tie.MeasureT-loop
 μ-loop source m target n lo₀ hi₀ l x c₀ lo hi c = m + 1 - c
 
 loop-holds : tie.Need-loop-holds Inv-loop μ-loop
-loop-holds c = (omega arith, λ f F e h. h)
+loop-holds c = let a = c .before .before .args in (omega arith, (λ f F e h. h), shrinks-none (a .lo .now) (a .hi .now), λ d y hd hy e. absurd (let z : ⊥ = omega arith in z))
 
 narrow-row-requires : tie.Need-narrow-row-requires Inv-loop μ-loop
 narrow-row-requires c κs =
@@ -46,10 +49,12 @@ returns c =
     let l = c .before .before .before .before .before .before .loop in
     let t = c .before .before .before .before .before .loop-test .taken in
     let r = c .before .before .narrow-row in
-    let w = c .before .is-empty in
-    λ f F e h.
-    absurd (clash {b = w .result} (c .if1 .taken)
-    (w .ensures ∙ not-empty (a .m) (product (a .m) (a .source .now)) (a .n) (product (a .n) (a .target .now)) closed f F (l .lo) (l .hi) (l .inv .1 f F e h) (a .l) (a .x) (l .c) (z .pre .1 .0) (l .inv .0 .0, t) e (r .result) (r .ensures)))
+    let w = c .before .is-empty in (
+      (λ f F e h.
+          absurd (clash {b = w .result} (c .if1 .taken)
+          (w .ensures ∙ not-empty (a .m) (product (a .m) (a .source .now)) (a .n) (product (a .n) (a .target .now)) closed f F (l .lo) (l .hi) (l .inv .1 f F e h) (a .l) (a .x) (l .c) (z .pre .1 .0) (l .inv .0 .0, t) e (r .result) (r .ensures)))),
+      (l .inv .2, λ e. absurd (false≢true e)),
+    )
 
 mask-requires : tie.Need-mask-requires Inv-loop μ-loop
 mask-requires c κs =
@@ -84,11 +89,19 @@ loop-again c =
       omega arith,
       subst₂ (λ (u v : List ℕ). Rows (a .source .now) (a .m) (a .target .now) (a .n) (a .lo .now) (a .hi .now) (a .l) (a .x) u v) (sym (p .0)) (sym (p .1))
           (λ f F e h. mask-kept (a .m) s (a .n) (product (a .n) (a .target .now)) closed f F (l .lo) (l .hi) (l .inv .1 f F e h) (a .l) (a .x) (l .c) (z .pre .1 .0) (i .0, t) e (r .result) (r .ensures) (source .order .1)),
+      subst₂ (λ (u v : List ℕ). Shrinks (a .lo .now) (a .hi .now) u v) (sym (p .0)) (sym (p .1))
+          (shrinks-more (l .lo) (l .hi) (masked (l .lo) (l .c) (r .result .lo)) (masked (l .hi) (l .c) (r .result .hi)) (a .lo .now) (a .hi .now) (l .inv .2) (masked-shrinks (l .lo) (l .hi) (l .c) (let o = source .order in omega arith) (r .result))),
+      subst₂ (λ (u v : List ℕ). Narrows (l .c + 1 - 1) s (a .n) (product (a .n) (a .target .now)) (a .l) (a .x) (has (a .lo .now) (a .hi .now)) (has u v)) (sym (p .0)) (sym (p .1))
+          (narrows-more (a .m) s (a .n) (product (a .n) (a .target .now)) closed (source .order .1) (a .lo .now) (a .hi .now) (l .lo) (l .hi) (l .inv .2) (a .l) (a .x) (l .c) (z .pre .1 .0) (i .0, t) (r .result) (r .ensures) (l .inv .3)),
     )
 
 returns-2 : tie.Need-returns-2 Inv-loop μ-loop
 returns-2 c =
-    λ f F e h. (refl, c .before .loop .inv .1 f F e h)
+    let z = c .before .before .before .before in
+    let l = c .before .loop in
+    let i = l .inv .0 in
+    let t = c .loop-test .left in
+    ((λ f F e h. (refl, l .inv .1 f F e h)), (l .inv .2, λ e d y hd hy. l .inv .3 d y (omega arith) hy))
 
 pub narrow-spec : {M : Type 1} → statement M
 narrow-spec =
