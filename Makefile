@@ -51,12 +51,12 @@ target/lib/$(SHARED): $(ARCHIVE)
 
 # Below DESTDIR and PREFIX, which may have spaces.
 HERE = "$(DESTDIR)$(PREFIX)"
-INSTALLED = bin/tickdrizzle bin/tickdrizzle-recue bin/tickdrizzle-classes include/tickdrizzle.h \
+FILES = bin/tickdrizzle bin/tickdrizzle-recue bin/tickdrizzle-classes include/tickdrizzle.h \
 	$(foreach name,libtickdrizzle.a libtickdrizzle.so libtickdrizzle.so.$(MAJOR) $(SHARED) pkgconfig/tickdrizzle.pc,$(LIB)/$(name)) \
-	$(foreach page,$(PAGES),share/man/man$(subst .,,$(suffix $(page)))/$(page)) $(addprefix share/,$(COMPLETIONS))
+	$(foreach page,$(PAGES),share/man/man$(subst .,,$(suffix $(page)))/$(page))
 
 install: all
-	install -d $(foreach folder,$(sort $(dir $(INSTALLED))),$(HERE)/$(folder))
+	install -d $(foreach folder,$(sort $(dir $(FILES))),$(HERE)/$(folder))
 	install $(DESK) $(HERE)/bin/tickdrizzle
 	install target/bin/recue $(HERE)/bin/tickdrizzle-recue
 	install target/bin/classes $(HERE)/bin/tickdrizzle-classes
@@ -72,7 +72,7 @@ install: all
 	[ -n "$(DESTDIR)" ] || [ "$$(id -u)" -ne 0 ] || ldconfig
 
 uninstall:
-	[ ! -d $(HERE) ] || { cd $(HERE) && rm -f $(INSTALLED); }
+	[ ! -d $(HERE) ] || { cd $(HERE) && rm -f $(FILES) $(addprefix share/,$(COMPLETIONS)); }
 	[ -n "$(DESTDIR)" ] || [ "$$(id -u)" -ne 0 ] || ldconfig
 
 dist: all

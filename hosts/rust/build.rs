@@ -41,7 +41,8 @@ fn link_installed() {
         println!("cargo:rerun-if-env-changed={variable}");
     }
     pkg_config(&format!("--atleast-version={VERSION}"));
-    let folder = pkg_config("--variable=libdir");
+    // In a folder that was moved, pkg-config quotes spaces.
+    let folder = pkg_config("--variable=libdir").replace("\\ ", " ");
     println!("cargo:rustc-link-search=native={}", folder.trim_end());
     println!("cargo:rustc-link-lib=static=tickdrizzle");
 }
