@@ -7,6 +7,7 @@ what these say is held to the numbers and the bytes; a difference is told on sta
 """
 
 import sys
+import traceback
 from itertools import accumulate, islice
 from pathlib import Path
 
@@ -142,6 +143,9 @@ def agrees(name, arguments, answer, buffers):
         return True
     except Refusal as refusal:
         said, fronts = [refusal.number, refusal.side or 0, *refusal.place], []
+    except Exception:
+        traceback.print_exc()
+        return False
     if answer[0] in BUFFERS:
         return True
     return said + [0] * (16 - len(said)) == list(answer) and all(
