@@ -51,7 +51,6 @@ fn main() -> ExitCode {
     }
     comparison.tally.print();
     if let Some(python) = comparison.python {
-        println!("{} calls by Python", python.made);
         comparison.tally.differences += u64::from(!python.end());
     }
     println!("seed {seed}");

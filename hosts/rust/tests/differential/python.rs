@@ -1,6 +1,7 @@
 //! Calls by the Python package: a process that is handed a call in a line and answers with a line.
 
-use crate::calls::{Argument, Call};
+use crate::calls::{Argument, Call, FUNCTIONS};
+use std::collections::BTreeSet;
 use std::env;
 use std::io::{BufRead, BufReader, Write};
 use std::process::{Child, ChildStdin, ChildStdout, Command, Stdio};
@@ -13,7 +14,8 @@ pub struct Python {
     process: Child,
     calls: ChildStdin,
     answers: BufReader<ChildStdout>,
-    pub made: u64,
+    made: u64,
+    functions: BTreeSet<&'static str>,
 }
 
 impl Python {
@@ -27,12 +29,13 @@ impl Python {
             .expect("the program that DIFFERENTIAL_PYTHON names can be run");
         let calls = process.stdin.take().expect("its input is piped");
         let answers = BufReader::new(process.stdout.take().expect("its output is piped"));
-        Some(Python { process, calls, answers, made: 0 })
+        Some(Python { process, calls, answers, made: 0, functions: BTreeSet::new() })
     }
 
     /// Makes a call: its name and arguments in a line; back come the numbers, and every buffer that is lent to be written.
     pub fn make(&mut self, call: &mut Call) -> Answer {
         self.made += 1;
+        self.functions.insert(call.function());
         let mut line = call.function().to_string();
         for argument in call.arguments() {
             line.push_str(&match argument {
@@ -56,10 +59,12 @@ impl Python {
         answer
     }
 
-    /// Ends the process; whether it found no fault of its own.
+    /// Ends the process and prints what was made; whether every function was called and the process found no fault of its own.
     pub fn end(mut self) -> bool {
         drop(self.calls);
-        self.process.wait().is_ok_and(|status| status.success())
+        println!("{} calls by Python, of {} functions", self.made, self.functions.len());
+        let all = FUNCTIONS.iter().all(|name| self.functions.contains(name));
+        self.process.wait().is_ok_and(|status| status.success()) && all
     }
 }
 
