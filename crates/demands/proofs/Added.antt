@@ -1,10 +1,11 @@
--- Demand 1 holds of the calls that 02 added. Assumes nothing.
-use mathlib.Core.Path.{_≡_}
+-- Demand 1 holds of the calls that 02 added and of the search among given pairs. Assumes nothing.
+use mathlib.Core.Path.{_≡_, ap}
 use mathlib.Core.List.{[], _∷_}
 use lib.ListN.{length, replicate}
 use Rattle.semigroups.specs.Tables.{product}
 use Rattle.semigroups.specs.Questions.{no, searchQuestions, searchRefusal, EarliestNo}
 use Rattle.semigroups.specs.Calls.{refused, gives}
+use Rattle.semigroups.specs.Maps.{Sought, first, sought}
 use Rattle.semigroups.specs.Trials as trials
 use Rattle.semigroups.specs.Generated.{generated}
 use Rattle.semigroups.specs.Light.{generatorsQuestions, generatorsRefusal}
@@ -27,14 +28,20 @@ use Rattle.sheets.specs.Questions.{loadNamesQuestions, loadNamesRefusal, saveNa
 use Rattle.sheets.specs.Calls.{loadNamesAnswer, saveNamesAnswer}
 use Rattle.sheets.proofs.Passing.{load-names-pass, save-names-pass, load-keeps, save-keeps}
 use Rattle.search.specs.Limited.{firstWork, limitedCall}
+use Rattle.search.specs.Calls.{Called}
+use Rattle.search.specs.Among.{amongQuestions, amongRefusal, answerAmong, callAmong}
+use Rattle.search.specs.AmongLaws.{leftInLeft}
 use Rattle.search.proofs.Limits.{limits-theorem}
+use Rattle.search.proofs.Among.{among-passes}
+use Rattle.search.proofs.AmongLaws.{among-laws}
+use Rattle.search.proofs.AmongExamples.{among-examples}
 use Rattle.copies.specs.Answers.{copiesSays, copiesScratch}
 use Rattle.copies.proofs.Answering.{copies-keep}
 use Rattle.demands.specs.Added.{AddedCalls}
 use Rattle.demands.proofs.Answers.{asks, answers}
 
 pub added-calls : AddedCalls
-unfolding loadNamesAnswer loadNamesRefusal saveNamesAnswer saveNamesRefusal limitedCall searchRefusal generatorsRefusal subsemigroupSays subsemigroupRefusal degreeSays degreeRefusal copiesSays copiesRefusal
+unfolding loadNamesAnswer loadNamesRefusal saveNamesAnswer saveNamesRefusal limitedCall searchRefusal generatorsRefusal subsemigroupSays subsemigroupRefusal degreeSays degreeRefusal copiesSays copiesRefusal callAmong amongRefusal
 added-calls =
     record {
       load-names = λ w names lengths. answers (loadNamesQuestions w (length names) (length lengths)) (load-names-pass (length names) (length lengths) w) (length (namesIn w));
@@ -47,12 +54,15 @@ added-calls =
       subsemigroup = λ n cells l a b. answers (subsemigroupQuestions n cells l a b) (subsemigroup-passes n cells l a b) (length (generated n (product n cells) l));
       least-degree = λ m cells size. answers (degreeQuestions m cells size) (degree-passes m cells size) (leastDegree m (product m cells));
       copies = λ m source n target k. answers (copiesQuestions m source n target k) (copies-pass m source n target k) (copiesCapped m (product m source) n (product n target));
+      among = λ ask pairs l.
+          answers (amongQuestions (l .m) (l .source) (l .n) (l .target) (length (l .mapBytes)) (length (l .scratch)) (length pairs)) (among-passes pairs l) (sought (answerAmong ask pairs l));
       load-names-refused = load-keeps;
       save-names-refused = save-keeps;
       limited-refused = limits-theorem .refused-unchanged;
       subsemigroup-refused = subsemigroup-keeps;
       degree-refused = positions-kept;
       copies-refused = copies-keep;
+      among-refused = among-laws .refused-unchanged;
     }
 
 -- ---- instances, to show that it is not empty
@@ -78,3 +88,9 @@ copies-short = refused-by (copiesCapped 1 (product 1 (one .cells)) 2 (product 2 
 
 copies-kept : copiesScratch 1 (one .cells) 2 (left .cells) [] ≡ []
 copies-kept = added-calls .copies-refused 1 (one .cells) 2 (left .cells) [] (no 6 []) (copies-examples .8)
+
+-- Left in itself with no byte of pairs: question 70 is the earliest that fails.
+pairs-short : EarliestNo (amongQuestions 2 (left .cells) 2 (left .cells) 2 2 0) (no 70 [])
+pairs-short =
+    added-calls .among first [] (leftInLeft (0 ∷ 0 ∷ [])) .refused-exactly (no 70 []) .0
+    (ap (λ (c : Called Sought). c .says) (among-examples .4))

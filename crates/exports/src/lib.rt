@@ -16,6 +16,7 @@ ghost use Rattle.copies.specs.Answers.{copiesSays, copiesScratch, copiesAnswerS
 ghost use Rattle.search.specs.Calls.{lend, call};
 ghost use Rattle.search.specs.Answers.{searchAnswerSays, limitedAnswerSays};
 ghost use Rattle.search.specs.Limited.{limitedCall};
+ghost use Rattle.search.specs.Among.{callAmong};
 ghost use Rattle.transformations.specs.Answers.{transformationSays, transformationCellsAfter, transformationAnswerSays};
 ghost use Rattle.csv.specs.Calls.{loadAnswer, cellsAfter, saveAnswer, textAfter};
 ghost use Rattle.text.specs.Answers.{loadedAnswer, savedAnswer};
@@ -422,6 +423,42 @@ pub extern "C" fn tickdrizzle_save(
     ensures text { λ _. ⌜ now (text .exit) ≡ textAfter order (now (cells .entry)) (now (text .entry)) ⌝ }
 {
     *answer = saved_words(text::save(cells, order, text));
+}
+
+// ---- searches among given pairs
+
+// Writes the earliest embedding of the source in the target that the pairs allow to `map`. Value: 1 for found, 0 for none.
+#[no_mangle]
+pub extern "C" fn tickdrizzle_first_embedding_among(
+    source: &[u8],
+    m: usize,
+    target: &[u8],
+    n: usize,
+    pairs: &[u8],
+    map: &mut [u8],
+    scratch: &mut [u8],
+    answer: &mut [u64; 16],
+)
+    ensures call { λ _. ⌜ returned (now (answer .exit)) (now (map .exit)) (now (scratch .exit)) ≡ wordsOf soughtValues (callAmong first (now (pairs .entry)) (lend (now (source .entry)) m (now (target .entry)) n (now (map .entry)) (now (scratch .entry)))) ⌝ }
+{
+    *answer = search_words(search::first_among(source, m, target, n, pairs, map, scratch));
+}
+
+// Writes the earliest embedding that the pairs allow and that is later than the bytes of `map` over them. Value: 1 for found, 0 for none.
+#[no_mangle]
+pub extern "C" fn tickdrizzle_next_embedding_among(
+    source: &[u8],
+    m: usize,
+    target: &[u8],
+    n: usize,
+    pairs: &[u8],
+    map: &mut [u8],
+    scratch: &mut [u8],
+    answer: &mut [u64; 16],
+)
+    ensures call { λ _. ⌜ returned (now (answer .exit)) (now (map .exit)) (now (scratch .exit)) ≡ wordsOf soughtValues (callAmong (next (now (map .entry))) (now (pairs .entry)) (lend (now (source .entry)) m (now (target .entry)) n (now (map .entry)) (now (scratch .entry)))) ⌝ }
+{
+    *answer = search_words(search::next_among(source, m, target, n, pairs, map, scratch));
 }
 
 // ---- searches with a limit

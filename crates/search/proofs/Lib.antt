@@ -7,3 +7,8 @@ pub mod Refusals
 pub mod Limited
 pub mod Limits
 pub mod Demand3
+pub mod Masks
+pub mod Allowed
+pub mod Among
+pub mod AmongLaws
+pub mod AmongExamples

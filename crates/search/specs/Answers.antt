@@ -9,7 +9,7 @@ use Rattle.semigroups.specs.Maps as maps
 use Rattle.semigroups.specs.Trials.{Limited, stopped, ended}
 use Rattle.tables.specs.Answers.{faultRefusal, sideNumber}
 use Rattle.search.specs.declared.SearchFault.{SearchFault}
-use Rattle.search.specs.declared.SearchFault.the-variants.{Table, MapLength, ScratchLength}
+use Rattle.search.specs.declared.SearchFault.the-variants.{Table, MapLength, ScratchLength, PairsLength}
 use Rattle.search.specs.declared.Questions.{Questions}
 use Rattle.search.specs.declared.Questions.the-variants as questions
 use Rattle.search.specs.declared.SearchAnswer.{SearchAnswer}
@@ -17,11 +17,12 @@ use Rattle.search.specs.declared.SearchAnswer.the-variants as answer
 use Rattle.search.specs.declared.LimitedAnswer.{LimitedAnswer}
 use Rattle.search.specs.declared.LimitedAnswer.the-variants as limited
 
--- 1 to 4 name their side and carry the cell or the triple; 5 and 6 name none and carry nothing.
+-- 1 to 4 name their side and carry the cell or the triple; 5, 6 and 70 name none and carry nothing.
 abbrev pub searchFaultRefusal : SearchFault → Refusal
 searchFaultRefusal (Table side fault) = naming (sideNumber side) (faultRefusal fault)
 searchFaultRefusal MapLength = no 5 []
 searchFaultRefusal ScratchLength = no 6 []
+searchFaultRefusal PairsLength = no 70 []
 
 abbrev pub questionsRefusal : Questions → Option Refusal
 questionsRefusal questions.Passed = none

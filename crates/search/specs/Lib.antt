@@ -6,3 +6,7 @@ pub mod Walks
 pub mod Limited
 pub mod Searching
 pub mod Limits
+pub mod Allowed
+pub mod Among
+pub mod Masks
+pub mod AmongLaws

@@ -1,6 +1,10 @@
 // Searches for maps between two tables: the first map of a kind, the next one after the bytes of the map buffer, and the first one within a limit of
-// trials. The caller lends the cells, the orders and both buffers, with any content. A refused call changes no lent byte, and a call that finds no map
-// changes no byte of the map buffer. A reversed isomorphism is searched for as an isomorphism onto the target with rows and columns exchanged.
+// trials; and the first and the next embedding among given pairs. The caller lends the cells, the orders and both buffers, with any content. A refused call
+// changes no lent byte, and a call that finds no map changes no byte of the map buffer. A reversed isomorphism is searched for as an isomorphism onto the
+// target with rows and columns exchanged.
+//
+// Pairs are bits, laid out as those of the scratch buffer are: bit (i - 1) * n + (j - 1) is set where i may go to j. An embedding is allowed if the bit of
+// each element with its image is set. No byte of the pairs changes.
 ghost use mathlib.Core.Path.{_≡_};
 ghost use mathlib.Core.Option.{none};
 ghost use Prim.Native.Nat.{_*_, _≤_};
@@ -8,7 +12,7 @@ ghost use lib.ListN.{length};
 ghost use Rattle.semigroups.specs.Tables.{product, Filled, Accepted};
 ghost use Rattle.semigroups.specs.Scratch.{scratchSize};
 ghost use Rattle.semigroups.specs.Questions.{searchRefusal};
-ghost use Rattle.semigroups.specs.Calls.{gives, scratchAfter, mapUnless};
+ghost use Rattle.semigroups.specs.Calls.{gives, overwritten, scratchAfter, mapUnless};
 ghost use Rattle.semigroups.specs.Maps.{reversed, first, next, sought};
 ghost use Rattle.semigroups.specs.Candidates.{candidate};
 ghost use Rattle.backtrack.specs.State.{bounded};
@@ -17,6 +21,9 @@ ghost use Rattle.search.specs.declared.Limit.the-variants.{Unlimited, Tr
 ghost use Rattle.search.specs.Kinds.{kindOf, straight, orderFits};
 ghost use Rattle.search.specs.Calls.{lend, called, answered, call};
 ghost use Rattle.search.specs.Limited.{limitedCall};
+ghost use Rattle.search.specs.Allowed.{allowedCandidate};
+ghost use Rattle.search.specs.Among.{amongRefusal, answeredAmong, callAmong};
+ghost use Rattle.search.specs.Masks.{masked};
 ghost use Rattle.search.specs.Searching.{searchedSays, saidUnder, foundUnder, searched, markedWork};
 ghost use Rattle.search.specs.Answers.{searchFaultRefusal, questionsRefusal, soughtIf, searchAnswerSays, limitedAnswerSays};
 use tables::Fault;
@@ -30,11 +37,12 @@ pub enum Kind {
     Reversed,
 }
 
-// The earliest failed question: one of the four about a table, with the side of that table; 5; or 6.
+// The earliest failed question: one of the four about a table, with the side of that table; 5; 6; or 70, which only a search among given pairs asks.
 pub enum SearchFault {
     Table(Side, Fault),
     MapLength,
     ScratchLength,
+    PairsLength,
 }
 
 impl SearchFault {
@@ -46,6 +54,7 @@ impl SearchFault {
             SearchFault::Table(side, fault) => fault.refusal().naming(side),
             SearchFault::MapLength => Refusal::by(5, 0),
             SearchFault::ScratchLength => Refusal::by(6, 0),
+            SearchFault::PairsLength => Refusal::by(70, 0),
         }
     }
 }
@@ -431,4 +440,128 @@ pub fn first_within(
         return LimitedAnswer::Found(result.trials);
     }
     LimitedAnswer::Nothing(result.trials)
+}
+
+// ---- among given pairs
+
+// Clears each bit of the first `size` bytes of scratch that is not set in the pairs.
+fn keep_pairs(pairs: &[u8], size: usize, scratch: &mut [u8])
+    requires { ⌜ (size ≤ length (now pairs)) × (size ≤ length (now scratch)) ⌝ }
+    ensures scratch { λ _. ⌜ now (scratch .exit) ≡ overwritten (masked size (now (pairs .entry)) (now (scratch .entry))) (now (scratch .entry)) ⌝ }
+{
+    let mut place: usize = 0;
+    while place < size {
+        scratch[place] = scratch[place] & pairs[place];
+        place += 1;
+    }
+}
+
+// Marks the candidates of embeddings that the pairs allow in scratch.
+fn mark_among(source: &[u8], m: usize, target: &[u8], n: usize, pairs: &[u8], scratch: &mut [u8])
+    requires { ⌜ Accepted m (now source) × Accepted n (now target) ⌝ }
+    requires { ⌜ (scratchSize m n ≤ length (now pairs)) × (scratchSize m n ≤ length (now scratch)) ⌝ }
+    ensures scratch { λ _. ⌜ now (scratch .exit) ≡ scratchAfter m n (allowedCandidate m (product m (now (source .entry))) n (product n (now (target .entry))) (now (pairs .entry))) (now (scratch .entry)) ⌝ }
+{
+    mark(false, source, m, target, n, scratch);
+    keep_pairs(pairs, candidates::scratch_size(m, n), scratch);
+}
+
+// Writes the first allowed embedding between two accepted tables to `map`, or with `next` the next one after the bytes of `map`. Returns whether there is one.
+fn find_among(
+    next: bool,
+    source: &[u8],
+    m: usize,
+    target: &[u8],
+    n: usize,
+    pairs: &[u8],
+    map: &mut [u8],
+    scratch: &mut [u8],
+) -> bool
+    requires { ⌜ Accepted m (now source) × Accepted n (now target) ⌝ }
+    requires { ⌜ (length (now map) ≡ m) × (scratchSize m n ≤ length (now scratch)) ⌝ }
+    requires { ⌜ scratchSize m n ≤ length (now pairs) ⌝ }
+    ensures call { λ r. ⌜ called (gives (soughtIf r)) (now (map .exit)) (now (scratch .exit)) ≡ answeredAmong (bounded next (now (map .entry))) (now (pairs .entry)) (lend (now (source .entry)) m (now (target .entry)) n (now (map .entry)) (now (scratch .entry))) ⌝ }
+{
+    mark_among(source, m, target, n, pairs, scratch);
+    if n < m {
+        false
+    } else {
+        find_marked(next, source, m, target, n, map, &*scratch)
+    }
+}
+
+// Asks the questions of a search, then the one about the length of the pairs.
+fn ask_among(
+    source: &[u8],
+    m: usize,
+    target: &[u8],
+    n: usize,
+    images: usize,
+    marks: usize,
+    room: usize,
+) -> Questions
+    ensures answer { λ r. ⌜ questionsRefusal r ≡ amongRefusal m (now (source .entry)) n (now (target .entry)) images marks room ⌝ }
+{
+    let asked = ask(source, m, target, n, images, marks);
+    if let Questions::Failed(fault) = asked {
+        return Questions::Failed(fault);
+    }
+    if room < candidates::scratch_size(m, n) {
+        return Questions::Failed(SearchFault::PairsLength);
+    }
+    Questions::Passed
+}
+
+// Asks the questions, then searches for the first allowed embedding, or with `next` for the next one.
+fn search_among(
+    next: bool,
+    source: &[u8],
+    m: usize,
+    target: &[u8],
+    n: usize,
+    pairs: &[u8],
+    map: &mut [u8],
+    scratch: &mut [u8],
+) -> SearchAnswer
+    ensures call { λ r. ⌜ called (searchAnswerSays r) (now (map .exit)) (now (scratch .exit)) ≡ callAmong (bounded next (now (map .entry))) (now (pairs .entry)) (lend (now (source .entry)) m (now (target .entry)) n (now (map .entry)) (now (scratch .entry))) ⌝ }
+{
+    let asked = ask_among(source, m, target, n, map.len(), scratch.len(), pairs.len());
+    if let Questions::Failed(fault) = asked {
+        return SearchAnswer::Refused(fault);
+    }
+    if !find_among(next, source, m, target, n, pairs, map, scratch) {
+        return SearchAnswer::Nothing;
+    }
+    SearchAnswer::Found
+}
+
+// Writes the earliest embedding that the pairs allow to `map`. Answers found, or nothing, or the earliest question that fails.
+pub fn first_among(
+    source: &[u8],
+    m: usize,
+    target: &[u8],
+    n: usize,
+    pairs: &[u8],
+    map: &mut [u8],
+    scratch: &mut [u8],
+) -> SearchAnswer
+    ensures call { λ r. ⌜ called (searchAnswerSays r) (now (map .exit)) (now (scratch .exit)) ≡ callAmong first (now (pairs .entry)) (lend (now (source .entry)) m (now (target .entry)) n (now (map .entry)) (now (scratch .entry))) ⌝ }
+{
+    search_among(false, source, m, target, n, pairs, map, scratch)
+}
+
+// Writes the earliest embedding that the pairs allow and that is later than the bytes of `map` over them. Answers found, or nothing, or the earliest question
+// that fails.
+pub fn next_among(
+    source: &[u8],
+    m: usize,
+    target: &[u8],
+    n: usize,
+    pairs: &[u8],
+    map: &mut [u8],
+    scratch: &mut [u8],
+) -> SearchAnswer
+    ensures call { λ r. ⌜ called (searchAnswerSays r) (now (map .exit)) (now (scratch .exit)) ≡ callAmong (next (now (map .entry))) (now (pairs .entry)) (lend (now (source .entry)) m (now (target .entry)) n (now (map .entry)) (now (scratch .entry))) ⌝ }
+{
+    search_among(true, source, m, target, n, pairs, map, scratch)
 }

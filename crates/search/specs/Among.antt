@@ -1,0 +1,46 @@
+-- A call of a search for embeddings among given pairs: from all that is lent to all that is said and every byte that is left.
+-- No byte of the pairs changes. Neither paper has this call or question 70.
+-- Assumes nothing.
+use mathlib.Core.List.{List, [], _∷_, _++_}
+use mathlib.Core.Option.{Option, none}
+use Prim.Native.Nat.{ℕ}
+use lib.Dec.{leb}
+use lib.ListN.{length}
+use Rattle.semigroups.specs.Tables.{product}
+use Rattle.semigroups.specs.Scratch.{scratchSize, marks}
+use Rattle.semigroups.specs.Questions.{Question, ask, Refusal, firstNo, searchQuestions}
+use Rattle.semigroups.specs.Calls.{givenUnless, writtenUnless, mapUnless}
+use Rattle.semigroups.specs.Maps.{Ask, earliest, Sought, sought}
+use Rattle.search.specs.Calls.{Lent, Called, called}
+use Rattle.search.specs.Allowed.{allowed, allowedCandidate}
+
+-- The questions of a search; then 70: do the pairs have at least the bytes that m × n bits take?
+abbrev pub amongQuestions : ℕ → List ℕ → ℕ → List ℕ → ℕ → ℕ → ℕ → List Question
+amongQuestions m source n target mapLength scratchLength pairsLength = searchQuestions m source n target mapLength scratchLength ++ ask 70 (leb (scratchSize m n) pairsLength) ∷ []
+
+unfoldable pub amongRefusal : ℕ → List ℕ → ℕ → List ℕ → ℕ → ℕ → ℕ → Option Refusal
+amongRefusal m source n target mapLength scratchLength pairsLength = firstNo (amongQuestions m source n target mapLength scratchLength pairsLength)
+
+-- The earliest failed question.
+abbrev pub refusalAmong : List ℕ → Lent → Option Refusal
+refusalAmong pairs l = amongRefusal (l .m) (l .source) (l .n) (l .target) (length (l .mapBytes)) (length (l .scratch)) (length pairs)
+
+-- The allowed embedding asked for: the first one, or the next one after some bytes.
+abbrev pub answerAmong : Ask → List ℕ → Lent → Option (List ℕ)
+answerAmong ask pairs l = earliest ask (allowed (l .m) (product (l .m) (l .source)) (l .n) (product (l .n) (l .target)) pairs)
+
+-- The marks of the candidates that the pairs allow.
+abbrev pub marksAmong : List ℕ → Lent → List ℕ
+marksAmong pairs l = marks (l .m) (l .n) (allowedCandidate (l .m) (product (l .m) (l .source)) (l .n) (product (l .n) (l .target)) pairs)
+
+-- What a call says and leaves: its refusal, or whether there is the embedding asked for, that embedding, and the marks.
+abbrev pub leavingAmong : List ℕ → Lent → Option Refusal → Option (List ℕ) → Called Sought
+leavingAmong pairs l refusal answer = called (givenUnless refusal (sought answer)) (mapUnless refusal answer (l .mapBytes)) (writtenUnless refusal (marksAmong pairs l) (l .scratch))
+
+-- A call that no question refuses.
+unfoldable pub answeredAmong : Ask → List ℕ → Lent → Called Sought
+answeredAmong ask pairs l = leavingAmong pairs l none (answerAmong ask pairs l)
+
+-- A call of a search among given pairs.
+unfoldable pub callAmong : Ask → List ℕ → Lent → Called Sought
+callAmong ask pairs l = leavingAmong pairs l (refusalAmong pairs l) (answerAmong ask pairs l)
