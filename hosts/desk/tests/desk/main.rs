@@ -1,7 +1,13 @@
-//! Runs the program and compares whole outputs: every subcommand on examples, every refusal, every spreadsheet's sheet.
+//! Runs the program and compares whole outputs: every subcommand on examples, every refusal, every spreadsheet's sheet, every format,
+//! what is written, and damaged files.
 
 mod answers;
+mod damage;
 mod endings;
+mod formats;
+mod outputs;
+mod random;
 mod refusals;
 mod run;
 mod sheets;
+mod workbooks;
