@@ -1,10 +1,12 @@
 //! Runs the program and compares whole outputs: every subcommand on examples, every refusal, every spreadsheet's sheet, every format,
-//! what is written, and damaged files.
+//! folders, options, what is written, and damaged files.
 
 mod answers;
 mod damage;
 mod endings;
+mod folders;
 mod formats;
+mod options;
 mod outputs;
 mod random;
 mod refusals;
