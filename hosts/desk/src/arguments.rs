@@ -1,27 +1,69 @@
 //! The command line.
 
-use clap::{Args, Parser, Subcommand};
+use crate::patience::duration;
+use clap::{Args, Parser, Subcommand, ValueEnum};
+use clap_complete::Shell;
 use std::num::ParseIntError;
 use std::path::PathBuf;
+use std::time::Duration;
 
 const STATUSES: &str = "\
 Exit status:
   0   found, or done
   1   none
   2   refused: a sheet cannot be used
-  3   stopped: --limit was reached
+  3   stopped: --limit or --timeout was reached
   4   reading or writing failed
   64  the arguments are not understood";
 
 /// Moves a show's cues to another rig, and answers questions about linking tables
 ///
 /// A sheet has a row and a column for each cue, numbered from 1: the cell in row 3, column 5 is the cue that does what cue 3 and then
-/// cue 5 do. Where show.names.csv stands beside show.csv, with the number and the name of each cue, cues are shown by name.
+/// cue 5 do. It is a file as a spreadsheet saves it: .ods, .xlsx (the first sheet, or FILE#Sheet), CSV or other text; - is standard
+/// input. Where show.names.csv (or .ods and so on) stands beside show.csv, with the number and the name of each cue, cues are shown by
+/// name. No sheet that is read is ever changed.
 #[derive(Debug, Parser)]
 #[command(name = "tickdrizzle", version, after_help = STATUSES)]
 pub struct Arguments {
     #[command(subcommand)]
     pub command: Command,
+    #[command(flatten)]
+    pub options: Options,
+}
+
+/// What every command takes.
+#[derive(Clone, Debug, Args)]
+pub struct Options {
+    /// Prints the answer as JSON, whose shape docs/JSON.md tells
+    #[arg(long, global = true)]
+    pub json: bool,
+    /// Says the answer alone: nothing of what was mended, no hints, no progress
+    #[arg(long, short, global = true)]
+    pub quiet: bool,
+    /// Takes only what the library takes: commas, CR LF and plain digits
+    #[arg(long, global = true)]
+    pub strict: bool,
+    /// When to use colours; auto is on a terminal, where NO_COLOR is not set
+    #[arg(long, global = true, value_name = "WHEN", default_value = "auto")]
+    pub color: Color,
+}
+
+#[derive(Clone, Copy, Debug, PartialEq, Eq, ValueEnum)]
+pub enum Color {
+    Auto,
+    Always,
+    Never,
+}
+
+/// Where a page goes.
+#[derive(Debug, Args)]
+pub struct Page {
+    /// Writes a page to look at and to print; - is standard output. It is written whatever the answer is
+    #[arg(long, value_name = "FILE")]
+    pub html: Option<PathBuf>,
+    /// Overwrites a file that is already there and is none of the sheets that are read
+    #[arg(long)]
+    pub force: bool,
 }
 
 #[derive(Debug, Subcommand)]
@@ -44,9 +86,12 @@ pub enum Command {
     /// Tells how few rest positions can carry a table, and where each cue then lands
     #[command(after_help = POSITIONS_EXAMPLE)]
     Positions(PositionsArguments),
-    /// Makes a sheet from a spreadsheet loadable; the mended sheet is written beside the original
+    /// Writes a sheet as clean CSV beside the original, for other programs
     #[command(after_help = MEND_EXAMPLE)]
     Mend(MendArguments),
+    /// Prints what completes the arguments in bash, zsh or fish
+    #[command(after_help = COMPLETIONS_EXAMPLE)]
+    Completions(CompletionsArguments),
 }
 
 const MOVE_EXAMPLE: &str = "\
@@ -60,21 +105,23 @@ Example: the show in examples/found/source.csv, the rig in examples/found/target
 pub struct MoveArguments {
     #[command(flatten)]
     pub tables: Tables,
-    /// Prints what the program recue prints, to the byte
-    #[arg(long, conflicts_with = "html")]
+    /// Prints what the program recue prints, to the byte; takes only what recue takes
+    #[arg(long, conflicts_with_all = ["html", "json"])]
     pub csv: bool,
-    /// Gives up where the search takes more trials; says how many it took
-    #[arg(long, value_name = "TRIALS")]
+    /// Searches as the paper does, which is slower, and gives up after so many trials; says how many it took
+    #[arg(long, value_name = "TRIALS", conflicts_with = "timeout")]
     pub limit: Option<u32>,
-    /// Writes a page with both tables, the show's copy marked in the rig's
-    #[arg(long, value_name = "FILE")]
-    pub html: Option<PathBuf>,
+    /// Gives up after this time, such as 10s, 2m or 500ms
+    #[arg(long, value_name = "TIME", value_parser = duration)]
+    pub timeout: Option<Duration>,
+    #[command(flatten)]
+    pub page: Page,
 }
 
 /// The show's table and the rig's.
 #[derive(Debug, Args)]
 pub struct Tables {
-    /// A folder with source.csv (the show) and target.csv (the rig), or these two sheets
+    /// A folder with the show as source and the rig as target (.csv, .ods, .xlsx, .tsv, .tab or .txt), or these two sheets
     #[arg(value_name = "FOLDER or SHOW RIG", required = true, num_args = 1..=2)]
     pub paths: Vec<PathBuf>,
 }
@@ -86,7 +133,7 @@ Example:
 
 #[derive(Debug, Args)]
 pub struct CheckArguments {
-    /// Sheets, or a folder with source.csv and target.csv
+    /// Sheets, or a folder with the show as source and the rig as target
     #[arg(value_name = "SHEET or FOLDER", required = true)]
     pub paths: Vec<PathBuf>,
 }
@@ -103,15 +150,14 @@ Example: the first and the last sheet differ in the numbering alone
 
 #[derive(Debug, Args)]
 pub struct ClassesArguments {
-    /// A folder with 01.csv, 02.csv and so on, up to 50.csv, or sheets in any order
+    /// A folder, whose sheets are taken in the order of their names, or sheets in any order
     #[arg(value_name = "FOLDER or SHEETS", required = true)]
     pub paths: Vec<PathBuf>,
-    /// Prints what the program classes prints, to the byte
-    #[arg(long)]
+    /// Prints what the program classes prints, to the byte; takes only what that takes: 01.csv, 02.csv and so on, up to 50.csv
+    #[arg(long, conflicts_with_all = ["html", "json"])]
     pub csv: bool,
-    /// Writes a page with the classes and their members
-    #[arg(long, value_name = "FILE")]
-    pub html: Option<PathBuf>,
+    #[command(flatten)]
+    pub page: Page,
 }
 
 const CUT_EXAMPLE: &str = "\
@@ -124,18 +170,17 @@ Example: the part of the rig that its cue 3 makes, written to act.csv
 
 #[derive(Debug, Args)]
 pub struct CutArguments {
-    /// A sheet, or a folder whose source.csv is meant
+    /// A sheet, or a folder whose show is meant
     #[arg(value_name = "SHEET or FOLDER")]
     pub path: PathBuf,
     /// The chosen cues, with commas between
     #[arg(long, value_name = "NUMBERS", value_delimiter = ',', value_parser = cue, required = true)]
     pub cues: Vec<usize>,
-    /// Writes the part as a sheet of its own
+    /// Writes the part as a sheet of its own, in CSV, and its names beside it
     #[arg(long, short, value_name = "FILE")]
     pub output: Option<PathBuf>,
-    /// Writes a page with the part and the whole table, the part marked
-    #[arg(long, value_name = "FILE")]
-    pub html: Option<PathBuf>,
+    #[command(flatten)]
+    pub page: Page,
 }
 
 /// The number of a cue, with or without blanks around it.
@@ -152,6 +197,9 @@ Example:
 pub struct CopiesArguments {
     #[command(flatten)]
     pub tables: Tables,
+    /// Gives up after this time, such as 10s, 2m or 500ms
+    #[arg(long, value_name = "TIME", value_parser = duration)]
+    pub timeout: Option<Duration>,
 }
 
 const POSITIONS_EXAMPLE: &str = "\
@@ -163,7 +211,7 @@ Example:
 
 #[derive(Debug, Args)]
 pub struct PositionsArguments {
-    /// A sheet, or a folder whose source.csv is meant
+    /// A sheet, or a folder whose show is meant
     #[arg(value_name = "SHEET or FOLDER")]
     pub path: PathBuf,
 }
@@ -172,19 +220,29 @@ const MEND_EXAMPLE: &str = "\
 Example: a sheet that a spreadsheet saved with semicolons
   $ tickdrizzle mend show.csv
   show.csv: 31 rows of 31 cells.
-    Rows ended in LF; now in CR LF.
-    The cells were parted by semicolons; now by commas.
+    rows end in LF
+    semicolons between the cells
   Written: show.mended.csv";
 
 #[derive(Debug, Args)]
 pub struct MendArguments {
-    /// Sheets, or a folder with source.csv, target.csv and their name sheets
+    /// Sheets, or a folder with the show as source, the rig as target and their name sheets
     #[arg(value_name = "SHEET or FOLDER", required = true)]
     pub paths: Vec<PathBuf>,
     /// Says what would change and writes nothing
     #[arg(long)]
     pub dry_run: bool,
-    /// Replaces a mended sheet that is already there
-    #[arg(long)]
-    pub replace: bool,
+    /// Overwrites a mended sheet that is already there
+    #[arg(long, visible_alias = "replace")]
+    pub force: bool,
+}
+
+const COMPLETIONS_EXAMPLE: &str = "\
+Example: for bash, from the next login on
+  $ tickdrizzle completions bash > ~/.local/share/bash-completion/completions/tickdrizzle";
+
+#[derive(Debug, Args)]
+pub struct CompletionsArguments {
+    /// The shell
+    pub shell: Shell,
 }

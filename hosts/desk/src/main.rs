@@ -1,69 +1,95 @@
 //! Moves a show's cues to another rig: the command for operators and riggers.
 
+mod answer;
 mod arguments;
 mod commands;
-mod html;
-mod mend;
-mod mend_names;
-mod named;
+mod input;
 mod names;
 mod output;
+mod patience;
 mod progress;
+mod reader;
 mod sheet;
 mod signals;
 mod status;
+mod views;
 mod words;
 
-use arguments::{Arguments, Command};
-use clap::Parser;
-use status::{Failure, Report, Status};
-use std::io::{self, Write};
+use arguments::{Arguments, Color, Command, Options};
+use clap::{CommandFactory, Parser};
+use commands::Done;
+use status::Status;
+use std::io::{self, ErrorKind, IsTerminal, Write};
 use std::process::ExitCode;
+use views::text::Manner;
 
 fn main() -> ExitCode {
     let status = match Arguments::try_parse() {
-        Ok(arguments) => finish(run(&arguments.command)),
+        Ok(Arguments { command: Command::Completions(arguments), .. }) => completions(arguments.shell),
+        Ok(arguments) => finish(&commands::run(&arguments.command, &arguments.options), &arguments),
         Err(error) if error.use_stderr() => {
             let _ = error.print();
             Status::Usage
         }
-        Err(help) => print(&help.render().to_string(), Status::Found),
+        Err(help) => print(help.render().to_string().as_bytes(), Status::Found),
     };
     ExitCode::from(status as u8)
 }
 
-fn run(command: &Command) -> Result<Report, Failure> {
-    match command {
-        Command::Move(arguments) => commands::moving::run(arguments),
-        Command::Check(arguments) => commands::check::run(arguments),
-        Command::Classes(arguments) => commands::classes::run(arguments),
-        Command::Cut(arguments) => commands::cut::run(arguments),
-        Command::Copies(arguments) => commands::copies::run(arguments),
-        Command::Positions(arguments) => commands::positions::run(arguments),
-        Command::Mend(arguments) => commands::mend::run(arguments),
-    }
+fn completions(shell: clap_complete::Shell) -> Status {
+    let mut script = Vec::new();
+    clap_complete::generate(shell, &mut Arguments::command(), "tickdrizzle", &mut script);
+    print(&script, Status::Found)
 }
 
-/// Says what there is to say; how the program ends.
-fn finish(done: Result<Report, Failure>) -> Status {
-    match done {
-        Ok(report) => print(&report.text, report.status),
-        Err(refusal) if refusal.status == Status::Refused => print(&refusal.message, Status::Refused),
-        Err(failure) => {
-            print(&failure.said, failure.status);
-            let _ = writeln!(io::stderr(), "tickdrizzle: {}", failure.message);
-            failure.status
+/// Says what there is to say; how the program ends. Why a command failed is said on standard error.
+fn finish(done: &Done, arguments: &Arguments) -> Status {
+    let (answer, options) = (&done.answer, &arguments.options);
+    let is_csv = matches!(&arguments.command, Command::Move(arguments) if arguments.csv)
+        || matches!(&arguments.command, Command::Classes(arguments) if arguments.csv);
+    let failed = matches!(answer.status, Status::Failed | Status::Usage);
+    let mut errors = String::new();
+    let text = match &done.standard {
+        Some(bytes) if !failed => bytes.clone(),
+        _ if options.json => views::json(answer).into_bytes(),
+        _ if is_csv => {
+            let hints = answer.hints.iter().filter(|_| !options.quiet);
+            errors.extend(hints.map(|hint| format!("tickdrizzle: {hint}\n")));
+            views::records::records(answer).into_bytes()
         }
+        _ => views::text::text(answer, manner(options)).into_bytes(),
+    };
+    let status = print(&text, answer.status);
+    if failed && !options.json {
+        errors += &format!("tickdrizzle: {}\n", answer.says);
     }
+    let _ = io::stderr().write_all(errors.as_bytes());
+    status
 }
 
-/// Writes to standard output; a failed write is a failure whatever was found.
-fn print(text: &str, status: Status) -> Status {
+/// Whether the answer is short, and whether it has colours: on a terminal, where `NO_COLOR` is not set, or as `--color` says.
+fn manner(options: &Options) -> Manner {
+    let colours = match options.color {
+        Color::Always => true,
+        Color::Never => false,
+        Color::Auto => io::stdout().is_terminal() && std::env::var_os("NO_COLOR").is_none_or(|value| value.is_empty()),
+    };
+    Manner { quiet: options.quiet, colours }
+}
+
+/// Writes to standard output. A failed write is a failure whatever was found, but a reader that has read enough is none.
+fn print(text: &[u8], status: Status) -> Status {
     let mut output = io::stdout().lock();
-    match output.write_all(text.as_bytes()).and_then(|()| output.flush()) {
+    let written = if signals::is_output_closed() && !text.is_empty() {
+        Err(io::Error::other("standard output is closed"))
+    } else {
+        output.write_all(text).and_then(|()| output.flush())
+    };
+    match written {
         Ok(()) => status,
+        Err(error) if error.kind() == ErrorKind::BrokenPipe => status,
         Err(error) => {
-            let _ = writeln!(io::stderr(), "tickdrizzle: writing the answer failed: {error}");
+            let _ = writeln!(io::stderr(), "tickdrizzle: writing the answer failed: {}", words::error_words(&error));
             Status::Failed
         }
     }

@@ -1,111 +1,156 @@
 //! The names of cues, from a name sheet that stands beside the table's: `show.names.csv` beside `show.csv`.
 
-use crate::mend::{is_mended, mended_path};
-use crate::mend_names;
-use crate::sheet::Sheet;
+use crate::answer::{Fault, NameSheet, Refusal, Role, Sheet};
+use crate::input::{with_endings, Source};
+use crate::reader::grid::Cell;
+use crate::reader::names::{names, read, Reading};
+use crate::reader::table::place;
+use crate::sheet::{original_of, several};
 use crate::status::Failure;
-use crate::words::{typed, Explanation};
+use crate::words::{count, path_shown, shown};
 use std::path::{Path, PathBuf};
-use tickdrizzle::{load_names, Question, Refusal, LONGEST_NAME, MOST_NAMES};
+use tickdrizzle::{Question, LONGEST_NAME};
 
-/// What the cues of a table are called, where that is known.
-#[derive(Debug, Default)]
-pub struct Names {
-    names: Vec<String>,
+const TO_DO: &str = "correct the name sheet; until then cues are shown by number";
+
+/// What stands beside a table.
+#[derive(Default)]
+pub struct Beside {
+    pub names: Vec<String>,
+    pub sheet: Option<NameSheet>,
 }
 
-impl Names {
-    /// The names beside a sheet, of the first name sheet that loads; none where there is no name sheet.
-    pub fn beside(path: &Path) -> Result<Names, Failure> {
-        let mut refused = None;
-        for place in places(path).iter().filter(|place| place.exists()) {
-            let sheet = Sheet::read(place)?;
-            match loaded(&sheet.bytes) {
-                Ok(names) => return Ok(names),
-                Err(refusal) => refused = refused.or(Some(explained(&sheet, refusal))),
+/// Tells that there are too few names or too many for a table.
+pub fn hint(sheet: Option<&NameSheet>, table: &Sheet) -> Option<String> {
+    let (sheet, order, names) = (sheet?, table.order?, table.names.len());
+    let wrong = names > 0 && names != order;
+    wrong.then(|| format!("{} has {} for {}.", sheet.path, count(names, "name"), count(order, "cue")))
+}
+
+/// Whether a path is that of a name sheet.
+pub fn is_name_sheet(path: &Path) -> bool {
+    path.file_stem().is_some_and(|stem| stem.to_string_lossy().ends_with(".names"))
+}
+
+/// The name sheets beside a sheet; of a mended sheet also those of the original.
+pub fn name_sheets(file: &Path) -> Vec<PathBuf> {
+    let of = |stem: &Path| with_endings(Path::new(&format!("{}.names", stem.display())));
+    let own = of(&file.with_extension(""));
+    match original_of(file) {
+        Some(original) if own.is_empty() => of(&original),
+        _ => own,
+    }
+}
+
+/// Reads the name sheet beside a sheet. A name sheet that is refused gives no names and stops nothing.
+pub fn beside(file: &Path, strict: bool) -> Result<Beside, Failure> {
+    let paths = name_sheets(file);
+    let Some(first) = paths.first() else { return Ok(Beside::default()) };
+    let mut readings = Vec::new();
+    for path in &paths {
+        readings.push(opened(&Source::new(path), strict)?);
+    }
+    let one = readings.swap_remove(0);
+    let mut refusal = one.refusal;
+    if let Some(other) = readings.iter().find(|other| other.names != one.names) {
+        let there = format!("{}, with other names", other.path);
+        let fault = Fault { place: "beside it".into(), cells: Vec::new(), there };
+        refusal = Some(several(
+            vec![fault],
+            "one name sheet",
+            "take away the one that is old; until then cues are shown by number",
+        ));
+    }
+    let names = if refusal.is_some() { Vec::new() } else { one.names };
+    let sheet = NameSheet { path: path_shown(first), mended: one.mended, refusal };
+    Ok(Beside { names, sheet: Some(sheet) })
+}
+
+/// A name sheet by itself.
+pub fn opened(source: &Source, strict: bool) -> Result<Sheet, Failure> {
+    let bytes = source.bytes()?;
+    let mut about = Sheet { path: path_shown(&source.given), role: Role::Names, ..Sheet::default() };
+    match read(&bytes, source.sheet.as_deref()) {
+        Ok(mut reading) => {
+            if strict {
+                (reading.text, reading.mended) = (bytes, Vec::new());
+            }
+            match names(&reading.text) {
+                Ok(names) => about.names = names,
+                Err(refusal) => about.refusal = Some(explain(&reading, refusal.question)),
+            }
+            about.mended = reading.mended;
+        }
+        Err(unread) => {
+            let fault = Fault { place: unread.place, cells: Vec::new(), there: unread.there };
+            about.refusal = Some(several(vec![fault], &unread.expected, &unread.to_do));
+        }
+    }
+    Ok(about)
+}
+
+/// Why a name sheet is refused: first the record that the library names.
+fn explain(reading: &Reading, question: Question) -> Refusal {
+    let breaks =
+        |place: usize| reading.text[..place.min(reading.text.len())].iter().filter(|&&byte| byte == b'\n').count();
+    let (first, expected) = match question {
+        Question::Sheet { place } => (breaks(place), "a number, a comma, a name and CR LF in each row"),
+        Question::Name { place } => (place - 1, "a name of 1 to 40 plain characters"),
+        Question::NameNumber { place } => (place - 1, "the next number, counted from 1, at most 120"),
+        _ => (0, ""),
+    };
+    let mut faults: Vec<_> =
+        (0..reading.records.len()).filter_map(|record| fault(reading, record).map(|fault| (record, fault))).collect();
+    if !faults.iter().any(|(record, _)| *record == first) {
+        faults.push((first, (whole(reading, first), expected.into())));
+    }
+    faults.sort_by_key(|(record, _)| (*record != first, *record));
+    let expected = faults[0].1 .1.clone();
+    let mut refusal = several(faults.into_iter().map(|(_, (fault, _))| fault).collect(), &expected, TO_DO);
+    refusal.question = Some(question.number() as usize);
+    refusal
+}
+
+/// A record as it stands, or the end of the sheet.
+fn whole(reading: &Reading, record: usize) -> Fault {
+    match reading.records.get(record) {
+        Some((row, cells)) => {
+            let text: Vec<_> = cells.iter().map(|cell| cell.text.clone()).collect();
+            Fault {
+                place: format!("row {}", row + 1),
+                cells: vec![[row + 1, reading.left + 1]],
+                there: shown(&text.join(",")),
             }
         }
-        refused.map_or(Ok(Names::default()), |explanation| Err(Failure::refused(explanation)))
-    }
-
-    /// The name of a cue.
-    pub fn name(&self, cue: usize) -> Option<&str> {
-        self.names.get(cue - 1).map(String::as_str)
-    }
-
-    pub fn is_empty(&self) -> bool {
-        self.names.is_empty()
-    }
-
-    /// A cue by number, and by name where it has one.
-    pub fn label(&self, cue: usize) -> String {
-        match self.name(cue) {
-            Some(name) => format!("{cue} \"{name}\""),
-            None => cue.to_string(),
-        }
+        None => Fault { place: "the whole sheet".into(), cells: Vec::new(), there: "no name".into() },
     }
 }
 
-/// Where the names of a sheet may stand: beside it, for a mended sheet also beside the original, and the other way round.
-fn places(path: &Path) -> [PathBuf; 2] {
-    let other = if is_mended(path) { path.with_extension("").with_extension("csv") } else { mended_path(path) };
-    [name_sheet(path), name_sheet(&other)]
-}
-
-/// The name sheet of `show.csv`: `show.names.csv`.
-pub fn name_sheet(path: &Path) -> PathBuf {
-    path.with_extension(&mend_names::ENDING[1..])
-}
-
-fn loaded(text: &[u8]) -> Result<Names, Refusal> {
-    let (mut bytes, mut lengths) = ([0; MOST_NAMES * LONGEST_NAME], [0; MOST_NAMES]);
-    let count = load_names(text, &mut bytes, &mut lengths)?;
-    let mut rest = &bytes[..];
-    let mut names = Vec::new();
-    for &length in &lengths[..count] {
-        let (name, behind) = rest.split_at(length.into());
-        names.push(String::from_utf8_lossy(name).into_owned());
-        rest = behind;
-    }
-    Ok(Names { names })
-}
-
-/// Whether a name sheet that does not load would load when mended.
-fn helps(bytes: &[u8]) -> bool {
-    mend_names::mend(bytes).is_ok_and(|mended| loaded(&mended.text).is_ok())
-}
-
-/// How many names a name sheet has, or why it is none.
-pub fn check(sheet: &Sheet) -> Result<usize, Explanation> {
-    loaded(&sheet.bytes).map(|names| names.names.len()).map_err(|refusal| explained(sheet, refusal))
-}
-
-/// Why a name sheet is refused.
-fn explained(sheet: &Sheet, refusal: Refusal) -> Explanation {
-    let (place, there, expected) = match refusal.question {
-        Question::Sheet { place } => {
-            let before = &sheet.bytes[..place];
-            let row = 1 + before.iter().filter(|&&byte| byte == b'\n').count();
-            let character = place - before.iter().rposition(|&byte| byte == b'\n').map_or(0, |last| last + 1) + 1;
-            let there = if place < sheet.bytes.len() { sheet.cell_at(place).text } else { "the end".into() };
-            (format!("row {row}, character {character}"), there, "a number, a comma, a name and CR LF in each row")
-        }
-        Question::Name { place } => (format!("row {place}"), sheet.row(place), "a name of 1 to 40 plain characters"),
-        Question::NameNumber { place } => {
-            (format!("row {place}"), sheet.row(place), "the next number, counted from 1, at most 120")
-        }
-        _ => (String::new(), refusal.to_string(), ""),
+/// What is wrong with a record, counted from 0, and what was expected.
+fn fault(reading: &Reading, record: usize) -> Option<(Fault, String)> {
+    let (row, cells) = &reading.records[record];
+    let at = |column: usize, there: String| {
+        let place = place((*row, reading.left + column));
+        Fault { place, cells: vec![[row + 1, reading.left + column + 1]], there }
     };
-    let to_do = if helps(&sheet.bytes) {
-        format!("run: tickdrizzle mend {}", typed(&sheet.path))
+    let [number, name] = &cells[..] else {
+        return Some((whole(reading, record), "a number and a name in each row".into()));
+    };
+    if number.trimmed() != (record + 1).to_string() {
+        return Some((at(0, told(number)), format!("the next number, {}", record + 1)));
+    }
+    if let Some(letter) = name.text.chars().find(|letter| !(' '..='~').contains(letter)) {
+        let there = format!("{} in {}", shown(&letter.to_string()), shown(&name.text));
+        return Some((at(1, there), "names of plain ASCII letters, digits and signs, without accents".into()));
+    }
+    let is_short = (1..=LONGEST_NAME).contains(&name.text.len());
+    (!is_short).then(|| (at(1, told(name)), "a name of 1 to 40 plain characters".into()))
+}
+
+fn told(cell: &Cell) -> String {
+    if cell.text.is_empty() {
+        "an empty cell".into()
     } else {
-        "correct the name sheet, or take it away".into()
-    };
-    Explanation {
-        head: format!("{}: refused (question {}).", sheet.path.display(), refusal.question.number()),
-        place,
-        there,
-        expected: expected.into(),
-        to_do,
+        shown(&cell.text)
     }
 }

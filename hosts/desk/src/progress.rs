@@ -16,7 +16,11 @@ pub struct Progress {
 }
 
 impl Progress {
-    pub fn start(doing: &'static str) -> Progress {
+    /// Starts the line; a quiet one is never shown.
+    pub fn start(doing: &'static str, quiet: bool) -> Progress {
+        if quiet {
+            return Progress { done: None, shown: None };
+        }
         let (done, told) = mpsc::channel();
         let begun = Instant::now();
         let shown = thread::spawn(move || show(doing, begun, &told));

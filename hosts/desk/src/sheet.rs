@@ -1,185 +1,252 @@
-//! Sheets: files that should hold a table, and the places of what is wrong with one.
+//! Sheets that are opened: the table that the library loads from what was read, or why it is refused and where.
 
+use crate::answer::{rows, Cells, Fault, Refusal, Role, Sheet};
+use crate::input::{with_endings, Source};
+use crate::names;
+use crate::reader::grid::MOST_KEPT;
+use crate::reader::table::{self, place, Reading};
+use crate::reader::Unread;
 use crate::status::Failure;
-use std::fs::File;
-use std::io::Read;
+use crate::words::{count, path_shown, row_and_column, shown, typed};
 use std::path::{Path, PathBuf};
-use tickdrizzle::{Refusal, Table, GREATEST_ORDER};
+use tickdrizzle::{Question, Table, GREATEST_ORDER, LONGEST_TEXT};
 
-/// A longer file is not read: a table has less than 60,000 bytes, and blank rows and columns may follow it.
-const MOST_BYTES: u64 = 1 << 24;
+/// More faults of one kind are counted and not told.
+const MOST_FAULTS: usize = 10;
 
-/// The bytes of a file.
-#[derive(Debug)]
-pub struct Sheet {
-    pub path: PathBuf,
-    pub bytes: Vec<u8>,
+/// A sheet that was read.
+pub struct Opened {
+    pub about: Sheet,
+    pub table: Option<Table>,
+    pub hints: Vec<String>,
 }
 
-/// A cell of a sheet, counted from 1, with the characters that stand there.
-#[derive(Debug, PartialEq, Eq)]
-pub struct Cell {
-    pub row: usize,
-    pub column: usize,
-    pub text: String,
+/// Reads a sheet and the name sheet beside it.
+pub fn open(source: &Source, role: Role, strict: bool) -> Result<Opened, Failure> {
+    let bytes = source.bytes()?;
+    let Some(file) = &source.file else { return Ok(opened(source, &bytes, role, strict, Vec::new())) };
+    let beside = names::beside(file, strict)?;
+    let mut opened = opened(source, &bytes, role, strict, beside.names);
+    opened.hints.extend(names::hint(beside.sheet.as_ref(), &opened.about));
+    opened.hints.extend(outdated(file, &bytes));
+    opened.about.name_sheet = beside.sheet;
+    Ok(opened)
 }
 
-impl Sheet {
-    /// Reads a file.
-    pub fn read(path: &Path) -> Result<Sheet, Failure> {
-        let mut bytes = Vec::new();
-        File::open(path)
-            .and_then(|file| file.take(MOST_BYTES + 1).read_to_end(&mut bytes))
-            .map_err(|error| Failure::file("reading", path, error))?;
-        if bytes.len() as u64 > MOST_BYTES {
-            return Err(Failure::file("reading", path, "the file is too long for a sheet"));
+/// Reads a sheet by itself, from bytes, with the names of its cues.
+pub fn opened(source: &Source, bytes: &[u8], role: Role, strict: bool, names: Vec<String>) -> Opened {
+    let mut about = Sheet { path: path_shown(&source.given), role, names, ..Sheet::default() };
+    let reading = if strict { table::strict(bytes) } else { table::read(bytes, source.sheet.as_deref()) };
+    let table = match reading {
+        Ok(reading) => {
+            about.mended.clone_from(&reading.mended);
+            let loaded = Table::load(&reading.text);
+            if let Err(refusal) = &loaded {
+                about.refusal = Some(explain(&reading, refusal.question, &source.given, &about));
+                let ((top, left), rows) = reading.shown();
+                about.cells = Some(Cells { row: top + 1, column: left + 1, rows });
+            }
+            loaded.ok()
         }
-        Ok(Sheet { path: path.to_owned(), bytes })
-    }
-
-    /// The sheet as the proved programs see it: a file that cannot be read counts as empty.
-    pub fn read_or_empty(path: &Path) -> Sheet {
-        Sheet::read(path).unwrap_or_else(|_| Sheet { path: path.to_owned(), bytes: Vec::new() })
-    }
-
-    /// The table, or the earliest question that fails.
-    pub fn table(&self) -> Result<Table, Refusal> {
-        Table::load(&self.bytes)
-    }
-
-    /// The rows as the library takes them: parted by CR LF, the last one closed or not.
-    fn rows(&self) -> Vec<&[u8]> {
-        let closed = self.bytes.strip_suffix(b"\r\n").unwrap_or(&self.bytes);
-        let mut rows = Vec::new();
-        let mut rest = closed;
-        while let Some(end) = rest.windows(2).position(|pair| pair == b"\r\n") {
-            rows.push(&rest[..end]);
-            rest = &rest[end + 2..];
+        Err(unread) => {
+            about.refusal = Some(unreadable(unread, bytes));
+            None
         }
-        rows.push(rest);
-        rows
-    }
+    };
+    about.order = table.as_ref().map(Table::order);
+    about.table = table.as_ref().map(rows);
+    Opened { about, table, hints: Vec::new() }
+}
 
-    /// What stands in a row, counted from 1.
-    pub fn row(&self, row: usize) -> String {
-        format!("\"{}\"", String::from_utf8_lossy(self.rows()[row - 1]).replace(char::is_control, " "))
+/// A file that has no cells to ask about, or cells with two readings. The library's question is named where the file is text.
+fn unreadable(unread: Unread, bytes: &[u8]) -> Refusal {
+    let is_text = !crate::reader::is_workbook(bytes) && std::str::from_utf8(bytes).is_ok();
+    let question = Table::load(bytes).err().map(|refusal| refusal.question.number() as usize);
+    Refusal {
+        question: question.filter(|_| is_text),
+        faults: vec![Fault { place: unread.place, cells: Vec::new(), there: unread.there }],
+        more: 0,
+        expected: unread.expected,
+        to_do: unread.to_do,
     }
+}
 
-    /// The cells of the sheet, row after row.
-    fn cells(&self) -> impl Iterator<Item = Cell> + '_ {
-        self.rows().into_iter().enumerate().flat_map(|(row, cells)| {
-            cells.split(|&byte| byte == b',').enumerate().map(move |(column, text)| Cell {
-                row: row + 1,
-                column: column + 1,
-                text: String::from_utf8_lossy(text).into_owned(),
-            })
-        })
-    }
+/// A mended sheet whose original now holds something else.
+fn outdated(file: &Path, bytes: &[u8]) -> Option<String> {
+    let original = with_endings(&original_of(file)?).into_iter().next()?;
+    let now = table::read(&Source::new(&original).bytes().ok()?, None).ok()?;
+    (now.text != bytes).then(|| {
+        format!(
+            "{} holds something else than {}, which was mended from it earlier: give {} itself.",
+            path_shown(&original),
+            path_shown(file),
+            path_shown(&original)
+        )
+    })
+}
 
-    /// The first cell for which something holds.
-    pub fn find_cell(&self, holds: impl Fn(&str) -> bool) -> Option<Cell> {
-        self.cells().find(|cell| holds(&cell.text))
-    }
+/// `show` for `show.mended.csv`.
+pub fn original_of(file: &Path) -> Option<PathBuf> {
+    let name = file.file_name()?.to_str()?;
+    Some(file.with_file_name(name.strip_suffix(".mended.csv")?))
+}
 
-    /// The cell in which a byte stands.
-    pub fn cell_at(&self, place: usize) -> Cell {
-        let before = Sheet { path: PathBuf::new(), bytes: self.bytes[..place].to_vec() };
-        let closed = before.bytes.ends_with(b"\r\n");
-        let rows = before.rows();
-        let last = if closed { &[][..] } else { rows[rows.len() - 1] };
-        let column = last.split(|&byte| byte == b',').count();
-        Cell { row: rows.len() + usize::from(closed), column, text: character(&self.bytes[place..]) }
+/// Tells why a sheet is refused.
+pub fn explain(reading: &Reading, question: Question, path: &Path, about: &Sheet) -> Refusal {
+    let mut refusal = match question {
+        _ if is_too_large(reading.height, reading.width) => too_large(reading),
+        Question::TextLength => text_length(reading),
+        Question::TextByte { place } => bad_cells(reading, Some(place)),
+        Question::FieldStart | Question::FieldLength | Question::FieldRange => bad_cells(reading, None),
+        Question::Square => square(reading),
+        Question::CellRange { cell } => cell_range(reading, cell),
+        Question::Associativity { i, j, k } => associativity(reading, [i, j, k], about),
+        other => one_fault("the whole sheet".into(), other.to_string(), "", ""),
+    };
+    refusal.question = Some(question.number() as usize);
+    if reading.strict && table::read(&reading.text, None).is_ok_and(|reading| Table::load(&reading.text).is_ok()) {
+        refusal.to_do = format!("leave out --strict, or run: tickdrizzle mend {}", typed(path));
     }
+    refusal
+}
 
-    /// How many cells each row has.
-    pub fn widths(&self) -> Vec<usize> {
-        self.rows().iter().map(|row| row.split(|&byte| byte == b',').count()).collect()
+fn one_fault(place: String, there: String, expected: &str, to_do: &str) -> Refusal {
+    several(vec![Fault { place, cells: Vec::new(), there }], expected, to_do)
+}
+
+/// A refusal by faults of one kind.
+pub fn several(mut faults: Vec<Fault>, expected: &str, to_do: &str) -> Refusal {
+    let more = faults.len().saturating_sub(MOST_FAULTS);
+    faults.truncate(MOST_FAULTS);
+    Refusal { question: None, faults, more, expected: expected.into(), to_do: to_do.into() }
+}
+
+/// Whether a sheet of this size is a table with too many cues, or has cells that are not kept.
+fn is_too_large(rows: usize, columns: usize) -> bool {
+    rows.min(columns) > GREATEST_ORDER || rows.max(columns) > MOST_KEPT
+}
+
+fn too_large(reading: &Reading) -> Refusal {
+    one_fault(
+        "the whole sheet".into(),
+        format!("{} of {}", count(reading.height, "row"), count(reading.width, "cell")),
+        &format!("at most {GREATEST_ORDER} rows and columns, one for each cue"),
+        &format!("the table is too large for this program: cut the show down to {GREATEST_ORDER} cues"),
+    )
+}
+
+fn text_length(reading: &Reading) -> Refusal {
+    let there = match reading.text.len() {
+        0 => "nothing: the sheet is empty".to_string(),
+        length => format!("{length} bytes"),
+    };
+    let expected = format!("a table: at most {LONGEST_TEXT} bytes for {GREATEST_ORDER} cues");
+    one_fault("the whole sheet".into(), there, &expected, "check that this is the right file, and save the sheet again")
+}
+
+/// The fault that a cell is.
+fn in_cell(at: (usize, usize), there: String) -> Fault {
+    Fault { place: place(at), cells: vec![[at.0 + 1, at.1 + 1]], there }
+}
+
+/// Cells that are no cue numbers: first the one where the byte stands that the library refuses.
+fn bad_cells(reading: &Reading, byte: Option<usize>) -> Refusal {
+    let told = |text: &str| if text.is_empty() { "an empty cell".into() } else { shown(text) };
+    let mut bad = reading.bad_cells();
+    let first = byte.map(|byte| reading.place_of(byte));
+    let mut faults = Vec::new();
+    let mut expected = String::new();
+    if let (Some(byte), Some(at)) = (byte, first) {
+        let found = bad.iter().position(|(place, _, _)| *place == at).map(|found| bad.remove(found));
+        expected = found
+            .map_or_else(|| "digits, a comma between cells, CR LF after each row".into(), |(_, _, expected)| expected);
+        let there = if reading.strict { character(&reading.text[byte..]) } else { told(&reading.cell(at).text) };
+        faults.push(in_cell(at, there));
+    } else if let Some((_, _, first)) = bad.first() {
+        expected.clone_from(first);
     }
+    faults.extend(bad.iter().map(|(at, cell, _)| in_cell(*at, told(&cell.text))));
+    let to_do = if faults.len() == 1 { "correct the cell" } else { "correct the cells" };
+    several(faults, &expected, to_do)
 }
 
 /// The first character of some bytes, as one would name it.
 fn character(bytes: &[u8]) -> String {
-    let byte = bytes[0];
     match bytes {
         [0xEF, 0xBB, 0xBF, ..] => "a byte order mark".into(),
         [0xFF, 0xFE, ..] | [0xFE, 0xFF, ..] => "the mark of UTF-16 text".into(),
-        [b'\r', b'\n', ..] => "a line break".into(),
         [b'\n', ..] => "a line break LF without CR".into(),
         [b'\r', ..] => "a line break CR without LF".into(),
         [b'\t', ..] => "a tab".into(),
         [b' ', ..] => "a space".into(),
         [b'"', ..] => "a quote mark".into(),
         _ => match String::from_utf8_lossy(&bytes[..bytes.len().min(4)]).chars().next() {
-            Some(first) if first != '\u{FFFD}' && !first.is_control() => format!("\"{first}\""),
-            _ => format!("the byte {byte:02X} (hexadecimal)"),
+            Some(first) if first != '\u{FFFD}' => shown(&first.to_string()),
+            _ => format!("the byte {:02X} (hexadecimal)", bytes[0]),
         },
     }
 }
 
-/// Whether a grid of this size is a table with too many cues.
-pub fn is_too_large(rows: usize, columns: usize) -> bool {
-    rows > GREATEST_ORDER && columns > GREATEST_ORDER
-}
-
-/// The two sheets that a folder or two paths name: the show's and the rig's.
-pub fn pair(paths: &[PathBuf]) -> Result<[PathBuf; 2], Failure> {
-    match paths {
-        [folder] => Ok([folder_of(folder)?.join("source.csv"), folder.join("target.csv")]),
-        [source, target] => Ok([source.clone(), target.clone()]),
-        _ => Err(Failure::usage("give a folder or two sheets")),
-    }
-}
-
-/// The path, where it is a folder.
-pub fn folder_of(path: &Path) -> Result<&Path, Failure> {
-    match path.metadata() {
-        Err(error) => Err(Failure::file("reading", path, error)),
-        Ok(data) if data.is_dir() => Ok(path),
-        Ok(_) => Err(Failure::usage(format!("{}: this is one sheet; give its folder, or both sheets", path.display()))),
-    }
-}
-
-/// The sheet that a path names: itself, or a folder's source.csv.
-pub fn single(path: &Path) -> PathBuf {
-    if path.is_dir() {
-        path.join("source.csv")
-    } else {
-        path.to_owned()
-    }
-}
-
-/// The sheets that paths name: a folder stands for its source.csv and target.csv.
-pub fn each(paths: &[PathBuf]) -> Vec<PathBuf> {
-    let sheets = |path: &PathBuf| {
-        if path.is_dir() {
-            vec![path.join("source.csv"), path.join("target.csv")]
-        } else {
-            vec![path.clone()]
-        }
+/// Which rows are not as long as the first, or that there are too many or too few.
+fn square(reading: &Reading) -> Refusal {
+    let widths = reading.widths();
+    let first = widths.first().copied().unwrap_or(0);
+    let uneven = |(row, &width): (usize, &usize)| {
+        let place = format!("row {}", reading.top + row + 1);
+        (width != first).then(|| Fault {
+            place,
+            cells: vec![[reading.top + row + 1, reading.left + 1]],
+            there: count(width, "cell"),
+        })
     };
-    paths.iter().flat_map(sheets).collect()
+    let mut faults: Vec<_> = widths.iter().enumerate().filter_map(uneven).collect();
+    if faults.is_empty() {
+        let there = format!("{} of {}", count(reading.height, "row"), count(first, "cell"));
+        faults.push(Fault { place: "the whole sheet".into(), cells: Vec::new(), there });
+    }
+    let expected = format!("{} of {}, as the first row has", count(first, "row"), count(first, "cell"));
+    several(faults, &expected, "complete the table, or delete what is left over")
 }
 
-#[cfg(test)]
-mod tests {
-    use super::*;
+/// Cells above the order of the table, which loads.
+fn cell_range(reading: &Reading, first: usize) -> Refusal {
+    let order = reading.height;
+    let cells = loaded(reading);
+    let above = (first - 1..order * order).filter(|&cell| usize::from(cells[cell]) > order);
+    let at = |cell: usize| (reading.top + cell / order, reading.left + cell % order);
+    let faults: Vec<_> = above.map(|cell| in_cell(at(cell), shown(&cells[cell].to_string()))).collect();
+    let to_do = if faults.len() == 1 { "correct the cell" } else { "correct the cells" };
+    several(faults, &format!("a cue of this table, 1 to {order}"), to_do)
+}
 
-    fn sheet(text: &str) -> Sheet {
-        Sheet { path: "sheet.csv".into(), bytes: text.into() }
+/// The triple, both ways round, with the cells that were looked up.
+fn associativity(reading: &Reading, [i, j, k]: [usize; 3], about: &Sheet) -> Refusal {
+    let order = reading.height;
+    let cells = loaded(reading);
+    let product = |a: usize, b: usize| usize::from(cells[(a - 1) * order + (b - 1)]);
+    let (ij, jk) = (product(i, j), product(j, k));
+    let (left, right) = (product(ij, k), product(i, jk));
+    let mut looked_up = vec![(i, j), (ij, k), (j, k), (i, jk)];
+    for place in (1..4).rev() {
+        if looked_up[..place].contains(&looked_up[place]) {
+            looked_up.remove(place);
+        }
     }
+    let at = |(row, column): (usize, usize)| [reading.top + row, reading.left + column];
+    let suspects: Vec<_> = looked_up.iter().map(|&cell| at(cell)).collect();
+    let told: Vec<_> = suspects.iter().map(|[row, column]| row_and_column(*row, *column)).collect();
+    let fault = Fault {
+        place: format!("cues {}, {}, {}", about.label(i), about.label(j), about.label(k)),
+        cells: suspects,
+        there: format!("{i}·{j} = {ij}, {ij}·{k} = {left}; {j}·{k} = {jk}, {i}·{jk} = {right}"),
+    };
+    let expected = format!("the same cue both ways: ({i}·{j})·{k} = {i}·({j}·{k})");
+    several(vec![fault], &expected, &format!("one of these cells is wrong: {}", told.join("; ")))
+}
 
-    #[test]
-    fn a_byte_stands_in_the_cell_behind_the_commas_before_it() {
-        let place = sheet("1,2\r\n2,x\r\n").cell_at(7);
-        assert_eq!(place, Cell { row: 2, column: 2, text: "\"x\"".into() });
-        assert_eq!(sheet("1,2\r\nx,1\r\n").cell_at(5).row, 2);
-        assert_eq!(sheet("x").cell_at(0), Cell { row: 1, column: 1, text: "\"x\"".into() });
-    }
-
-    #[test]
-    fn a_last_break_closes_a_row_and_opens_none() {
-        assert_eq!(sheet("1,2\r\n2,1\r\n").widths(), [2, 2]);
-        assert_eq!(sheet("1,2\r\n2,1").widths(), [2, 2]);
-        assert_eq!(sheet("1,2\r\n2,1\r\n\r\n").widths(), [2, 2, 1]);
-    }
+/// The cells of a sheet that loads.
+fn loaded(reading: &Reading) -> Vec<u8> {
+    let mut cells = vec![0; tickdrizzle::MOST_CELLS];
+    tickdrizzle::load(&reading.text, &mut cells).expect("questions about cells are asked of a sheet that loads");
+    cells
 }

@@ -1,4 +1,4 @@
-//! Interrupts: the progress line goes, and no file is left half written.
+//! Interrupts: the progress line goes, and no file is left half written. And whether standard output was closed at the start.
 //!
 //! All unsafe code of this program is here.
 
@@ -6,6 +6,7 @@ use libc::{c_int, SIGHUP, SIGINT, SIGTERM};
 use std::io::{stderr, IsTerminal};
 use std::mem::MaybeUninit;
 use std::ptr;
+use std::sync::atomic::{AtomicBool, Ordering};
 
 /// Moves to the front of the line and erases it.
 const ERASE: &[u8] = b"\r\x1b[2K";
@@ -43,4 +44,22 @@ pub fn uninterrupted<T>(work: impl FnOnce() -> T) -> T {
     // SAFETY: the mask was filled above.
     unsafe { libc::pthread_sigmask(libc::SIG_SETMASK, before.as_ptr(), ptr::null_mut()) };
     done
+}
+
+/// Whether the program was started with standard output closed. The standard library opens a device in its place before `main`.
+pub fn is_output_closed() -> bool {
+    OUTPUT_CLOSED.load(Ordering::Relaxed)
+}
+
+static OUTPUT_CLOSED: AtomicBool = AtomicBool::new(false);
+
+// SAFETY: the linker puts pointers to functions without arguments in this section, and they are called before `main`.
+#[used]
+#[unsafe(link_section = ".init_array")]
+static AT_START: extern "C" fn() = note_closed_output;
+
+extern "C" fn note_closed_output() {
+    // SAFETY: the call looks at a number and changes nothing.
+    let flags = unsafe { libc::fcntl(libc::STDOUT_FILENO, libc::F_GETFD) };
+    OUTPUT_CLOSED.store(flags == -1, Ordering::Relaxed);
 }

@@ -1,10 +1,13 @@
 //! How a run ends: its exit status, and what is said where it fails.
 
-use std::fmt::Display;
+use crate::words::{error_words, path_shown};
+use serde::Serialize;
+use std::io;
 use std::path::Path;
 
 /// The exit statuses, as the manual has them.
-#[derive(Clone, Copy, Debug, PartialEq, Eq)]
+#[derive(Clone, Copy, Debug, PartialEq, Eq, Serialize)]
+#[serde(rename_all = "snake_case")]
 pub enum Status {
     Found = 0,
     None = 1,
@@ -14,43 +17,35 @@ pub enum Status {
     Usage = 64,
 }
 
-/// What a command says, and how it ends.
-pub struct Report {
-    pub text: String,
-    pub status: Status,
-}
-
-/// Why a command has no answer. A refusal is said on standard output, as answers are; what else fails on standard error.
-#[derive(Debug)]
+/// Why a command has no answer.
+#[derive(Clone, Debug)]
 pub struct Failure {
-    /// The answers before it, of a command that takes several sheets.
-    pub said: String,
     pub message: String,
     pub status: Status,
 }
 
 impl Failure {
-    fn new(message: String, status: Status) -> Failure {
-        Failure { said: String::new(), message, status }
-    }
-
-    /// The same failure, behind these answers.
-    pub fn after(self, said: String) -> Failure {
-        Failure { said, ..self }
-    }
-
     /// A file that could not be read or written.
-    pub fn file(doing: &str, path: &Path, error: impl Display) -> Failure {
-        Failure::new(format!("{}: {doing} failed: {error}", path.display()), Status::Failed)
+    pub fn file(path: &Path, words: &str) -> Failure {
+        Failure { message: format!("{}: {words}", path_shown(path)), status: Status::Failed }
     }
 
-    /// A sheet that cannot be used.
-    pub fn refused(explanation: impl Display) -> Failure {
-        Failure::new(explanation.to_string(), Status::Refused)
+    /// A file that the system would not read.
+    pub fn reading(path: &Path, error: &io::Error) -> Failure {
+        Failure::file(path, &format!("reading failed: {}", error_words(error)))
+    }
+
+    /// A file that the system would not write.
+    pub fn writing(path: &Path, error: &io::Error) -> Failure {
+        let words = match error.kind() {
+            io::ErrorKind::NotFound => "there is no such folder".into(),
+            _ => error_words(error),
+        };
+        Failure::file(path, &format!("writing failed: {words}"))
     }
 
     /// Arguments that do not say what to do.
     pub fn usage(message: impl Into<String>) -> Failure {
-        Failure::new(message.into(), Status::Usage)
+        Failure { message: message.into(), status: Status::Usage }
     }
 }

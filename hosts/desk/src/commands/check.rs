@@ -1,35 +1,22 @@
 //! Whether sheets are linking tables or name sheets.
 
+use super::Work;
+use crate::answer::Role;
 use crate::arguments::CheckArguments;
-use crate::mend_names::is_name_sheet;
-use crate::named::Named;
-use crate::names;
-use crate::sheet::{self, Sheet};
-use crate::status::{Failure, Report, Status};
-use crate::words::count;
-use std::path::Path;
+use crate::input;
+use crate::names::{self, is_name_sheet};
+use crate::sheet::{open, Opened};
+use crate::status::Failure;
 
-pub fn run(arguments: &CheckArguments) -> Result<Report, Failure> {
-    let mut report = Report { text: String::new(), status: Status::Found };
-    for path in sheet::each(&arguments.paths) {
-        match checked(&path) {
-            Ok(what) => report.text += &format!("{}: {what}.\n", path.display()),
-            Err(failure) if failure.status == Status::Refused => {
-                report.text += &failure.message;
-                report.status = Status::Refused;
-            }
-            Err(failure) => return Err(failure.after(report.text)),
-        }
+pub fn run(arguments: &CheckArguments, work: &mut Work) -> Result<(), Failure> {
+    let strict = work.options.strict;
+    for source in input::each(&arguments.paths)? {
+        let sheet = if source.file.as_ref().is_some_and(|file| is_name_sheet(file)) {
+            Opened { about: names::opened(&source, strict)?, table: None, hints: Vec::new() }
+        } else {
+            open(&source, Role::Table, strict)?
+        };
+        work.take(&sheet);
     }
-    Ok(report)
-}
-
-/// What a sheet is.
-fn checked(path: &Path) -> Result<String, Failure> {
-    if is_name_sheet(path) {
-        let names = names::check(&Sheet::read(path)?).map_err(Failure::refused)?;
-        Ok(format!("a name sheet of {}", count(names, "cue")))
-    } else {
-        Ok(format!("a linking table of {}", count(Named::read(path)?.order(), "cue")))
-    }
+    Ok(())
 }

@@ -1,146 +1,108 @@
 //! Which sheets hold the same table but for the numbering.
 
+use super::Work;
+use crate::answer::{Class, Found, Role};
 use crate::arguments::ClassesArguments;
-use crate::html;
-use crate::names::Names;
-use crate::output;
+use crate::input::{self, name_of, Source};
 use crate::progress::Progress;
-use crate::sheet::Sheet;
-use crate::status::{Failure, Report, Status};
-use crate::words::{count, explain};
+use crate::sheet::{opened, original_of};
+use crate::status::{Failure, Status};
+use crate::words::count;
 use std::fs::File;
 use std::path::{Path, PathBuf};
-use tickdrizzle::{Refusal, Table};
+use tickdrizzle::Table;
 
-/// A folder is read up to this file.
+/// Of a folder the program classes reads the files up to this number.
 const LAST_FILE: usize = 50;
 
-/// A sheet, with the lowest place of its class or why it is refused. Places count from 0.
-struct Entry {
-    sheet: Sheet,
-    found: Result<(Table, usize), Refusal>,
+/// The words that the records of this program's answers begin with.
+const RECORDS: [&[u8]; 6] = [b"class,", b"total,", b"refused,", b"found,", b"none,", b"stopped,"];
+
+/// A class: a table of it, and the places of its sheets, counted from 1.
+struct Members {
+    table: Table,
+    sheets: Vec<usize>,
 }
 
-pub fn run(arguments: &ClassesArguments) -> Result<Report, Failure> {
-    let paths = sheets(&arguments.paths)?;
-    let entries = classified(&paths, arguments.csv)?;
-    if let Some(path) = &arguments.html {
-        output::write(path, page(&entries).as_bytes())?;
+pub fn run(arguments: &ClassesArguments, work: &mut Work) -> Result<(), Failure> {
+    work.page_is_allowed()?;
+    let strict = work.options.strict || arguments.csv;
+    let _line = Progress::start("comparing sheets", work.options.quiet);
+    let mut classes = Vec::<Members>::new();
+    for source in sources(&arguments.paths, arguments.csv, work)? {
+        let bytes = if arguments.csv { source.bytes_or_none() } else { source.bytes()? };
+        let sheet = opened(&source, &bytes, Role::Table, strict, Vec::new());
+        work.take(&sheet);
+        if let Some(table) = sheet.table {
+            add(&mut classes, table, work.answer.sheets.len());
+        }
     }
-    let text = if arguments.csv { records(&entries) } else { words(&entries) };
-    Ok(Report { text, status: status(&entries) })
+    if work.answer.sheets.is_empty() {
+        work.say(
+            "There is no sheet in the folder: no .csv, .ods, .xlsx, .tsv, .tab or .txt file with a table.".into(),
+            Status::None,
+        );
+    } else {
+        work.answer.says = sentence(classes.len(), work.answer.sheets.len());
+    }
+    let class = |members: Members| Class { order: members.table.order(), sheets: members.sheets };
+    work.answer.result = Some(Found::Classes(classes.into_iter().map(class).collect()));
+    Ok(())
 }
 
-fn status(entries: &[Entry]) -> Status {
-    match entries {
-        [] => Status::None,
-        _ if entries.iter().any(|entry| entry.found.is_err()) => Status::Refused,
-        _ => Status::Found,
+/// Puts a sheet into its class, or into a new one.
+fn add(classes: &mut Vec<Members>, table: Table, place: usize) {
+    let same = |members: &&mut Members| members.table.isomorphisms(&table).next().is_some();
+    match classes.iter_mut().find(same) {
+        Some(members) => members.sheets.push(place),
+        None => classes.push(Members { table, sheets: vec![place] }),
     }
 }
 
-/// The sheets that were given, or those of a folder: 01.csv, 02.csv and so on, until one cannot be opened.
-fn sheets(paths: &[PathBuf]) -> Result<Vec<PathBuf>, Failure> {
-    match paths {
-        [folder] if folder.is_dir() => Ok(numbered(folder)),
-        _ => Ok(paths.to_vec()),
-    }
+fn sentence(classes: usize, sheets: usize) -> String {
+    let classes = if classes == 1 { "1 class".into() } else { format!("{classes} classes") };
+    format!("{classes} in {}.", count(sheets, "sheet"))
 }
 
+/// The sheets that were given, or those of a folder; tells which files of a folder are left out.
+fn sources(paths: &[PathBuf], csv: bool, work: &mut Work) -> Result<Vec<Source>, Failure> {
+    let [folder] = paths else { return input::each_file(paths) };
+    if !folder.is_dir() {
+        return input::each_file(paths);
+    }
+    let sheets = input::sheets(folder);
+    let (taken, left): (Vec<PathBuf>, Vec<PathBuf>) = if csv {
+        let numbered = numbered(folder);
+        let left = sheets.into_iter().filter(|path| !numbered.contains(path)).collect();
+        (numbered, left)
+    } else {
+        sheets.into_iter().partition(|path| !is_answer(path) && !is_copy(path))
+    };
+    if !left.is_empty() {
+        let why = if csv {
+            "01.csv, 02.csv and so on are read, up to 50.csv and the first gap"
+        } else {
+            "answers of this program and mended copies"
+        };
+        let names: Vec<_> = left.iter().map(|path| name_of(path)).collect();
+        work.answer.hints.push(format!("Left out: {} ({why}).", names.join(", ")));
+    }
+    Ok(taken.iter().map(|path| Source::new(path)).collect())
+}
+
+/// The files that the program classes reads: 01.csv, 02.csv and so on, until one cannot be opened.
 fn numbered(folder: &Path) -> Vec<PathBuf> {
     let names = (1..=LAST_FILE).map(|number| folder.join(format!("{number:02}.csv")));
     names.take_while(|path| File::open(path).is_ok()).collect()
 }
 
-fn classified(paths: &[PathBuf], csv: bool) -> Result<Vec<Entry>, Failure> {
-    let _line = Progress::start("comparing sheets");
-    let mut entries = Vec::<Entry>::new();
-    for path in paths {
-        let sheet = if csv { Sheet::read_or_empty(path) } else { Sheet::read(path)? };
-        let found = sheet.table().map(|table| {
-            let lowest = lowest(&table, &entries).unwrap_or(entries.len());
-            (table, lowest)
-        });
-        entries.push(Entry { sheet, found });
-    }
-    Ok(entries)
+/// Whether a file holds records that this program printed.
+fn is_answer(path: &Path) -> bool {
+    let bytes = Source::new(path).bytes_or_none();
+    RECORDS.iter().any(|word| bytes.starts_with(word))
 }
 
-/// The lowest place of the class that a table belongs to.
-fn lowest(table: &Table, entries: &[Entry]) -> Option<usize> {
-    entries.iter().enumerate().find_map(|(place, entry)| match &entry.found {
-        Ok((other, lowest)) if *lowest == place && is_isomorphic(other, table) => Some(place),
-        _ => None,
-    })
-}
-
-fn is_isomorphic(one: &Table, other: &Table) -> bool {
-    one.isomorphisms(other).next().is_some()
-}
-
-/// The classes by rising lowest place: the places of their members.
-fn classes(entries: &[Entry]) -> Vec<Vec<usize>> {
-    let lowest = |place: usize| entries[place].found.as_ref().ok().map(|(_, lowest)| *lowest);
-    let firsts = (0..entries.len()).filter(|&place| lowest(place) == Some(place));
-    firsts.map(|first| (first..entries.len()).filter(|&place| lowest(place) == Some(first)).collect()).collect()
-}
-
-/// What the program classes prints.
-fn records(entries: &[Entry]) -> String {
-    let mut text = String::new();
-    for (place, entry) in entries.iter().enumerate() {
-        text += &match &entry.found {
-            Ok((table, lowest)) => format!("class,{},{},{}\r\n", place + 1, table.order(), lowest + 1),
-            Err(refusal) => format!("refused,{},{}\r\n", place + 1, refusal.question.number()),
-        };
-    }
-    for members in classes(entries) {
-        text += &format!("total,{},{}\r\n", members[0] + 1, members.len());
-    }
-    text
-}
-
-fn sentence(entries: &[Entry]) -> String {
-    let classes = classes(entries).len();
-    format!(
-        "{} in {}.",
-        if classes == 1 { "1 class".into() } else { format!("{classes} classes") },
-        count(entries.len(), "sheet")
-    )
-}
-
-fn order(entry: &Entry) -> usize {
-    entry.found.as_ref().map_or(0, |(table, _)| table.order())
-}
-
-fn words(entries: &[Entry]) -> String {
-    if entries.is_empty() {
-        return "There is no sheet: a folder needs 01.csv, 02.csv and so on.\n".into();
-    }
-    let mut text = sentence(entries) + "\n";
-    for (number, members) in classes(entries).iter().enumerate() {
-        text += &format!("Class {}, of {}:\n", number + 1, count(order(&entries[members[0]]), "cue"));
-        for &member in members {
-            text += &format!("  {}\n", entries[member].sheet.path.display());
-        }
-    }
-    text + &refusals(entries).concat()
-}
-
-fn refusals(entries: &[Entry]) -> Vec<String> {
-    let words = |entry: &Entry| {
-        let refusal = *entry.found.as_ref().err()?;
-        Some(explain(&entry.sheet, refusal, &Names::default()).to_string())
-    };
-    entries.iter().filter_map(words).collect()
-}
-
-fn page(entries: &[Entry]) -> String {
-    let name = |&member: &usize| entries[member].sheet.path.display().to_string();
-    let class = |members: &Vec<usize>| html::Class {
-        order: order(&entries[members[0]]),
-        members: members.iter().map(name).collect(),
-    };
-    let classes: Vec<_> = classes(entries).iter().map(class).collect();
-    html::classes_page(&sentence(entries), &classes, &refusals(entries))
+/// Whether a file was mended from another one that is there too.
+fn is_copy(path: &Path) -> bool {
+    original_of(path).is_some_and(|original| !input::with_endings(&original).is_empty())
 }

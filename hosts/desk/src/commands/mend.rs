@@ -1,151 +1,136 @@
-//! Sheets that load, made from what spreadsheets write.
+//! Sheets that load, made from what spreadsheets save.
 
+use super::Work;
+use crate::answer::{Found, Mending, MendingState, Refusal, Role};
 use crate::arguments::MendArguments;
-use crate::mend::{self, is_mended, mended_path, Fault, Mended};
-use crate::mend_names::{self, is_name_sheet};
-use crate::names::{self, name_sheet, Names};
-use crate::output;
-use crate::sheet::{self, Sheet};
-use crate::status::{Failure, Report, Status};
-use crate::words::{count, explain, typed, Explanation};
-use std::path::{Path, PathBuf};
-use std::{fs, mem, slice};
+use crate::input::{self, Source};
+use crate::names::{self, is_name_sheet, name_sheets};
+use crate::output::holds;
+use crate::reader::{self, is_workbook};
+use crate::sheet::opened;
+use crate::status::{Failure, Status};
+use crate::words::path_shown;
+use std::path::PathBuf;
 use tickdrizzle::MOST_CELLS;
 
-pub fn run(arguments: &MendArguments) -> Result<Report, Failure> {
-    let mut report = Report { text: String::new(), status: Status::Found };
-    let mut loading = Vec::new();
-    for path in sheets(&arguments.paths) {
-        let done = one(&path, arguments, &mut report);
-        loading.push(done.map_err(|failure| failure.after(mem::take(&mut report.text)))?);
+/// A sheet that was read, as it should be.
+struct Clean {
+    text: Vec<u8>,
+    rows: usize,
+    columns: usize,
+    changes: Vec<String>,
+    /// Whether the library takes the text.
+    loads: bool,
+    refusal: Option<Refusal>,
+}
+
+pub fn run(arguments: &MendArguments, work: &mut Work) -> Result<(), Failure> {
+    work.force = arguments.force;
+    let mut mendings = Vec::new();
+    for source in sources(&arguments.paths)? {
+        let done = one(&source, arguments, work);
+        mendings.extend(done.as_ref().ok().cloned());
+        work.answer.result = Some(Found::Mended(mendings.clone()));
+        done?;
     }
-    if report.status == Status::Found && !arguments.dry_run {
-        report.text += &next(&arguments.paths, &loading);
+    if mendings.iter().any(|mending| mending.refusal.is_some()) {
+        work.answer.status = Status::Refused;
     }
-    Ok(report)
+    Ok(())
 }
 
 /// The sheets that the paths name; of a folder also the name sheets that are there.
-fn sheets(paths: &[PathBuf]) -> Vec<PathBuf> {
-    let of_path = |path: &PathBuf| {
-        let tables = sheet::each(slice::from_ref(path));
-        let names: Vec<_> = tables.iter().map(|table| name_sheet(table)).filter(|names| names.exists()).collect();
-        if path.is_dir() {
-            [tables, names].concat()
-        } else {
-            tables
-        }
+fn sources(paths: &[PathBuf]) -> Result<Vec<Source>, Failure> {
+    let mut sources = Vec::new();
+    for path in paths {
+        let tables = input::each(std::slice::from_ref(path))?;
+        let files = tables.iter().filter_map(|table| table.file.clone()).filter(|_| path.is_dir());
+        let names: Vec<Source> = files.flat_map(|file| name_sheets(&file)).map(|names| Source::new(&names)).collect();
+        sources.extend(tables);
+        sources.extend(names);
+    }
+    Ok(sources)
+}
+
+/// Mends a sheet.
+fn one(source: &Source, arguments: &MendArguments, work: &mut Work) -> Result<Mending, Failure> {
+    let bytes = source.bytes()?;
+    let is_names = source.file.as_ref().is_some_and(|file| is_name_sheet(file));
+    let clean = if is_names { clean_names(source, &bytes)? } else { clean_table(source, &bytes) };
+    let mut mending = Mending {
+        path: path_shown(&source.given),
+        rows: clean.rows,
+        columns: clean.columns,
+        changes: clean.changes,
+        output: None,
+        state: MendingState::NotMended,
+        refusal: clean.refusal,
     };
-    paths.iter().flat_map(of_path).collect()
-}
-
-/// Mends a sheet and reports it; where the sheet that loads stands.
-fn one(path: &Path, arguments: &MendArguments, report: &mut Report) -> Result<PathBuf, Failure> {
-    let sheet = Sheet::read(path)?;
-    match mended(&sheet) {
-        Ok(None) => {
-            report.text += &format!("{}: loads as it is; nothing to mend.\n{}", path.display(), still_wrong(&sheet));
-            return Ok(path.to_owned());
-        }
-        Ok(Some(mended)) => {
-            report.text += &changes(path, &mended);
-            report.text += &put(path, mended.text, arguments)?;
-        }
-        Err(explanation) => {
-            report.text += &explanation.to_string();
-            report.status = Status::Refused;
-        }
+    if !clean.loads {
+        return Ok(mending);
     }
-    Ok(beside(path))
-}
-
-/// How to go on with a folder of two linking tables, one of them mended: they no longer go by the names of the folder's sheets.
-fn next(paths: &[PathBuf], loading: &[PathBuf]) -> String {
-    let is_table = |path: &Path| Sheet::read(path).is_ok_and(|sheet| sheet.table().is_ok());
-    match (paths, loading) {
-        ([folder], [show, rig, ..])
-            if folder.is_dir() && (is_mended(show) || is_mended(rig)) && is_table(show) && is_table(rig) =>
-        {
-            format!("Next: tickdrizzle move {} {}\n", typed(show), typed(rig))
-        }
-        _ => String::new(),
+    if clean.text == bytes {
+        mending.state = MendingState::LoadsAsItIs;
+        return Ok(mending);
     }
-}
-
-/// A sheet that loads; nothing where it does as it is.
-fn mended(sheet: &Sheet) -> Result<Option<Mended>, Explanation> {
-    if loads(sheet).is_ok() {
-        return Ok(None);
-    }
-    let mend = if is_name_sheet(&sheet.path) { mend_names::mend } else { mend::mend };
-    let mended = mend(&sheet.bytes).map_err(|fault| unmended(sheet, fault))?;
-    loads(&Sheet { path: sheet.path.clone(), bytes: mended.text.clone() })?;
-    Ok(Some(mended))
-}
-
-/// Asks whether a sheet loads.
-fn loads(sheet: &Sheet) -> Result<(), Explanation> {
-    if is_name_sheet(&sheet.path) {
-        return names::check(sheet).map(|_| ());
-    }
-    match tickdrizzle::load(&sheet.bytes, &mut vec![0; MOST_CELLS]) {
-        Ok(_) => Ok(()),
-        Err(refusal) => Err(explain(sheet, refusal, &Names::default())),
-    }
-}
-
-/// A sheet that cannot be read in one way.
-fn unmended(sheet: &Sheet, fault: Fault) -> Explanation {
-    Explanation {
-        head: format!("{}: cannot be mended.", sheet.path.display()),
-        place: fault.place,
-        there: fault.there,
-        expected: fault.expected,
-        to_do: "correct this in the spreadsheet and save it again".into(),
-    }
-}
-
-fn changes(path: &Path, mended: &Mended) -> String {
-    let size = (count(mended.rows, "row"), count(mended.columns, "cell"));
-    let mut text = format!("{}: {} of {}.\n", path.display(), size.0, size.1);
-    for change in &mended.changes {
-        text += &format!("  {change}\n");
-    }
-    text
-}
-
-/// Writes the mended sheet beside the original.
-fn put(path: &Path, bytes: Vec<u8>, arguments: &MendArguments) -> Result<String, Failure> {
-    let beside = beside(path);
-    let mended = Sheet { path: beside.clone(), bytes };
-    if arguments.dry_run {
-        return Ok(format!("Would be written: {}\n{}", beside.display(), still_wrong(&mended)));
-    }
-    if fs::read(&beside).is_ok_and(|there| there == mended.bytes) {
-        return Ok(format!("Already there: {}\n{}", beside.display(), still_wrong(&mended)));
-    }
-    if beside.exists() && !arguments.replace {
-        return Err(Failure::file("writing", &beside, "it is already there; take it away, or use --replace"));
-    }
-    output::write(&beside, &mended.bytes)?;
-    Ok(format!("Written: {}\n{}", beside.display(), still_wrong(&mended)))
-}
-
-/// `show.csv` is mended as `show.mended.csv`, `show.names.csv` as `show.mended.names.csv`.
-fn beside(path: &Path) -> PathBuf {
-    if is_name_sheet(path) {
-        path.with_extension("").with_extension("mended.names.csv")
+    let output = beside(source);
+    mending.output = Some(path_shown(&output));
+    mending.state = if arguments.dry_run {
+        MendingState::WouldBeWritten
+    } else if holds(&output, &clean.text) {
+        MendingState::AlreadyThere
     } else {
-        mended_path(path)
+        work.put(&output, clean.text);
+        MendingState::Written
+    };
+    Ok(mending)
+}
+
+fn clean_table(source: &Source, bytes: &[u8]) -> Clean {
+    let about = opened(source, bytes, Role::Table, false, Vec::new()).about;
+    match reader::table::read(bytes, source.sheet.as_deref()) {
+        Ok(reading) => Clean {
+            loads: tickdrizzle::load(&reading.text, &mut vec![0; MOST_CELLS]).is_ok(),
+            rows: reading.height,
+            columns: reading.width,
+            changes: changes(reading.mended, bytes),
+            refusal: about.refusal,
+            text: reading.text,
+        },
+        Err(_) => {
+            Clean { text: Vec::new(), rows: 0, columns: 0, changes: Vec::new(), loads: false, refusal: about.refusal }
+        }
     }
 }
 
-/// What is wrong with the table of a sheet that loads.
-fn still_wrong(sheet: &Sheet) -> String {
-    match sheet.table() {
-        Err(refusal) if !is_name_sheet(&sheet.path) => {
-            format!("It is no linking table yet. {}", explain(sheet, refusal, &Names::default()))
+fn clean_names(source: &Source, bytes: &[u8]) -> Result<Clean, Failure> {
+    let about = names::opened(source, false)?;
+    Ok(match reader::names::read(bytes, source.sheet.as_deref()) {
+        Ok(reading) => Clean {
+            loads: about.refusal.is_none(),
+            rows: reading.records.len(),
+            columns: 2,
+            changes: changes(reading.mended, bytes),
+            refusal: about.refusal,
+            text: reading.text,
+        },
+        Err(_) => {
+            Clean { text: Vec::new(), rows: 0, columns: 0, changes: Vec::new(), loads: false, refusal: about.refusal }
         }
-        _ => String::new(),
+    })
+}
+
+/// What was not as it should be; of a workbook that it is one.
+fn changes(mended: Vec<String>, bytes: &[u8]) -> Vec<String> {
+    let workbook = is_workbook(bytes).then(|| "a workbook; now CSV".to_string());
+    workbook.into_iter().chain(mended).collect()
+}
+
+/// `show.ods` is mended as `show.mended.csv`, `show.names.csv` as `show.mended.names.csv`, standard input to standard output.
+fn beside(source: &Source) -> PathBuf {
+    match &source.file {
+        None => "-".into(),
+        Some(file) if is_name_sheet(file) => file.with_extension("").with_extension("mended.names.csv"),
+        Some(file) => file.with_extension("mended.csv"),
     }
 }

@@ -1,9 +1,129 @@
-//! The subcommands.
+//! The subcommands: each makes one answer.
 
-pub mod check;
-pub mod classes;
-pub mod copies;
-pub mod cut;
-pub mod mend;
-pub mod moving;
-pub mod positions;
+mod check;
+mod classes;
+mod copies;
+mod cut;
+mod mend;
+mod moving;
+mod positions;
+
+use crate::answer::Answer;
+use crate::arguments::{Command, Options, Page};
+use crate::input;
+use crate::output::{self, Output};
+use crate::sheet::Opened;
+use crate::status::{Failure, Status};
+use crate::views::page;
+use std::path::{Path, PathBuf};
+
+/// A command at work: its answer so far, what it may read and what it is to write.
+pub struct Work<'a> {
+    pub options: &'a Options,
+    pub answer: Answer,
+    /// Files that are never written.
+    pub inputs: Vec<PathBuf>,
+    pub outputs: Vec<Output>,
+    pub html: Option<PathBuf>,
+    pub force: bool,
+}
+
+/// What a command has done.
+pub struct Done {
+    pub answer: Answer,
+    /// What goes to standard output instead of the answer.
+    pub standard: Option<Vec<u8>>,
+}
+
+/// Runs a command that answers.
+pub fn run(command: &Command, options: &Options) -> Done {
+    match command {
+        Command::Move(arguments) => {
+            let paths = &arguments.tables.paths;
+            answered("move", options, paths, Some(&arguments.page), |work| moving::run(arguments, work))
+        }
+        Command::Check(arguments) => {
+            answered("check", options, &arguments.paths, None, |work| check::run(arguments, work))
+        }
+        Command::Classes(arguments) => {
+            let page = Some(&arguments.page);
+            answered("classes", options, &arguments.paths, page, |work| classes::run(arguments, work))
+        }
+        Command::Cut(arguments) => {
+            let path = std::slice::from_ref(&arguments.path);
+            answered("cut", options, path, Some(&arguments.page), |work| cut::run(arguments, work))
+        }
+        Command::Copies(arguments) => {
+            answered("copies", options, &arguments.tables.paths, None, |work| copies::run(arguments, work))
+        }
+        Command::Positions(arguments) => {
+            let path = std::slice::from_ref(&arguments.path);
+            answered("positions", options, path, None, |work| positions::run(arguments, work))
+        }
+        Command::Mend(arguments) => {
+            answered("mend", options, &arguments.paths, None, |work| mend::run(arguments, work))
+        }
+        Command::Completions(_) => unreachable!("completions are printed before"),
+    }
+}
+
+/// Lets a command work, then writes its files: a page is written whatever the answer is, so that no older one stays.
+fn answered(
+    command: &'static str,
+    options: &Options,
+    paths: &[PathBuf],
+    page: Option<&Page>,
+    work: impl FnOnce(&mut Work) -> Result<(), Failure>,
+) -> Done {
+    let mut at_work = Work {
+        options,
+        answer: Answer::new(command),
+        inputs: input::inputs(paths, command == "classes"),
+        outputs: Vec::new(),
+        html: page.and_then(|page| page.html.clone()),
+        force: page.is_some_and(|page| page.force),
+    };
+    let done = work(&mut at_work);
+    let Work { mut answer, inputs, mut outputs, html, force, .. } = at_work;
+    if let Err(failure) = done {
+        answer = answer.failed(failure);
+    }
+    if let Some(path) = html.filter(|_| answer.status != Status::Usage) {
+        outputs.push(Output::new(&path, page::page(&answer)));
+    }
+    match output::write(&outputs, &inputs, force) {
+        Ok(written) => answer.written.extend(written),
+        Err(failure) => answer = Answer::new(command).failed(failure),
+    }
+    let standard = outputs.into_iter().find(|output| output::is_standard(&output.path));
+    Done { answer, standard: standard.map(|output| output.bytes) }
+}
+
+impl Work<'_> {
+    /// Takes a sheet into the answer.
+    pub fn take(&mut self, opened: &Opened) {
+        self.answer.hints.extend(opened.hints.clone());
+        self.answer.sheets.push(opened.about.clone());
+        if opened.about.refusal.is_some() {
+            self.answer.status = Status::Refused;
+        }
+    }
+
+    /// Asks whether the page may be written, before a search that may take long.
+    pub fn page_is_allowed(&self) -> Result<(), Failure> {
+        match &self.html {
+            Some(path) if !output::is_standard(path) => output::allowed(path, None, &self.inputs, self.force),
+            _ => Ok(()),
+        }
+    }
+
+    /// Says the answer.
+    pub fn say(&mut self, says: String, status: Status) {
+        (self.answer.says, self.answer.status) = (says, status);
+    }
+
+    /// Adds a file that is to be written.
+    pub fn put(&mut self, path: &Path, bytes: Vec<u8>) {
+        self.outputs.push(Output::new(path, bytes));
+    }
+}

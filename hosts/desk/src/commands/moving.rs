@@ -1,87 +1,78 @@
 //! The first embedding of the show's table in the rig's.
 
+use super::Work;
+use crate::answer::{Found, Role};
 use crate::arguments::MoveArguments;
-use crate::html::{self, Picture};
-use crate::named::Named;
-use crate::output;
+use crate::input;
+use crate::patience::within;
 use crate::progress::Progress;
-use crate::sheet::{self, Sheet};
-use crate::status::{Failure, Report, Status};
+use crate::sheet::{open, opened};
+use crate::status::{Failure, Status};
 use crate::words::count;
-use std::path::PathBuf;
+use std::time::Duration;
 use tickdrizzle::{LimitedSearch, Table};
+
+/// How long a hint may take.
+const HINT_TIME: Duration = Duration::from_secs(1);
 
 /// What came of a search; the trials where they were counted.
 enum Outcome {
-    Found { map: Vec<u8>, trials: Option<u32> },
+    Found { images: Vec<u8>, trials: Option<u32> },
     None { trials: Option<u32> },
-    Stopped { limit: u32 },
+    Stopped { enough: String },
 }
 
-impl Outcome {
-    /// The images, where there are any.
-    fn map(&self) -> &[u8] {
-        match self {
-            Outcome::Found { map, .. } => map,
-            _ => &[],
-        }
+pub fn run(arguments: &MoveArguments, work: &mut Work) -> Result<(), Failure> {
+    work.page_is_allowed()?;
+    let strict = work.options.strict || arguments.csv;
+    let paths = &arguments.tables.paths;
+    let sources = if arguments.csv { input::strict_pair(paths)? } else { input::pair(paths)? };
+    let mut tables = Vec::new();
+    for (source, role) in sources.iter().zip([Role::Show, Role::Rig]) {
+        let sheet = if arguments.csv {
+            opened(source, &source.bytes_or_none(), role, strict, Vec::new())
+        } else {
+            open(source, role, strict)?
+        };
+        work.take(&sheet);
+        tables.extend(sheet.table);
     }
-
-    fn status(&self) -> Status {
-        match self {
-            Outcome::Found { .. } => Status::Found,
-            Outcome::None { .. } => Status::None,
-            Outcome::Stopped { .. } => Status::Stopped,
-        }
+    let [source, target] = &tables[..] else { return Ok(()) };
+    let outcome = search(source, target, arguments, work.options.quiet);
+    let (status, says) = (status(&outcome), sentence(source, target, &outcome));
+    work.say(says, status);
+    if let Outcome::Found { images, trials } = outcome {
+        work.answer.result = Some(Found::Map { images, trials });
     }
+    if !arguments.csv {
+        work.answer.hints.extend(hint(&sources, source, target, status));
+    }
+    Ok(())
 }
 
-pub fn run(arguments: &MoveArguments) -> Result<Report, Failure> {
-    let paths = sheet::pair(&arguments.tables.paths)?;
-    if arguments.csv {
-        return records(&paths, arguments.limit);
-    }
-    let (source, target) = (Named::read(&paths[0])?, Named::read(&paths[1])?);
-    let outcome = search(&source.table, &target.table, arguments.limit);
-    if let Some(path) = &arguments.html {
-        output::write(path, page(&source, &target, &outcome).as_bytes())?;
-    }
-    Ok(Report { text: words(&source, &target, &outcome), status: outcome.status() })
-}
-
-fn search(source: &Table, target: &Table, limit: Option<u32>) -> Outcome {
-    let _line = Progress::start("looking for partners");
-    match limit {
-        None => match source.embeddings(target).next() {
-            Some(map) => Outcome::Found { map, trials: None },
-            None => Outcome::None { trials: None },
-        },
-        Some(limit) => match source.embedding_within(target, limit) {
-            (LimitedSearch::Found { trials }, Some(map)) => Outcome::Found { map, trials: Some(trials) },
+fn search(source: &Table, target: &Table, arguments: &MoveArguments, quiet: bool) -> Outcome {
+    let _line = Progress::start("looking for partners", quiet);
+    if let Some(limit) = arguments.limit {
+        return match source.embedding_within(target, limit) {
+            (LimitedSearch::Found { trials }, Some(images)) => Outcome::Found { images, trials: Some(trials) },
             (LimitedSearch::None { trials }, _) => Outcome::None { trials: Some(trials) },
-            _ => Outcome::Stopped { limit },
-        },
+            _ => Outcome::Stopped { enough: format!("{} {}", tried(limit), if limit == 1 { "is" } else { "are" }) },
+        };
+    }
+    let tables = (source.clone(), target.clone());
+    match within(arguments.timeout, move || tables.0.embeddings(&tables.1).next()) {
+        Some(Some(images)) => Outcome::Found { images, trials: None },
+        Some(None) => Outcome::None { trials: None },
+        None => Outcome::Stopped { enough: format!("{:?} is", arguments.timeout.unwrap_or_default()) },
     }
 }
 
-/// What the program recue prints. It knows no limit: where one is reached, the record begins with `stopped`.
-fn records(paths: &[PathBuf; 2], limit: Option<u32>) -> Result<Report, Failure> {
-    let table = |place: usize| {
-        let refused = |number| Failure::refused(format!("refused,{},{number}\r\n", place + 1));
-        Sheet::read_or_empty(&paths[place]).table().map_err(|refusal| refused(refusal.question.number()))
-    };
-    let (source, target) = (table(0)?, table(1)?);
-    let outcome = search(&source, &target, limit);
-    let word = match outcome {
-        Outcome::Found { .. } => "found",
-        Outcome::None { .. } => "none",
-        Outcome::Stopped { .. } => "stopped",
-    };
-    let mut text = format!("{word},{},{}\r\n", source.order(), target.order());
-    for (element, image) in outcome.map().iter().enumerate() {
-        text += &format!("{},{image}\r\n", element + 1);
+fn status(outcome: &Outcome) -> Status {
+    match outcome {
+        Outcome::Found { .. } => Status::Found,
+        Outcome::None { .. } => Status::None,
+        Outcome::Stopped { .. } => Status::Stopped,
     }
-    Ok(Report { text, status: outcome.status() })
 }
 
 fn sentence(source: &Table, target: &Table, outcome: &Outcome) -> String {
@@ -96,9 +87,9 @@ fn sentence(source: &Table, target: &Table, outcome: &Outcome) -> String {
             "The show does not fit: there is no way to give its {cues} partners among the rig's {order}.{}",
             counted(trials)
         ),
-        Outcome::Stopped { limit } => {
-            let are = if *limit == 1 { "is" } else { "are" };
-            format!("Stopped: {} {are} not enough to tell. Give a larger --limit, or none.", tried(*limit))
+        Outcome::Stopped { enough } => {
+            let option = if enough.contains("trial") { "--limit" } else { "--timeout" };
+            format!("Stopped: {enough} not enough to tell. Give a larger {option}, or none.")
         }
     }
 }
@@ -107,22 +98,16 @@ fn tried(trials: u32) -> String {
     count(trials as usize, "trial")
 }
 
-fn words(source: &Named, target: &Named, outcome: &Outcome) -> String {
-    let mut text = sentence(&source.table, &target.table, outcome) + "\n";
-    for (label, &image) in source.labels().iter().zip(outcome.map()) {
-        text += &format!("  {label}  ->  {}\n", target.names.label(image.into()));
+/// What may have been meant: two different files, or the two the other way round.
+fn hint(sources: &[input::Source; 2], source: &Table, target: &Table, status: Status) -> Option<String> {
+    if input::is_same(&sources[0], &sources[1]) {
+        return Some("The show and the rig are the same file.".into());
     }
-    text
-}
-
-fn page(source: &Named, target: &Named, outcome: &Outcome) -> String {
-    let pictures = [
-        Picture::coloured(source.title("The show"), &source.table, &source.names),
-        Picture::marked(target.title("The rig"), &target.table, &target.names, outcome.map()),
-    ];
-    let partners = match outcome.map() {
-        [] => String::new(),
-        map => html::partners("Partners", map, &source.names, &target.names),
-    };
-    html::map_page("Moving the show", &sentence(&source.table, &target.table, outcome), &pictures, &partners)
+    if status != Status::None || source.order() <= target.order() {
+        return None;
+    }
+    let tables = (source.clone(), target.clone());
+    let fits = within(Some(HINT_TIME), move || tables.1.embeddings(&tables.0).next().is_some());
+    fits.filter(|&fits| fits)
+        .map(|_| "The rig's table fits in the show's: perhaps the two are the wrong way round.".into())
 }

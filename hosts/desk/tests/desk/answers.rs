@@ -1,6 +1,6 @@
 //! Every subcommand on the examples.
 
-use crate::run::{answer, folder, names, put, root, run, run_in};
+use crate::run::{answer, folder, names, put, root, run, run_in, Outcome};
 use std::fs;
 use std::path::PathBuf;
 
@@ -45,13 +45,16 @@ fn tables_that_are_fine() {
 #[test]
 fn classes_of_a_folder() {
     let records = fs::read_to_string(root().join("examples/classes/output.csv")).expect("the example has an output");
-    assert_eq!(run(&["classes", "--csv", "examples/classes"]), answer(&records, 2));
+    let csv = run(&["classes", "--csv", "examples/classes"]);
+    assert_eq!((csv.output, csv.status), (records.clone(), 2));
+    assert_eq!(run(&["classes", "--csv", "--quiet", "examples/classes"]), answer(&records, 2));
     let words = "3 classes in 6 sheets.\n\
                  Class 1, of 4 cues:\n  examples/classes/01.csv\n  examples/classes/03.csv\n\
                  Class 2, of 4 cues:\n  examples/classes/02.csv\n  examples/classes/05.csv\n\
                  Class 3, of 3 cues:\n  examples/classes/06.csv\n\
-                 examples/classes/04.csv: refused (question 3).\n  where:     row 2, column 2\n  there:     \"3\"\n  \
-                 expected:  a cue of this table, 1 to 2\n  to do:     correct the cell\n";
+                 examples/classes/04.csv: refused (question 3).\n  where:     row 2, column 2 (B2)\n  there:     \"3\"\n  \
+                 expected:  a cue of this table, 1 to 2\n  to do:     correct the cell\n\
+                 Note: Left out: output.csv (answers of this program and mended copies).\n";
     assert_eq!(run(&["classes", "examples/classes"]), answer(words, 2));
 }
 
@@ -60,14 +63,18 @@ fn classes_end_at_the_first_gap() {
     let here = folder("gap");
     put(&here, "01.csv", "1\r\n");
     put(&here, "03.csv", "1\r\n");
-    assert_eq!(run_in(&here, &["classes", "--csv", "."]), answer("class,1,1,1\r\ntotal,1,1\r\n", 0));
+    let left = "tickdrizzle: Left out: 03.csv (01.csv, 02.csv and so on are read, up to 50.csv and the first gap).\n";
+    let one = Outcome { errors: left.into(), ..answer("class,1,1,1\r\ntotal,1,1\r\n", 0) };
+    assert_eq!(run_in(&here, &["classes", "--csv", "."]), one);
+    let both = "1 class in 2 sheets.\nClass 1, of 1 cue:\n  ./01.csv\n  ./03.csv\n";
+    assert_eq!(run_in(&here, &["classes", "."]), answer(both, 0));
 }
 
 #[test]
 fn no_classes() {
     let here = folder("no-classes");
     assert_eq!(run_in(&here, &["classes", "--csv", "."]), answer("", 1));
-    let words = "There is no sheet: a folder needs 01.csv, 02.csv and so on.\n";
+    let words = "There is no sheet in the folder: no .csv, .ods, .xlsx, .tsv, .tab or .txt file with a table.\n";
     assert_eq!(run_in(&here, &["classes", "."]), answer(words, 1));
 }
 
@@ -81,7 +88,7 @@ fn classes_with_a_refused_sheet() {
     let records = "class,1,1,1\r\nrefused,2,3\r\nclass,3,1,1\r\ntotal,1,2\r\n";
     assert_eq!(run_in(&here, &[&["classes", "--csv"][..], &sheets].concat()), answer(records, 2));
     let words = "1 class in 3 sheets.\nClass 1, of 1 cue:\n  a.csv\n  c.csv\nb.csv: refused (question 3).\n  \
-                 where:     row 1, column 1\n  there:     \"2\"\n  expected:  a cue of this table, 1 to 1\n  \
+                 where:     row 1, column 1 (A1)\n  there:     \"2\"\n  expected:  a cue of this table, 1 to 1\n  \
                  to do:     correct the cell\n";
     assert_eq!(run_in(&here, &[&["classes"][..], &sheets].concat()), answer(words, 2));
 }
@@ -192,28 +199,6 @@ fn name_sheets_that_are_fine() {
 }
 
 #[test]
-fn names_of_a_mended_sheet() {
-    let here = with_names("names-mended");
-    put(&here, "source.csv", "1;2\n2;1\n");
-    assert_eq!(run_in(&here, &["mend", "source.csv"]).status, 0);
-    let output = run_in(&here, &["move", "source.mended.csv", "target.csv"]).output;
-    assert!(output.contains("  1 \"House to half\"    ->  2 \"T2 half\"\n"));
-    put(&here, "source.mended.names.csv", "1,other\r\n");
-    let output = run_in(&here, &["move", "source.mended.csv", "target.csv"]).output;
-    assert!(output.contains("  1 \"other\"  ->  2 \"T2 half\"\n  2          ->  3 \"say \\now\"\n"));
-}
-
-#[test]
-fn mended_names_of_a_sheet_that_loads() {
-    let here = with_names("mended-names");
-    put(&here, "source.names.csv", "1,half\n2,up\n");
-    assert_eq!(run_in(&here, &["move", "."]).status, 2);
-    assert_eq!(run_in(&here, &["mend", "source.names.csv"]).status, 0);
-    let output = run_in(&here, &["move", "."]).output;
-    assert!(output.contains("  1 \"half\"  ->  2 \"T2 half\"\n  2 \"up\"    ->  3 \"say \\now\"\n"));
-}
-
-#[test]
 fn names_where_links_do_not_fit() {
     let here = with_names("names-4");
     put(&here, "source.csv", "2,1\r\n1,1\r\n");
@@ -222,35 +207,62 @@ fn names_where_links_do_not_fit() {
 }
 
 #[test]
-fn a_name_sheet_that_is_refused() {
+fn a_name_sheet_that_is_refused_stops_nothing() {
     let here = with_names("names-refused");
-    let correct = "correct the name sheet, or take it away";
-    for (sheet, number, says, to_do) in [
+    let map = "The show fits: its 2 cues go to 2 of the rig's 4.\n  1  ->  2 \"T2 half\"\n  2  ->  3 \"say \\now\"\n";
+    for (sheet, number, says) in [
         (
-            "1,a\n",
-            40,
-            "where:     row 1, character 4\n  there:     a line break LF without CR\n  expected:  a number, a comma, a name and CR LF in each row", "run: tickdrizzle mend ./source.names.csv",
+            "1,",
+            41,
+            "where:     row 1, column 2 (B1)\n  there:     an empty cell\n  expected:  a name of 1 to 40 plain characters",
         ),
-        ("1,", 41, "where:     row 1\n  there:     \"1,\"\n  expected:  a name of 1 to 40 plain characters", correct),
-        ("1,a\r\n3,b\r\n", 42, "where:     row 2\n  there:     \"3,b\"\n  expected:  the next number, counted from 1, at most 120", correct),
+        (
+            "1,a\r\n3,b\r\n",
+            42,
+            "where:     row 2, column 1 (A2)\n  there:     \"3\"\n  expected:  the next number, 2",
+        ),
         (
             "1,a\r\n\r\n2,b\r\n",
             40,
-            "where:     row 2, character 1\n  there:     a line break\n  expected:  a number, a comma, a name and CR LF in each row",
-            correct,
+            "where:     row 2\n  there:     \"\"\n  expected:  a number and a name in each row",
         ),
         (
             "1,a\r\n2,b,c\r\n",
             40,
-            "where:     row 2, character 4\n  there:     \",\"\n  expected:  a number, a comma, a name and CR LF in each row", correct,
+            "where:     row 2\n  there:     \"2,b,c\"\n  expected:  a number and a name in each row",
+        ),
+        (
+            "1,Entr\u{E9}e\r\n2,b\r\n",
+            40,
+            "where:     row 1, column 2 (B1)\n  there:     \"\u{E9}\" in \"Entr\u{E9}e\"\n  expected:  names of plain ASCII letters, \
+             digits and signs, without accents",
         ),
     ] {
         put(&here, "source.names.csv", sheet);
-        let words = format!("./source.names.csv: refused (question {number}).\n  {says}\n  to do:     {to_do}\n");
-        assert_eq!(run_in(&here, &["move", "."]), answer(&words, 2));
-        assert_eq!(run_in(&here, &["check", "./source.names.csv"]), answer(&words, 2));
+        let words = |path: &str| {
+            format!(
+                "{path}: refused (question {number}).\n  {says}\n  to do:     correct the name sheet; until then cues are shown by number\n"
+            )
+        };
+        let moved = run_in(&here, &["move", "."]);
+        assert!(moved.output.starts_with(map), "{}", moved.output);
+        assert!(moved.output.contains(&words("./source.names.csv")), "{}", moved.output);
+        assert_eq!((moved.errors.as_str(), moved.status), ("", 0));
+        let checked = run_in(&here, &["check", "source.names.csv"]);
+        assert!(checked.output.starts_with(&words("source.names.csv")), "{}", checked.output);
+        assert_eq!(checked.status, 2);
         assert_eq!(run_in(&here, &["move", "--csv", "."]).status, 0);
     }
+}
+
+#[test]
+fn too_few_names_and_too_many() {
+    let here = with_names("names-number");
+    put(&here, "source.names.csv", "1,a\r\n");
+    put(&here, "target.names.csv", "1,a\r\n2,b\r\n3,c\r\n4,d\r\n5,e\r\n");
+    let words = "The show fits: its 2 cues go to 2 of the rig's 4.\n  1 \"a\"  ->  2 \"b\"\n  2      ->  3 \"c\"\n\
+                 Note: ./source.names.csv has 1 name for 2 cues.\nNote: ./target.names.csv has 5 names for 4 cues.\n";
+    assert_eq!(run_in(&here, &["move", "."]), answer(words, 0));
 }
 
 #[test]

@@ -49,10 +49,12 @@ fn arguments_that_are_not_understood() {
 #[test]
 fn what_cannot_be_read() {
     let here = folder("unread");
-    let missing = "tickdrizzle: ./source.csv: reading failed: No such file or directory (os error 2)\n";
+    let missing =
+        "tickdrizzle: .: there is no show: source.csv, .ods, .xlsx, .tsv, .tab or .txt. The folder has no file. Give \
+                   both sheets, or rename them.\n";
     assert_eq!(run_in(&here, &["move", "."]), failure(missing, 4));
     assert_eq!(run_in(&here, &["move", "--csv", "."]), answer("refused,1,20\r\n", 2));
-    let no_folder = "tickdrizzle: nowhere: reading failed: No such file or directory (os error 2)\n";
+    let no_folder = "tickdrizzle: nowhere: reading failed: there is no such file\n";
     for command in ["move", "check", "classes", "copies", "positions", "mend"] {
         assert_eq!(run_in(&here, &[command, "nowhere"]), failure(no_folder, 4));
     }
@@ -78,10 +80,10 @@ fn what_was_answered_before_a_failure_is_said() {
 fn an_answer_that_cannot_be_written() {
     let full = File::options().write(true).open("/dev/full").expect("the device is there");
     let done = program(&root(), &["move", "examples/found"]).stdout(full).output().expect("the program runs");
-    let message = "tickdrizzle: writing the answer failed: No space left on device (os error 28)\n";
+    let message = "tickdrizzle: writing the answer failed: no space left on device\n";
     assert_eq!(String::from_utf8_lossy(&done.stderr), message);
     assert_eq!(done.status.code(), Some(4));
-    let page = "tickdrizzle: /dev/full: writing failed: No space left on device (os error 28)\n";
+    let page = "tickdrizzle: /dev/full: writing failed: no space left on device\n";
     assert_eq!(run(&["move", "examples/found", "--html", "/dev/full"]), failure(page, 4));
 }
 
@@ -89,7 +91,7 @@ fn an_answer_that_cannot_be_written() {
 fn a_file_is_written_whole_or_not_at_all() {
     let here = folder("whole");
     put(&here, "table.csv", "1\r\n");
-    let message = "tickdrizzle: nowhere/part.csv: writing failed: No such file or directory (os error 2)\n";
+    let message = "tickdrizzle: nowhere/part.csv: writing failed: there is no such folder\n";
     assert_eq!(run_in(&here, &["cut", "table.csv", "--cues", "1", "-o", "nowhere/part.csv"]), failure(message, 4));
     assert_eq!(names(&here), ["table.csv"]);
 }

@@ -1,7 +1,15 @@
-//! Runs the program and compares whole outputs: every subcommand on examples, every refusal, every spreadsheet's sheet.
+//! Runs the program and compares whole outputs: every subcommand on examples, every refusal, every spreadsheet's sheet, every format,
+//! folders, options, what is written, and damaged files.
 
 mod answers;
+mod damage;
 mod endings;
+mod folders;
+mod formats;
+mod options;
+mod outputs;
+mod random;
 mod refusals;
 mod run;
 mod sheets;
+mod workbooks;

@@ -4,11 +4,11 @@ use crate::run::{answer, folder, names, put, root, run_in};
 use std::fs;
 use std::path::PathBuf;
 
-const LF: &str = "Rows ended in LF; now in CR LF.";
-const SEMICOLONS: &str = "The cells were parted by semicolons; now by commas.";
-const TABS: &str = "The cells were parted by tabs; now by commas.";
-const QUOTES: &str = "16 quoted cells now without quote marks.";
-const ZEROS: &str = "16 cells now without zeros that say nothing (\"1.0\" and \"01\" are 1).";
+const LF: &str = "rows end in LF";
+const SEMICOLONS: &str = "semicolons between the cells";
+const TABS: &str = "tabs between the cells";
+const QUOTES: &str = "16 quoted cells";
+const ZEROS: &str = "16 numbers with zeros that say nothing (\"1.0\" and \"01\" are 1)";
 
 fn sheets() -> PathBuf {
     root().join("hosts/desk/tests/sheets")
@@ -19,6 +19,8 @@ fn mended(sheet: &str, changes: &[&str]) {
     let here = folder(&format!("mend-{sheet}"));
     put(&here, sheet, fs::read(sheets().join(sheet)).expect("the sheet is there"));
     let beside = format!("{}.mended.csv", sheet.rsplit_once('.').expect("the name has an ending").0);
+    let read = format!("{sheet}: mended on reading: {}.\n{sheet}: a linking table of 4 cues.\n", changes.join("; "));
+    assert_eq!(run_in(&here, &["check", sheet]), answer(&read, 0));
     let changes: String = changes.iter().map(|change| format!("  {change}\n")).collect();
     let says = format!("{sheet}: 4 rows of 4 cells.\n{changes}");
     let dry = run_in(&here, &["mend", "--dry-run", sheet]);
@@ -66,34 +68,57 @@ fn of_python_that_load_as_they_are() {
 
 #[test]
 fn of_excel() {
-    mended("excel-utf8.csv", &["A byte order mark stood at the front; it is taken away."]);
+    mended("excel-utf8.csv", &["a byte order mark at the front"]);
     mended("excel-semicolon.csv", &[SEMICOLONS]);
     mended("excel-decimals.csv", &[SEMICOLONS, ZEROS]);
-    mended("excel-unicode.txt", &["The text was UTF-16; now it is plain digits.", TABS]);
+    mended("excel-unicode.txt", &["UTF-16 text", TABS]);
     mended("excel-tabs.txt", &[TABS]);
-    mended("excel-macintosh.csv", &["Rows ended in CR; now in CR LF."]);
-    mended("excel-blanks.csv", &["1 blank row taken away at the end.", "1 blank column taken away at the end."]);
+    mended("excel-macintosh.csv", &["rows end in CR"]);
+    mended("excel-blanks.csv", &["1 blank row at the end", "1 blank column at the end"]);
 }
 
 /// A sheet that is not mended, and why.
-fn refused(sheet: &str, place: &str, there: &str, expected: &str) {
+fn refused(sheet: &str, place: &str, there: &str, expected: &str, to_do: &str) {
     let here = folder(&format!("refuse-{sheet}"));
     put(&here, sheet, fs::read(sheets().join(sheet)).expect("the sheet is there"));
     let words = format!(
-        "{sheet}: cannot be mended.\n  where:     {place}\n  there:     {there}\n  expected:  {expected}\n  to do:     \
-         correct this in the spreadsheet and save it again\n"
+        "{sheet}: refused (question 21).\n  where:     {place}\n  there:     {there}\n  expected:  {expected}\n  to do:     {to_do}\n"
     );
     assert_eq!(run_in(&here, &["mend", sheet]), answer(&words, 2));
+    assert_eq!(run_in(&here, &["check", "--quiet", sheet]), answer(&words, 2));
     assert_eq!(names(&here), [sheet]);
 }
 
 #[test]
 fn that_are_not_mended() {
-    refused("excel-names.csv", "row 1, column 1", "\"go\"", "a whole number");
-    refused("excel-half.csv", "row 1, column 2", "\"1,5\"", "a whole number");
-    refused("excel-thousand.csv", "row 1, column 2", "\"1.000\", which has two readings", "1 or 1000");
-    let there = "two readings, \"1 0\" and \"1\"";
-    refused("excel-two-readings.csv", "row 1", there, "cells with one reading: no decimal commas");
+    let correct = "correct the cell";
+    refused("excel-half.csv", "row 1, column 2 (B1)", "\"1,5\"", "a whole number", correct);
+    let two = "1 or 1000: it has two readings";
+    refused("excel-thousand.csv", "row 1, column 2 (B1)", "\"1.000\"", two, correct);
+}
+
+#[test]
+fn with_two_readings() {
+    let here = folder("two-readings");
+    put(&here, "sheet.csv", fs::read(sheets().join("excel-two-readings.csv")).expect("the sheet is there"));
+    let words = "sheet.csv: refused (question 24).\n  where:     row 1\n  there:     two readings, \"1 0\" and \"1\"\n  \
+                 expected:  cells with one reading: no decimal commas\n  to do:     correct this in the spreadsheet and save \
+                 it again\n";
+    for command in ["check", "mend"] {
+        assert_eq!(run_in(&here, &[command, "sheet.csv"]), answer(words, 2));
+    }
+    assert_eq!(names(&here), ["sheet.csv"]);
+}
+
+#[test]
+fn with_a_heading() {
+    let here = folder("heading");
+    put(&here, "sheet.csv", fs::read(sheets().join("excel-names.csv")).expect("the sheet is there"));
+    let words =
+        "sheet.csv: mended on reading: row 1 looks like a heading: left out.\nsheet.csv: a linking table of 2 cues.\n";
+    assert_eq!(run_in(&here, &["check", "sheet.csv"]), answer(words, 0));
+    assert_eq!(run_in(&here, &["mend", "sheet.csv"]).status, 0);
+    assert_eq!(fs::read(here.join("sheet.mended.csv")).expect("it was written"), b"1,2\r\n2,1\r\n");
 }
 
 #[test]
@@ -101,7 +126,7 @@ fn that_would_not_load() {
     let here = folder("mend-large");
     put(&here, "sheet.csv", "1;121\n2;1\n");
     let words =
-        "sheet.csv: refused (question 25).\n  where:     row 1, column 2\n  there:     \"121\"\n  expected:  a cue \
+        "sheet.csv: refused (question 25).\n  where:     row 1, column 2 (B1)\n  there:     \"121\"\n  expected:  a cue \
                  number from 1 to 120\n  to do:     correct the cell\n";
     assert_eq!(run_in(&here, &["mend", "sheet.csv"]), answer(words, 2));
     assert_eq!(names(&here), ["sheet.csv"]);
@@ -113,10 +138,10 @@ fn that_are_no_linking_tables_yet() {
     put(&here, "sheet.csv", "1;3\n2;1\n");
     let words = format!(
         "sheet.csv: 2 rows of 2 cells.\n  {LF}\n  {SEMICOLONS}\nWritten: sheet.mended.csv\nIt is no linking table yet. \
-         sheet.mended.csv: refused (question 3).\n  where:     row 1, column 2\n  there:     \"3\"\n  expected:  a cue of this \
+         sheet.csv: refused (question 3).\n  where:     row 1, column 2 (B1)\n  there:     \"3\"\n  expected:  a cue of this \
          table, 1 to 2\n  to do:     correct the cell\n"
     );
-    assert_eq!(run_in(&here, &["mend", "sheet.csv"]), answer(&words, 0));
+    assert_eq!(run_in(&here, &["mend", "sheet.csv"]), answer(&words, 2));
 }
 
 #[test]
@@ -125,11 +150,10 @@ fn beside_one_that_is_already_there() {
     put(&here, "sheet.csv", "1\n");
     put(&here, "sheet.mended.csv", "mine");
     let outcome = run_in(&here, &["mend", "sheet.csv"]);
-    let message =
-        "tickdrizzle: sheet.mended.csv: writing failed: it is already there; take it away, or use --replace\n";
+    let message = "tickdrizzle: sheet.mended.csv: not written: it is already there and may be yours; choose another name, or use --force\n";
     assert_eq!((outcome.errors.as_str(), outcome.status), (message, 4));
     assert_eq!(fs::read(here.join("sheet.mended.csv")).expect("it is there"), b"mine");
-    assert_eq!(run_in(&here, &["mend", "--replace", "sheet.csv"]).status, 0);
+    assert_eq!(run_in(&here, &["mend", "--force", "sheet.csv"]).status, 0);
     assert_eq!(fs::read(here.join("sheet.mended.csv")).expect("it is there"), b"1\r\n");
     let again = format!("sheet.csv: 1 row of 1 cell.\n  {LF}\nAlready there: sheet.mended.csv\n");
     assert_eq!(run_in(&here, &["mend", "sheet.csv"]), answer(&again, 0));
@@ -151,9 +175,8 @@ fn of_names() {
     let mended = fs::read(here.join("calc.mended.names.csv")).expect("it was written");
     assert_eq!(mended, b"1,House to half\r\n2,\"second link, up\"\r\n");
     put(&here, "bad.names.csv", "go,1\n");
-    let refused =
-        "bad.names.csv: cannot be mended.\n  where:     row 1, column 1\n  there:     \"go,1\"\n  expected:  a \
-                   number and a name\n  to do:     correct this in the spreadsheet and save it again\n";
+    let refused = "bad.names.csv: refused (question 42).\n  where:     row 1, column 1 (A1)\n  there:     \"go\"\n  expected:  the \
+                   next number, 1\n  to do:     correct the name sheet; until then cues are shown by number\n";
     assert_eq!(run_in(&here, &["mend", "bad.names.csv"]), answer(refused, 2));
 }
 
@@ -165,18 +188,33 @@ fn of_a_folder() {
     put(&here, "target.names.csv", "1,half\n");
     let words = format!(
         "./source.csv: 1 row of 1 cell.\n  {LF}\nWritten: ./source.mended.csv\n./target.csv: loads as it is; nothing to \
-         mend.\n./target.names.csv: 1 row of 2 cells.\n  {LF}\nWritten: ./target.mended.names.csv\nNext: tickdrizzle move \
-         ./source.mended.csv ./target.csv\n"
+         mend.\n./target.names.csv: 1 row of 2 cells.\n  {LF}\nWritten: ./target.mended.names.csv\n"
     );
     assert_eq!(run_in(&here, &["mend", "."]), answer(&words, 0));
-    let moved = "The show fits: its 1 cue goes to 1 of the rig's 1.\n  1  ->  1 \"half\"\n";
-    assert_eq!(run_in(&here, &["move", "source.mended.csv", "target.csv"]), answer(moved, 0));
+    let moved =
+        "./source.csv: mended on reading: rows end in LF.\n./target.names.csv: mended on reading: rows end in LF.\n\
+                 The show fits: its 1 cue goes to 1 of the rig's 1.\n  1  ->  1 \"half\"\n";
+    assert_eq!(run_in(&here, &["move", "."]), answer(moved, 0));
     put(&here, "source.csv", "1\r\n");
     let words = format!(
         "./source.csv: loads as it is; nothing to mend.\n./target.csv: loads as it is; nothing to mend.\n\
          ./target.names.csv: 1 row of 2 cells.\n  {LF}\nAlready there: ./target.mended.names.csv\n"
     );
     assert_eq!(run_in(&here, &["mend", "."]), answer(&words, 0));
-    put(&here, "source.csv", "2\n");
-    assert!(!run_in(&here, &["mend", "--replace", "."]).output.contains("Next"));
+}
+
+#[test]
+fn that_were_mended_and_then_changed() {
+    let here = folder("mend-stale");
+    put(&here, "target.csv", "1,2\r\n2,1\r\n");
+    put(&here, "source.csv", "1\n");
+    put(&here, "source.names.csv", "1,old\n");
+    assert_eq!(run_in(&here, &["mend", "."]).status, 0);
+    put(&here, "source.csv", "1;2\n2;1\n");
+    put(&here, "source.names.csv", "1;new\n2;newer\n");
+    let now = "The show fits: its 2 cues go to 2 of the rig's 2.\n  1 \"new\"    ->  1\n  2 \"newer\"  ->  2\n";
+    assert_eq!(run_in(&here, &["move", "--quiet", "."]), answer(now, 0));
+    let old = run_in(&here, &["move", "source.mended.csv", "target.csv"]);
+    let note = "Note: source.csv holds something else than source.mended.csv, which was mended from it earlier: give source.csv itself.\n";
+    assert!(old.output.contains(note), "{}", old.output);
 }

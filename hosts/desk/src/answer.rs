@@ -1,0 +1,201 @@
+//! What a command answers: one value, of which text, `--json`, `--csv` and `--html` are views.
+//!
+//! `docs/JSON.md` documents its shape.
+
+use crate::status::{Failure, Status};
+use serde::Serialize;
+use tickdrizzle::Table;
+
+/// The shape of the value: raised where a field changes its meaning or goes; new fields may come at any time.
+const SHAPE: u32 = 1;
+
+/// What a command answers.
+#[derive(Clone, Debug, Serialize)]
+pub struct Answer {
+    pub shape: u32,
+    pub command: &'static str,
+    pub status: Status,
+    /// The answer in a sentence, or why there is none; empty where each sheet has its own.
+    pub says: String,
+    /// The sheets that were read, in the order of the command line.
+    pub sheets: Vec<Sheet>,
+    pub result: Option<Found>,
+    pub hints: Vec<String>,
+    /// The files that were written.
+    pub written: Vec<String>,
+}
+
+/// A sheet that was read.
+#[derive(Clone, Debug, Default, Serialize)]
+pub struct Sheet {
+    pub path: String,
+    /// What the sheet is in this command.
+    pub role: Role,
+    /// The number of cues, where it is a linking table.
+    pub order: Option<usize>,
+    /// The table, row after row, where it is one.
+    pub table: Option<Vec<Vec<u8>>>,
+    /// The names of the cues, from 1 on; empty where they are not known.
+    pub names: Vec<String>,
+    /// What was overlooked to read the sheet.
+    pub mended: Vec<String>,
+    pub refusal: Option<Refusal>,
+    /// The name sheet beside it, where there is one.
+    pub name_sheet: Option<NameSheet>,
+    /// The cells as they stand, where the sheet is refused.
+    pub cells: Option<Cells>,
+}
+
+#[derive(Clone, Copy, Debug, Default, PartialEq, Eq, Serialize)]
+#[serde(rename_all = "snake_case")]
+pub enum Role {
+    Show,
+    Rig,
+    #[default]
+    Table,
+    Names,
+}
+
+/// A name sheet that stands beside a table.
+#[derive(Clone, Debug, Serialize)]
+pub struct NameSheet {
+    pub path: String,
+    pub mended: Vec<String>,
+    pub refusal: Option<Refusal>,
+}
+
+/// Why a sheet cannot be used.
+#[derive(Clone, Debug, PartialEq, Eq, Serialize)]
+pub struct Refusal {
+    /// The number of the library's earliest failed question; nothing where the file has no cells to ask about.
+    pub question: Option<usize>,
+    /// The faults of one kind, the library's first one first, at most ten.
+    pub faults: Vec<Fault>,
+    /// How many more there are.
+    pub more: usize,
+    pub expected: String,
+    pub to_do: String,
+}
+
+/// A fault and its place.
+#[derive(Clone, Debug, PartialEq, Eq, Serialize)]
+pub struct Fault {
+    #[serde(rename = "where")]
+    pub place: String,
+    /// The cells of the sheet that it is about, row and column, counted from 1.
+    pub cells: Vec<[usize; 2]>,
+    pub there: String,
+}
+
+/// Cells of a sheet, with the row and the column of the first, counted from 1.
+#[derive(Clone, Debug, Serialize)]
+pub struct Cells {
+    pub row: usize,
+    pub column: usize,
+    pub rows: Vec<Vec<String>>,
+}
+
+/// What was found, by command.
+#[derive(Clone, Debug, Serialize)]
+#[serde(rename_all = "snake_case")]
+pub enum Found {
+    /// The image of each cue of the show, in turn; the trials where they were counted.
+    Map { images: Vec<u8>, trials: Option<u32> },
+    /// The classes: the places of their sheets, counted from 1, and their number of cues.
+    Classes(Vec<Class>),
+    /// A part of a table: the cues that it has there, and its own table.
+    Part { elements: Vec<u8>, table: Vec<Vec<u8>> },
+    /// The number of copies; `more` says that there are more than that.
+    Copies { number: usize, more: bool },
+    /// Where each cue lands from each position.
+    Positions { degree: usize, positions: Vec<Vec<u8>> },
+    /// What came of each sheet that was to be mended.
+    Mended(Vec<Mending>),
+}
+
+#[derive(Clone, Debug, Serialize)]
+pub struct Class {
+    pub order: usize,
+    pub sheets: Vec<usize>,
+}
+
+/// A sheet that was to be mended.
+#[derive(Clone, Debug, Serialize)]
+pub struct Mending {
+    pub path: String,
+    pub rows: usize,
+    pub columns: usize,
+    /// What was not as it should be; empty where the sheet loads as it is.
+    pub changes: Vec<String>,
+    /// The mended sheet, where there is one.
+    pub output: Option<String>,
+    pub state: MendingState,
+    /// What is still wrong: the file cannot be mended, or holds no linking table.
+    pub refusal: Option<Refusal>,
+}
+
+#[derive(Clone, Copy, Debug, PartialEq, Eq, Serialize)]
+#[serde(rename_all = "snake_case")]
+pub enum MendingState {
+    LoadsAsItIs,
+    Written,
+    AlreadyThere,
+    WouldBeWritten,
+    NotMended,
+}
+
+impl Answer {
+    /// An answer of a command that has found nothing yet.
+    pub fn new(command: &'static str) -> Answer {
+        Answer {
+            shape: SHAPE,
+            command,
+            status: Status::Found,
+            says: String::new(),
+            sheets: Vec::new(),
+            result: None,
+            hints: Vec::new(),
+            written: Vec::new(),
+        }
+    }
+
+    /// The answer of a command that failed.
+    pub fn failed(self, failure: Failure) -> Answer {
+        Answer { status: failure.status, says: failure.message, ..self }
+    }
+
+    /// The images of a map, where one was found.
+    pub fn images(&self) -> &[u8] {
+        match &self.result {
+            Some(Found::Map { images, .. }) => images,
+            _ => &[],
+        }
+    }
+}
+
+impl Sheet {
+    /// The name of a cue.
+    pub fn name(&self, cue: usize) -> Option<&str> {
+        self.names.get(cue - 1).map(String::as_str)
+    }
+
+    /// A cue by number, and by name where it has one.
+    pub fn label(&self, cue: usize) -> String {
+        match self.name(cue) {
+            Some(name) => format!("{cue} \"{name}\""),
+            None => cue.to_string(),
+        }
+    }
+
+    /// The cues by number and name, in a column.
+    pub fn labels(&self) -> Vec<String> {
+        let labels: Vec<_> = (1..=self.order.unwrap_or(0)).map(|cue| self.label(cue)).collect();
+        let width = labels.iter().map(String::len).max().unwrap_or(0);
+        labels.into_iter().map(|label| format!("{label:width$}")).collect()
+    }
+}
+
+/// The rows of a table.
+pub fn rows(table: &Table) -> Vec<Vec<u8>> {
+    table.cells().chunks(table.order()).map(<[u8]>::to_vec).collect()
+}

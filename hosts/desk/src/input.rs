@@ -1,0 +1,267 @@
+//! The files that a command reads: paths, standard input, sheets of workbooks, folders. They are opened for reading only.
+
+use crate::names::{is_name_sheet, name_sheets};
+use crate::reader::table;
+use crate::status::{Failure, Status};
+use crate::words::{path_shown, visible};
+use std::fs::{self, File};
+use std::io::{self, Read};
+use std::path::{Path, PathBuf};
+
+/// A longer file is not read: a table has less than 60,000 bytes as text, and a workbook of one some hundred thousand.
+const MOST_BYTES: u64 = 1 << 24;
+
+/// The endings of files that may hold a table.
+pub const ENDINGS: [&str; 6] = ["csv", "ods", "xlsx", "tsv", "tab", "txt"];
+
+/// A file to be read, or standard input; of a workbook perhaps a sheet.
+#[derive(Clone, Debug, PartialEq, Eq)]
+pub struct Source {
+    /// As it was given.
+    pub given: PathBuf,
+    /// The file; nothing for standard input.
+    pub file: Option<PathBuf>,
+    pub sheet: Option<String>,
+}
+
+impl Source {
+    /// What an argument names: `-`, a file, or a sheet of one as `FILE#Sheet`.
+    pub fn new(given: &Path) -> Source {
+        let source = |file: Option<PathBuf>, sheet| Source { given: given.to_owned(), file, sheet };
+        let text = given.to_string_lossy();
+        match text.rsplit_once('#') {
+            _ if text == "-" => source(None, None),
+            Some((file, sheet)) if !given.exists() && Path::new(file).is_file() => {
+                source(Some(file.into()), Some(sheet.to_owned()))
+            }
+            _ => source(Some(given.to_owned()), None),
+        }
+    }
+
+    pub fn bytes(&self) -> Result<Vec<u8>, Failure> {
+        let mut bytes = Vec::new();
+        let read = match &self.file {
+            Some(file) => File::open(file).and_then(|file| file.take(MOST_BYTES + 1).read_to_end(&mut bytes)),
+            None => io::stdin().lock().take(MOST_BYTES + 1).read_to_end(&mut bytes),
+        };
+        read.map_err(|error| Failure::reading(&self.given, &error))?;
+        if bytes.len() as u64 > MOST_BYTES {
+            return Err(Failure::file(&self.given, "reading failed: the file is too long for a sheet"));
+        }
+        Ok(bytes)
+    }
+
+    /// The bytes as the proved programs see them: a file that cannot be read counts as empty.
+    pub fn bytes_or_none(&self) -> Vec<u8> {
+        self.bytes().unwrap_or_default()
+    }
+}
+
+/// The files that paths name and that a command may read, with their name sheets. Of a folder these are its show and its rig, or all
+/// sheets.
+pub fn inputs(paths: &[PathBuf], all: bool) -> Vec<PathBuf> {
+    let mut files = Vec::new();
+    for path in paths {
+        if !path.is_dir() {
+            files.extend(Source::new(path).file);
+        } else if all {
+            files.extend(sheets(path));
+        } else {
+            files.extend(["source", "target"].iter().flat_map(|stem| with_endings(&path.join(stem))));
+        }
+    }
+    let names: Vec<_> = files.iter().flat_map(|file| name_sheets(file)).collect();
+    [files, names].concat()
+}
+
+/// The files of a folder that may hold a table, in the order of their names.
+pub fn sheets(folder: &Path) -> Vec<PathBuf> {
+    let entries = fs::read_dir(folder).into_iter().flatten().flatten().map(|entry| entry.path());
+    let has_ending = |path: &PathBuf| {
+        let ending = path.extension().unwrap_or_default().to_string_lossy().to_lowercase();
+        ENDINGS.contains(&&*ending) && path.is_file() && !is_name_sheet(path)
+    };
+    let mut sheets: Vec<_> = entries.filter(has_ending).collect();
+    sheets.sort();
+    sheets
+}
+
+/// Whether two sources are one sheet of one file.
+pub fn is_same(one: &Source, other: &Source) -> bool {
+    let file = |source: &Source| source.file.as_ref().and_then(|file| file.canonicalize().ok());
+    one.sheet == other.sheet && file(one).is_some() && file(one) == file(other)
+}
+
+/// The show's sheet and the rig's, from a folder or two paths.
+pub fn pair(paths: &[PathBuf]) -> Result<[Source; 2], Failure> {
+    match paths {
+        [folder] => {
+            let folder = folder_of(folder)?;
+            Ok([in_folder(folder, "source", "show")?, in_folder(folder, "target", "rig")?])
+        }
+        [one, other] if one == other && one == Path::new("-") => {
+            Err(Failure::usage("standard input (-) is one sheet; give the other as a file"))
+        }
+        [source, target] => Ok([Source::new(source), Source::new(target)]),
+        _ => Err(Failure::usage("give a folder or two sheets")),
+    }
+}
+
+/// The sheets that the proved program reads of a folder, or two paths.
+pub fn strict_pair(paths: &[PathBuf]) -> Result<[Source; 2], Failure> {
+    match paths {
+        [folder] => {
+            let folder = folder_of(folder)?;
+            Ok(["source.csv", "target.csv"].map(|name| Source::new(&folder.join(name))))
+        }
+        _ => pair(paths),
+    }
+}
+
+/// The path, where it is a folder.
+fn folder_of(path: &Path) -> Result<&Path, Failure> {
+    match path.metadata() {
+        Err(error) => Err(Failure::reading(path, &error)),
+        Ok(data) if data.is_dir() => Ok(path),
+        Ok(_) => {
+            Err(Failure::usage(format!("{}: this is one sheet; give its folder, or both sheets", path_shown(path))))
+        }
+    }
+}
+
+/// The sheet that a path names: itself, or a folder's show.
+pub fn single(path: &Path) -> Result<Source, Failure> {
+    if path.is_dir() {
+        in_folder(path, "source", "show")
+    } else {
+        Ok(Source::new(path))
+    }
+}
+
+/// The sheets that paths name: a folder stands for its show and its rig.
+pub fn each(paths: &[PathBuf]) -> Result<Vec<Source>, Failure> {
+    let mut sources = Vec::new();
+    for path in paths {
+        if path.is_dir() {
+            sources.push(in_folder(path, "source", "show")?);
+            sources.push(in_folder(path, "target", "rig")?);
+        } else {
+            sources.push(Source::new(path));
+        }
+    }
+    one_standard(sources)
+}
+
+/// The files that paths name.
+pub fn each_file(paths: &[PathBuf]) -> Result<Vec<Source>, Failure> {
+    one_standard(paths.iter().map(|path| Source::new(path)).collect())
+}
+
+/// Standard input can be read once.
+fn one_standard(sources: Vec<Source>) -> Result<Vec<Source>, Failure> {
+    if sources.iter().filter(|source| source.file.is_none()).count() > 1 {
+        return Err(Failure::usage("standard input (-) is one sheet; give the others as files"));
+    }
+    Ok(sources)
+}
+
+/// The sheet of a folder with this name and any ending. Where there are several they must hold the same table.
+fn in_folder(folder: &Path, stem: &str, what: &str) -> Result<Source, Failure> {
+    let found = with_endings(&folder.join(stem));
+    match &found[..] {
+        [] => Err(Failure::file(folder, &missing(folder, stem, what))),
+        [one] => Ok(Source::new(one)),
+        [first, others @ ..] => {
+            let text =
+                |path: &Path| table::read(&Source::new(path).bytes().ok()?, None).ok().map(|reading| reading.text);
+            let same = text(first).filter(|one| others.iter().all(|other| text(other).as_ref() == Some(one)));
+            match same {
+                Some(_) => Ok(Source::new(first)),
+                None => Err(Failure {
+                    message: format!(
+                        "{}: the {what} is there more than once, and not with the same table: {}; take away what is old, or give both sheets",
+                        path_shown(folder),
+                        found.iter().map(|path| name_of(path)).collect::<Vec<_>>().join(", ")
+                    ),
+                    status: Status::Refused,
+                }),
+            }
+        }
+    }
+}
+
+/// The files of a name with each of the endings that are there.
+pub fn with_endings(stem: &Path) -> Vec<PathBuf> {
+    let with = |ending: &&str| PathBuf::from(format!("{}.{ending}", stem.display()));
+    ENDINGS.iter().map(with).filter(|path| path.is_file()).collect()
+}
+
+/// What a folder has instead of a sheet, and what may be meant.
+fn missing(folder: &Path, stem: &str, what: &str) -> String {
+    let names = files(folder);
+    let there =
+        if names.is_empty() { "The folder has no file.".into() } else { format!("There are: {}.", names.join(", ")) };
+    let near: Vec<_> = names.iter().filter(|name| is_near(name, stem)).map(|name| format!("{name:?}")).collect();
+    let hint = match near.len() {
+        0 => "Give both sheets, or rename them.".into(),
+        _ => format!("Perhaps {} is meant: rename it, or give both sheets.", near.join(" or ")),
+    };
+    format!("there is no {what}: {stem}.csv, .ods, .xlsx, .tsv, .tab or .txt. {there} {hint}")
+}
+
+/// The names of a folder's files, at most twenty, in order.
+fn files(folder: &Path) -> Vec<String> {
+    const MOST: usize = 20;
+    let entries = fs::read_dir(folder).into_iter().flatten().flatten();
+    let mut names: Vec<_> =
+        entries.filter(|entry| entry.path().is_file()).map(|entry| name_of(&entry.path())).collect();
+    names.sort();
+    if names.len() > MOST {
+        let more = names.len() - MOST;
+        names.truncate(MOST);
+        names.push(format!("and {more} more"));
+    }
+    names
+}
+
+pub fn name_of(path: &Path) -> String {
+    visible(&path.file_name().unwrap_or_default().to_string_lossy())
+}
+
+/// Whether a file's name is like a sheet's: `Source.CSV`, `source.csv.csv`, `sorce.ods`.
+fn is_near(name: &str, stem: &str) -> bool {
+    let lower = name.to_lowercase();
+    let front = lower.split('.').next().unwrap_or_default();
+    !lower.contains(".names.") && !lower.contains(".mended.") && (lower.starts_with(stem) || distance(front, stem) <= 2)
+}
+
+/// How many letters must be put in, taken away or changed.
+fn distance(one: &str, other: &str) -> usize {
+    let other: Vec<char> = other.chars().collect();
+    let mut row: Vec<usize> = (0..=other.len()).collect();
+    for (place, letter) in one.chars().enumerate() {
+        let mut before = row[0];
+        row[0] = place + 1;
+        for column in 0..other.len() {
+            let changed = before + usize::from(other[column] != letter);
+            before = row[column + 1];
+            row[column + 1] = changed.min(before + 1).min(row[column] + 1);
+        }
+    }
+    row[other.len()]
+}
+
+#[cfg(test)]
+mod tests {
+    use super::*;
+
+    #[test]
+    fn near_names() {
+        for name in ["Source.CSV", "source.csv.csv", "sorce.ods", "sources.csv", "SOURCE"] {
+            assert!(is_near(name, "source"), "{name}");
+        }
+        for name in ["target.csv", "source.names.csv", "source.mended.csv", "show.csv"] {
+            assert!(!is_near(name, "source"), "{name}");
+        }
+    }
+}

@@ -1,0 +1,53 @@
+//! Work that people wait for no longer than they like.
+
+use std::num::ParseFloatError;
+use std::sync::mpsc;
+use std::thread;
+use std::time::Duration;
+
+/// Does the work in a thread of its own; nothing where it takes longer. The thread then ends with the program.
+pub fn within<T: Send + 'static>(limit: Option<Duration>, work: impl FnOnce() -> T + Send + 'static) -> Option<T> {
+    let Some(limit) = limit else { return Some(work()) };
+    let (done, told) = mpsc::channel();
+    thread::spawn(move || done.send(work()));
+    told.recv_timeout(limit).ok()
+}
+
+/// A time as people write it: `10s`, `2m`, `1.5h`, `500ms`, or seconds without a unit.
+pub fn duration(text: &str) -> Result<Duration, String> {
+    let text = text.trim();
+    let end = text.find(|character: char| character.is_ascii_alphabetic()).unwrap_or(text.len());
+    let (number, unit) = text.split_at(end);
+    let seconds = match unit {
+        "ms" => 0.001,
+        "" | "s" => 1.0,
+        "m" | "min" => 60.0,
+        "h" => 3600.0,
+        _ => return Err(format!("{unit} is no unit of time: use ms, s, m or h")),
+    };
+    let number: f64 = number.trim().parse().map_err(|error: ParseFloatError| error.to_string())?;
+    Duration::try_from_secs_f64(number * seconds).map_err(|error| error.to_string())
+}
+
+#[cfg(test)]
+mod tests {
+    use super::*;
+
+    #[test]
+    fn times_as_people_write_them() {
+        for (text, milliseconds) in [("10s", 10_000), ("2m", 120_000), ("500ms", 500), ("1.5", 1500), ("1h", 3_600_000)]
+        {
+            assert_eq!(duration(text), Ok(Duration::from_millis(milliseconds)));
+        }
+        for text in ["", "s", "10d", "-1s", "1e400", "nan"] {
+            assert!(duration(text).is_err(), "{text}");
+        }
+    }
+
+    #[test]
+    fn work_that_takes_too_long_has_no_answer() {
+        assert_eq!(within(None, || 1), Some(1));
+        assert_eq!(within(Some(Duration::from_secs(60)), || 1), Some(1));
+        assert_eq!(within(Some(Duration::from_millis(1)), || thread::sleep(Duration::from_secs(1))), None);
+    }
+}

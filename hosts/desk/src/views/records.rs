@@ -1,0 +1,50 @@
+//! What the programs recue and classes print.
+
+use crate::answer::{Answer, Class, Found};
+use crate::status::Status;
+
+/// The records of an answer.
+pub fn records(answer: &Answer) -> String {
+    match &answer.result {
+        Some(Found::Classes(classes)) => classes_records(answer, classes),
+        _ => move_records(answer),
+    }
+}
+
+/// recue knows no limit: where one is reached, the record begins with `stopped`.
+fn move_records(answer: &Answer) -> String {
+    let refused = answer.sheets.iter().enumerate().find_map(|(place, sheet)| Some((place, sheet.refusal.as_ref()?)));
+    if let Some((place, refusal)) = refused {
+        return format!("refused,{},{}\r\n", place + 1, refusal.question.unwrap_or(0));
+    }
+    let [Some(source), Some(target)] = [0, 1].map(|place| answer.sheets.get(place).and_then(|sheet| sheet.order))
+    else {
+        return String::new();
+    };
+    let word = match answer.status {
+        Status::Found => "found",
+        Status::None => "none",
+        _ => "stopped",
+    };
+    let images = answer.images().iter().enumerate();
+    images
+        .fold(format!("{word},{source},{target}\r\n"), |text, (cue, image)| text + &format!("{},{image}\r\n", cue + 1))
+}
+
+fn classes_records(answer: &Answer, classes: &[Class]) -> String {
+    let mut text = String::new();
+    for (place, sheet) in answer.sheets.iter().enumerate() {
+        let lowest = classes.iter().find(|class| class.sheets.contains(&(place + 1))).map(|class| class.sheets[0]);
+        text += &match (lowest, sheet.order, &sheet.refusal) {
+            (Some(lowest), Some(order), _) => format!("class,{},{order},{lowest}\r\n", place + 1),
+            (_, _, refusal) => {
+                let number = refusal.as_ref().and_then(|refusal| refusal.question).unwrap_or(0);
+                format!("refused,{},{number}\r\n", place + 1)
+            }
+        };
+    }
+    for class in classes {
+        text += &format!("total,{},{}\r\n", class.sheets[0], class.sheets.len());
+    }
+    text
+}

@@ -1,0 +1,169 @@
+//! An answer in words.
+
+use crate::answer::{Answer, Class, Found, Mending, MendingState, Refusal, Role, Sheet};
+use crate::status::Status;
+use crate::words::count;
+
+/// How the words are shown.
+#[derive(Clone, Copy)]
+pub struct Manner {
+    /// Without what was mended and without hints.
+    pub quiet: bool,
+    pub colours: bool,
+}
+
+/// The answer in words. Of a command that failed only what it says of each sheet before is among them.
+pub fn text(answer: &Answer, manner: Manner) -> String {
+    match (&answer.result, answer.command) {
+        (Some(Found::Mended(mendings)), _) => mendings.iter().map(|mending| mended(mending, manner)).collect(),
+        (_, "check") => answer.sheets.iter().map(|sheet| checked(sheet, manner)).collect(),
+        _ if matches!(answer.status, Status::Failed | Status::Usage) => String::new(),
+        _ => answered(answer, manner),
+    }
+}
+
+fn answered(answer: &Answer, manner: Manner) -> String {
+    let mut text: String = answer.sheets.iter().map(|sheet| notes(sheet, manner)).collect();
+    if !answer.says.is_empty() {
+        text += &format!("{}\n", painted(&answer.says, answer.status, manner));
+    }
+    text += &match &answer.result {
+        Some(Found::Map { images, .. }) => map(answer, images),
+        Some(Found::Classes(classes)) => classes_in_words(answer, classes),
+        Some(Found::Part { elements, .. }) => part(answer, elements),
+        Some(Found::Positions { positions, .. }) => landings(answer, positions),
+        _ => String::new(),
+    };
+    for sheet in &answer.sheets {
+        text += &refusals(sheet, manner);
+    }
+    for path in &answer.written {
+        text += &format!("Written: {path}\n");
+    }
+    if !manner.quiet {
+        text += &answer.hints.iter().map(|hint| format!("Note: {hint}\n")).collect::<String>();
+    }
+    text
+}
+
+/// What was mended of a sheet and of the name sheet beside it, a line each.
+fn notes(sheet: &Sheet, manner: Manner) -> String {
+    let line = |path: &str, mended: &[String]| match mended {
+        [] => String::new(),
+        _ => format!("{path}: mended on reading: {}.\n", mended.join("; ")),
+    };
+    if manner.quiet {
+        return String::new();
+    }
+    let names = sheet.name_sheet.as_ref().map_or(String::new(), |names| line(&names.path, &names.mended));
+    line(&sheet.path, &sheet.mended) + &names
+}
+
+/// Why a sheet or the name sheet beside it is refused.
+fn refusals(sheet: &Sheet, manner: Manner) -> String {
+    let own = sheet.refusal.as_ref().map(|refusal| refused(&sheet.path, refusal, manner));
+    let names = sheet.name_sheet.as_ref();
+    let names = names.and_then(|names| Some(refused(&names.path, names.refusal.as_ref()?, manner)));
+    own.into_iter().chain(names).collect()
+}
+
+/// A refusal: the sheet and the question, then where it fails, what stands there, what was expected and what to do.
+pub fn refused(path: &str, refusal: &Refusal, manner: Manner) -> String {
+    let question = refusal.question.map_or(String::new(), |number| format!(" (question {number})"));
+    painted(&format!("{path}: refused{question}."), Status::Refused, manner) + "\n" + &explained(refusal)
+}
+
+fn explained(refusal: &Refusal) -> String {
+    let first = &refusal.faults[0];
+    let lines = [
+        ("where:   ", &first.place),
+        ("there:   ", &first.there),
+        ("expected:", &refusal.expected),
+        ("to do:   ", &refusal.to_do),
+    ];
+    let told = lines.iter().filter(|(_, text)| !text.is_empty());
+    let mut text: String = told.map(|(title, text)| format!("  {title}  {text}\n")).collect();
+    let mut also: Vec<_> =
+        refusal.faults[1..].iter().map(|fault| format!("{}: {}", fault.place, fault.there)).collect();
+    if refusal.more > 0 {
+        also.push(format!("and {} more", refusal.more));
+    }
+    for (place, line) in also.iter().enumerate() {
+        text += &format!("  {}  {line}\n", if place == 0 { "also:    " } else { "         " });
+    }
+    text
+}
+
+fn map(answer: &Answer, images: &[u8]) -> String {
+    let (source, target) = (&answer.sheets[0], &answer.sheets[1]);
+    let line = |(label, &image): (&String, &u8)| format!("  {label}  ->  {}\n", target.label(image.into()));
+    source.labels().iter().zip(images).map(line).collect()
+}
+
+fn classes_in_words(answer: &Answer, classes: &[Class]) -> String {
+    let mut text = String::new();
+    for (number, class) in classes.iter().enumerate() {
+        text += &format!("Class {}, of {}:\n", number + 1, count(class.order, "cue"));
+        text += &class.sheets.iter().map(|&place| format!("  {}\n", answer.sheets[place - 1].path)).collect::<String>();
+    }
+    text
+}
+
+fn part(answer: &Answer, elements: &[u8]) -> String {
+    let width = elements.len().to_string().len();
+    let line =
+        |(place, &cue): (usize, &u8)| format!("  {:<width$}  is  {}\n", place + 1, answer.sheets[0].label(cue.into()));
+    elements.iter().enumerate().map(line).collect()
+}
+
+fn landings(answer: &Answer, positions: &[Vec<u8>]) -> String {
+    let line = |(label, lands): (&String, &Vec<u8>)| {
+        let lands: Vec<_> = lands.iter().map(u8::to_string).collect();
+        format!("  {label}  lands at  {}\n", lands.join(" "))
+    };
+    answer.sheets[0].labels().iter().zip(positions).map(line).collect()
+}
+
+/// What a sheet is.
+fn checked(sheet: &Sheet, manner: Manner) -> String {
+    let what = match (sheet.role, sheet.order) {
+        _ if sheet.refusal.is_some() => String::new(),
+        (Role::Names, _) => format!("{}: a name sheet of {}.", sheet.path, count(sheet.names.len(), "cue")),
+        (_, order) => format!("{}: a linking table of {}.", sheet.path, count(order.unwrap_or(0), "cue")),
+    };
+    let what = if what.is_empty() { what } else { painted(&what, Status::Found, manner) + "\n" };
+    notes(sheet, manner) + &what + &refusals(sheet, manner)
+}
+
+/// What came of a sheet that was to be mended.
+fn mended(mending: &Mending, manner: Manner) -> String {
+    let path = &mending.path;
+    let output = mending.output.as_deref().unwrap_or_default();
+    let size = format!("{path}: {} of {}.\n", count(mending.rows, "row"), count(mending.columns, "cell"));
+    let changes: String = mending.changes.iter().map(|change| format!("  {change}\n")).collect();
+    let mut text = match mending.state {
+        MendingState::LoadsAsItIs => format!("{path}: loads as it is; nothing to mend.\n"),
+        MendingState::Written => format!("{size}{changes}Written: {output}\n"),
+        MendingState::AlreadyThere => format!("{size}{changes}Already there: {output}\n"),
+        MendingState::WouldBeWritten => format!("{size}{changes}Would be written: {output}\n"),
+        MendingState::NotMended => String::new(),
+    };
+    if let Some(refusal) = &mending.refusal {
+        if mending.state != MendingState::NotMended {
+            text += "It is no linking table yet. ";
+        }
+        text += &refused(path, refusal, manner);
+    }
+    text
+}
+
+/// A sentence in the colour of what it says.
+fn painted(text: &str, status: Status, manner: Manner) -> String {
+    let colour = match status {
+        _ if !manner.colours => return text.into(),
+        Status::Found => 32,
+        Status::None | Status::Stopped => 33,
+        Status::Refused | Status::Failed | Status::Usage => 31,
+    };
+    format!("\u{1B}[1;{colour}m{text}\u{1B}[0m")
+}
