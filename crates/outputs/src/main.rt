@@ -3,10 +3,11 @@
 // comes from standard input.
 use libc::STDIN_FILENO;
 use libc::STDOUT_FILENO;
+use tables::limits::OUTPUT;
 
 // Prints the output for two files with these bytes.
 fn show(source: &[u8], target: &[u8]) {
-    let mut out = [0u8; 1095];
+    let mut out = [0u8; OUTPUT];
     let written = output::recue(source, target, &mut out);
     io::write_all(STDOUT_FILENO, &out[..written]);
 }

@@ -6,11 +6,10 @@ use native.Mathlib.Omega.{arith}
 use borrow.Author.Needs.{needs}
 use lib.ListN.{length, length-take}
 use denote.Ref.{now}
-use Rattle.semigroups.specs.Calls.{gives}
+use Rattle.semigroups.specs.Calls.{Answer, refused, gives}
 use Rattle.csv.specs.Calls.{loadAnswer}
 use Rattle.tables.proofs.Questions.{square-small}
-use Rattle.tables.specs.Answers.{verdictRefusal}
-use Rattle.text.specs.Answers.{loadedAnswer}
+use Rattle.tables.specs.Answers.{verdictRefusal, numberedSays}
 use Rattle.files.proofs.Files.{judged-text, judged-table, loaded-order, loaded-room}
 use Rattle.files.proofs.load_then_check.Statement.{statement}
 use Rattle.files.proofs.load_then_check.Tie as tie
@@ -27,7 +26,7 @@ module _ (c : tie.After-known-told2) where
   order-of = c .before .loaded2 .given .0 .0
 
   given-order : loadAnswer (now (start-of .args .text)) (now (start-of .args .cells)) ≡ gives order-of
-  given-order = sym (loading-of .load .ensures .0) ∙ ap loadedAnswer (c .before .loaded2 .given .1)
+  given-order = sym (loading-of .load .ensures .0) ∙ ap numberedSays (c .before .loaded2 .given .1)
 
   fits : order-of * order-of ≤ length (loading-of .load .last .1 .0)
   fits = loaded-room _ _ _ given-order (loading-of .load .ensures .1) (loading-of .load .kept .1 .0)
@@ -58,6 +57,9 @@ check-requires c κs = search needs
 enum-known-verdict : tie.Need-enum-known-verdict
 enum-known-verdict c = search needs
 
+no-requires : tie.Need-no-requires
+no-requires c κs = search needs
+
 enum-told : tie.Need-enum-told
 enum-told c = search needs
 
@@ -67,16 +69,18 @@ same-length c = search needs
 returns : tie.Need-returns
 returns c =
     let loading = c .before .before .before .before .before in
-    (judged-text _ _ (sym (ap loadedAnswer (c .before .loaded .given .1)) ∙ loading .load .ensures .0), loading .load .ensures .1)
+    (judged-text _ _ (sym (ap numberedSays (c .before .loaded .given .1)) ∙ loading .load .ensures .0), loading .load .ensures .1)
 
 same-length-2 : tie.Need-same-length-2
 same-length-2 c = search needs
 
 returns-2 : tie.Need-returns-2
 returns-2 c =
-    let told = c .before .before .before .before .before in
+    let known = c .before in
+    let told = known .before .before .before .before .before in
     let loading = loading-of told in (
-      judged-table _ _ _ (given-order told) (loading .load .ensures .1) (sym (ap verdictRefusal (c .before .verdict .given .1)) ∙ c .before .before .before .check .ensures),
+      ap {B = Answer ℕ} refused (c .no .ensures)
+      ∙ judged-table _ _ _ (given-order told) (loading .load .ensures .1) (sym (ap verdictRefusal (known .before .verdict .given .1)) ∙ known .before .before .before .check .ensures),
       loading .load .ensures .1,
     )
 
@@ -103,6 +107,7 @@ load-then-check-spec =
     slice-aggregate-check
     check-requires
     enum-known-verdict
+    no-requires
     enum-told
     same-length
     returns

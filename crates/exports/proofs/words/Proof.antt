@@ -6,10 +6,10 @@ use native.Mathlib.Omega.{arith}
 use lib.ListN.{length, take}
 use lib.Seq.{take-all}
 use borrow.Author.Needs.{needs}
-use Rattle.numbers.specs.Words.{words}
-use Rattle.numbers.proofs.Values.{put-value}
-use Rattle.numbers.proofs.words.Statement.{statement}
-use Rattle.numbers.proofs.words.Tie as tie
+use Rattle.exports.specs.Words.{words}
+use Rattle.exports.proofs.Layout.{put-value}
+use Rattle.exports.proofs.words.Statement.{statement}
+use Rattle.exports.proofs.words.Tie as tie
 
 abbrev Inv-loop : tie.InvT-loop
 Inv-loop number side values answer₀ i₀ answer i = (i ≤ length values) × (answer ≡ words number side (take i values))

@@ -7,7 +7,7 @@ use native.Mathlib.Omega.{arith}
 use native.Mathlib.Numerals.{add-one}
 use lib.ListN.{length, getD, take, set, replicate, length-append, length-replicate}
 use lib.Seq.{take-suc, length-take-le, set-append-seam}
-use Rattle.numbers.specs.Words.{words}
+use Rattle.exports.specs.Words.{words}
 
 module _ (number side : ℕ) where
   -- ---- the layout

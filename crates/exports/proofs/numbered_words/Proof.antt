@@ -1,10 +1,10 @@
--- `names_words` meets its contract: the number, or the failed question.
+-- `numbered_words` meets its contract: the number, or the failed question.
 -- Assumes nothing.
-use Rattle.names.proofs.Refusals.{names-fault-brief}
+use Rattle.tables.proofs.Refusals.{no-brief}
 use Rattle.exports.proofs.Values.{refusal-said}
 use borrow.Author.Needs.{needs}
-use Rattle.exports.proofs.names_words.Statement.{statement}
-use Rattle.exports.proofs.names_words.Tie as tie
+use Rattle.exports.proofs.numbered_words.Statement.{statement}
+use Rattle.exports.proofs.numbered_words.Tie as tie
 
 enum-known-said : tie.Need-enum-known-said
 enum-known-said c = search needs
@@ -30,10 +30,10 @@ returns c = rw (c .before .before .before .said .given .1) (c .words .ensures)
 returns-2 : tie.Need-returns-2
 returns-2 c =
     let m = c .before .before .before .said2 .given in
-    rw (m .1) (refusal-said (names-fault-brief (m .0 .0)) (c .before .refusal .ensures) (c .refusal-words .ensures))
+    rw (m .1) (refusal-said (no-brief (m .0 .0)) (c .before .refusal .ensures) (c .refusal-words .ensures))
 
-pub names-words-spec : {M : Type 1} → statement M
-names-words-spec =
+pub numbered-words-spec : {M : Type 1} → statement M
+numbered-words-spec =
     tie.close
     (tie.spec
     enum-known-said
