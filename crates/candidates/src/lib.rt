@@ -12,6 +12,7 @@ ghost use Rattle.semigroups.specs.Calls.{scratchAfter};
 ghost use Rattle.invariants.specs.PerElement.{perElement};
 ghost use Rattle.candidates.specs.Pairs.{PairAt};
 ghost use Rattle.candidates.specs.Keys.{indexPeriodKey, profileKey, appended, Room, sameKey};
+use tables::limits::ORDER;
 
 // ---- marks
 
@@ -45,11 +46,11 @@ pub fn marked(scratch: &[u8], n: usize, i: usize, j: usize) -> bool
 // ---- keys
 
 // Every key with one part more behind it: a number that takes one of `values` values.
-fn append(keys: &[u64; 120], n: usize, values: u64, numbers: &[u16; 120]) -> [u64; 120]
+fn append(keys: &[u64; ORDER], n: usize, values: u64, numbers: &[u16; ORDER]) -> [u64; ORDER]
     requires { ⌜ (n ≤ 120) × Room n values (now keys) (now numbers) ⌝ }
     ensures answer { λ r. ⌜ r ≡ perElement n (appended values (now (keys .entry)) (now (numbers .entry))) ⌝ }
 {
-    let mut longer = [0u64; 120];
+    let mut longer = [0u64; ORDER];
     let mut a: usize = 1;
     while a <= n {
         let place = a - 1;
@@ -60,18 +61,18 @@ fn append(keys: &[u64; 120], n: usize, values: u64, numbers: &[u16; 120]) -> [u6
 }
 
 // The index-period key of every element; element a's stands at place a - 1.
-fn index_period_keys(cells: &[u8], n: usize) -> [u64; 120]
+fn index_period_keys(cells: &[u8], n: usize) -> [u64; ORDER]
     requires { ⌜ Filled n (now cells) ⌝ }
     ensures answer { λ r. ⌜ r ≡ perElement n (λ a. indexPeriodKey (indexPeriod n (product n (now (cells .entry))) a)) ⌝ }
 {
     let powers = invariants::all_index_period_keys(cells, n);
-    let none = [0u64; 120];
+    let none = [0u64; ORDER];
     let indices = append(&none, n, 256, &powers.index);
     append(&indices, n, 256, &powers.period)
 }
 
 // The profile key of every element; element a's stands at place a - 1.
-pub fn profile_keys(cells: &[u8], n: usize) -> [u64; 120]
+pub fn profile_keys(cells: &[u8], n: usize) -> [u64; ORDER]
     requires { ⌜ Filled n (now cells) ⌝ }
     ensures answer { λ r. ⌜ r ≡ perElement n (λ a. profileKey (profile n (product n (now (cells .entry))) a)) ⌝ }
 {
@@ -110,7 +111,7 @@ fn following(pair: Pair, n: usize) -> Pair
 }
 
 // The mark of a pair: 1 where its elements have equal keys, else 0; past the last pair 0.
-fn mark(source: &[u64; 120], m: usize, target: &[u64; 120], n: usize, pair: Pair) -> usize
+fn mark(source: &[u64; ORDER], m: usize, target: &[u64; ORDER], n: usize, pair: Pair) -> usize
     requires { ⌜ (1 ≤ pair .i) × Element n (pair .j) × (m ≤ 120) × (n ≤ 120) ⌝ }
     ensures answer { λ r. ⌜ r ≡ getD (pairMarks m n (sameKey (now (source .entry)) (now (target .entry)))) (cellPlace n (pair .i) (pair .j)) 0 ⌝ }
 {
@@ -123,7 +124,7 @@ fn mark(source: &[u64; 120], m: usize, target: &[u64; 120], n: usize, pair: Pair
 }
 
 // A byte of the marks of elements with equal keys: eight pairs, each worth twice the one before it.
-fn marks_byte(source: &[u64; 120], m: usize, target: &[u64; 120], n: usize, place: usize) -> u8
+fn marks_byte(source: &[u64; ORDER], m: usize, target: &[u64; ORDER], n: usize, place: usize) -> u8
     requires { ⌜ (m ≤ 120) × (n ≤ 120) × (place < scratchSize m n) ⌝ }
     ensures answer { λ r. ⌜ r ≡ packedByte (pairMarks m n (sameKey (now (source .entry)) (now (target .entry)))) place ⌝ }
 {
@@ -145,7 +146,7 @@ fn marks_byte(source: &[u64; 120], m: usize, target: &[u64; 120], n: usize, plac
 }
 
 // Writes the marks of the pairs of elements with equal keys.
-pub fn fill_equal(source: &[u64; 120], m: usize, target: &[u64; 120], n: usize, scratch: &mut [u8])
+pub fn fill_equal(source: &[u64; ORDER], m: usize, target: &[u64; ORDER], n: usize, scratch: &mut [u8])
     requires { ⌜ (m ≤ 120) × (n ≤ 120) ⌝ }
     requires { ⌜ scratchSize m n ≤ length (now scratch) ⌝ }
     ensures scratch { λ _. ⌜ now (scratch .exit) ≡ scratchAfter m n (sameKey (now (source .entry)) (now (target .entry))) (now (scratch .entry)) ⌝ }

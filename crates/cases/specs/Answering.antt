@@ -1,7 +1,6 @@
 -- What the library's other answers are as numbers, and when they are those that 01 gives (01, "Marks of an element" and "The questions").
 -- Assumes nothing.
 use mathlib.Core.Bool.{Bool, true, false, _&&_}
-use mathlib.Core.List.{List, [], _∷_}
 use Prim.Native.Nat.{ℕ}
 use lib.Dec.{eqb}
 use Rattle.semigroups.specs.Calls.{Answer, refused, gives}
@@ -23,10 +22,3 @@ sameGivenPowers (refused r) b = false
 abbrev pub sameGivenProfile : Answer Profile → Profile → Bool
 sameGivenProfile (gives p) b = sameProfile p b && eqb (p .powers .idempotent) (b .powers .idempotent)
 sameGivenProfile (refused r) b = false
-
--- Whether two lists of bytes are equal.
-unfoldable pub sameBytes : List ℕ → List ℕ → Bool
-sameBytes [] [] = true
-sameBytes [] (y ∷ b) = false
-sameBytes (x ∷ a) [] = false
-sameBytes (x ∷ a) (y ∷ b) = let rest = sameBytes a b in eqb x y && rest

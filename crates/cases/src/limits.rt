@@ -4,10 +4,11 @@ ghost use mathlib.Core.List.{_∷_, []};
 ghost use Prim.Native.Nat.{_≤_, suc};
 ghost use lib.ListN.{replicate};
 ghost use Rattle.semigroups.specs.Transformations.{transformationCells};
-ghost use Rattle.text.specs.Answers.{textFaultRefusal as faultRefusal, loadedAnswer};
-ghost use Rattle.transformations.specs.Answers.{transformationAnswerSays as answerSays, transformationSays, transformationCellsAfter};
-ghost use Rattle.cases.specs.Answering.{answerSaid, sameBytes};
-ghost use Rattle.plain.specs.Said.{refusalSaid, saidOf};
+ghost use Rattle.tables.specs.Answers.{numberedSays};
+ghost use Rattle.transformations.specs.Answers.{transformationSays, transformationCellsAfter};
+ghost use Rattle.semigroups.specs.Copies.{sameList};
+ghost use Rattle.cases.specs.Answering.{answerSaid};
+ghost use Rattle.plain.specs.Said.{saidOf};
 ghost use Rattle.judging.specs.Tally.{empty, counted, agreed};
 ghost use mathlib.Core.Option.{none};
 ghost use mathlib.Core.Bool.{false};
@@ -22,6 +23,7 @@ use crate::worked::TWO;
 use comparisons::said::said_number;
 use comparisons::walk::walk;
 use judging::judged::judged;
+use judging::said::said_of_no;
 use judging::said::same_said;
 use judging::tally::Tally;
 use judging::tally::counted;
@@ -29,9 +31,7 @@ use judging::tally::start;
 use plain::Said;
 use plain::failed;
 use search::Kind;
-use text::Loaded;
-use text::TextFault;
-use transformations::TransformationAnswer;
+use tables::Numbered;
 
 // Order 120 is accepted, 121 is refused.
 pub fn orders() -> Tally
@@ -45,30 +45,29 @@ pub fn orders() -> Tally
 
 // Whether two buffers hold the same bytes.
 fn same_bytes(a: &[u8], b: &[u8]) -> bool
-    ensures answer { λ r. ⌜ r ≡ sameBytes (now (a .entry)) (now (b .entry)) ⌝ }
+    ensures answer { λ r. ⌜ r ≡ sameList (now (a .entry)) (now (b .entry)) ⌝ }
 {
     check::same(a, b)
 }
 
-// ---- degrees
-
-// Question 8 or 9, or 0 with the order.
-fn transformations_said(answer: TransformationAnswer) -> Said
-    ensures answer { λ r. ⌜ r ≡ answerSaid (answerSays answer) ⌝ }
+// The question that fails and what is said with it, or 0 with the number.
+fn numbered_said(answer: Numbered) -> Said
+    ensures answer { λ r. ⌜ r ≡ answerSaid (numberedSays answer) ⌝ }
 {
     match answer {
-        TransformationAnswer::Degree => failed(8, 0),
-        TransformationAnswer::Cells => failed(9, 0),
-        TransformationAnswer::Order(n) => failed(0, n),
+        Numbered::Number(n) => failed(0, n),
+        Numbered::Refused(no) => said_of_no(no),
     }
 }
 
+// ---- degrees
+
 // A degree and a buffer of 20 cells: what is said, and the buffer afterwards.
 fn degree(d: usize, said: Said, after: [u8; 20], tally: Tally) -> Tally
-    ensures answer { λ r. ⌜ r ≡ counted (counted tally (sameSaid (answerSaid (transformationSays d 20)) said)) (sameBytes (transformationCellsAfter d (replicate 20 7)) after) ⌝ }
+    ensures answer { λ r. ⌜ r ≡ counted (counted tally (sameSaid (answerSaid (transformationSays d 20)) said)) (sameList (transformationCellsAfter d (replicate 20 7)) after) ⌝ }
 {
     let mut cells = [7u8; 20];
-    let answer = transformations_said(transformations::fill(d, &mut cells));
+    let answer = numbered_said(transformations::fill(d, &mut cells));
     let answered = counted(tally, same_said(answer, said));
     counted(answered, same_bytes(&cells, &after))
 }
@@ -91,7 +90,7 @@ pub fn large_target() -> Tally
     ensures answer { λ r. ⌜ r ≡ agreed (suc (walkCalls false mat5Cells 5 (transformationCells 3) 27 (replicate 5 0))) empty ⌝ }
 {
     let mut cells = [0u8; 729];
-    let answer = transformations_said(transformations::fill(3, &mut cells));
+    let answer = numbered_said(transformations::fill(3, &mut cells));
     let answered = counted(start(), same_said(answer, failed(0, 27)));
     walk(false, &MAT5, 5, &cells, 27, [0; 5], answered)
 }
@@ -127,38 +126,12 @@ pub fn scratch() -> Tally
     embedded(1, 100, [2, 3], [75, 255, 255], short)
 }
 
-// The question that fails, and what is said with it.
-fn fault_said(fault: TextFault) -> Said
-    ensures answer { λ r. ⌜ r ≡ refusalSaid (faultRefusal fault) ⌝ }
-{
-    match fault {
-        TextFault::Length => failed(20, 0),
-        TextFault::Byte(place) => failed(21, place),
-        TextFault::FieldLength => failed(23, 0),
-        TextFault::LeadingZero => failed(24, 0),
-        TextFault::FieldValue => failed(25, 0),
-        TextFault::Shape => failed(26, 0),
-        TextFault::Order => failed(1, 0),
-        TextFault::Room => failed(27, 0),
-    }
-}
-
-// The question that fails, or 0 with the order.
-fn loaded_said(loaded: Loaded) -> Said
-    ensures answer { λ r. ⌜ r ≡ answerSaid (loadedAnswer loaded) ⌝ }
-{
-    match loaded {
-        Loaded::Order(n) => failed(0, n),
-        Loaded::Refused(fault) => fault_said(fault),
-    }
-}
-
 // A text of one field: what is said, and the cell that is written, if one is.
 fn field(text: &[u8], said: Said, cell: u8, tally: Tally) -> Tally
-    ensures answer { λ r. ⌜ r ≡ counted (counted tally (sameSaid (answerSaid (loadAnswer (now (text .entry)) (7 ∷ 7 ∷ []))) said)) (sameBytes (loadedCells (now (text .entry)) (7 ∷ 7 ∷ [])) (cell ∷ 7 ∷ [])) ⌝ }
+    ensures answer { λ r. ⌜ r ≡ counted (counted tally (sameSaid (answerSaid (loadAnswer (now (text .entry)) (7 ∷ 7 ∷ []))) said)) (sameList (loadedCells (now (text .entry)) (7 ∷ 7 ∷ [])) (cell ∷ 7 ∷ [])) ⌝ }
 {
     let mut cells = [7u8; 2];
-    let loaded = loaded_said(text::load(text, &mut cells));
+    let loaded = numbered_said(text::load(text, &mut cells));
     let answered = counted(tally, same_said(loaded, said));
     counted(answered, same_bytes(&cells, &[cell, 7]))
 }

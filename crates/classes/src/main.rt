@@ -8,10 +8,8 @@ ghost use Rattle.csv.specs.Questions.{longest};
 use classification::Classifier;
 use classification::file_name;
 use libc::STDOUT_FILENO;
-
-// One byte more than a text may have: enough to see that a file is too long. Its later bytes do not matter (`first-bytes` of crate
-// `classification`).
-const ROOM: usize = 57721;
+use tables::limits::CELLS;
+use tables::limits::FILE;
 
 // What came of a file: whether it could be opened, and how many bytes were read.
 struct Reading {
@@ -20,7 +18,7 @@ struct Reading {
 }
 
 // Reads file k to `text`. A file that is opened and can't be read counts as empty.
-fn read_file(k: usize, text: &mut [u8; ROOM]) -> Reading
+fn read_file(k: usize, text: &mut [u8; FILE]) -> Reading
     requires room { ⌜ longest < length (now text) ⌝ }
     ensures count { λ r. ⌜ Counts (r .length) (now (text .exit)) ⌝ }
     ensures size { λ _. ⌜ length (now (text .exit)) ≡ length (now (text .entry)) ⌝ }
@@ -42,8 +40,8 @@ fn read_file(k: usize, text: &mut [u8; ROOM]) -> Reading
 }
 
 fn main() {
-    let mut text = [0u8; ROOM];
-    let mut cells = [0u8; 14400];
+    let mut text = [0u8; FILE];
+    let mut cells = [0u8; CELLS];
     let mut out = [0u8; 1700];
     let mut classifier = Classifier::start();
     let mut wanted = classifier.wanted();

@@ -11,7 +11,7 @@ use lib.ListN.{length, getD, length-map}
 use Rattle.semigroups.specs.Lists.{range, elements, keep, sum, count, Sorted}
 use Rattle.semigroups.specs.Tables.{Element}
 use Rattle.semigroups.specs.Questions.{Refusal}
-use Rattle.semigroups.proofs.Lists.{length-elements, mem-elements}
+use Rattle.semigroups.proofs.Lists.{length-elements, mem-elements, keep-agree}
 use Rattle.semigroups.proofs.Questions.{earliest-no}
 use Rattle.semigroups.proofs.Sums.{count-same, count-map, sum-same}
 use Rattle.csv.specs.Tables.{orderOf}
@@ -20,7 +20,7 @@ use Rattle.files.specs.Files.{fileQuestions, fileRefusal, room}
 use Rattle.classification.specs.Classes.{isNone, accepted, alike, refusedBy, inClass, noteBy, file, lowest, noteOf, notesOf}
 use Rattle.classification.specs.Output.{isIn, note, names, lowestFiles, members, noteRecords, totalRecords, notesText, classesOutput}
 use Rattle.classification.specs.Laws.{IsAccepted, Classified, Totalled, NothingForNoFile}
-use Rattle.classification.proofs.Lists.{getD-map-range, keep-within, entries}
+use Rattle.classification.proofs.Lists.{getD-map-range, entries}
 use Rattle.classification.proofs.Equivalence.{Equivalence, lowest-like, one-class as one-lowest, lowest-own, firsts-rise, first-exactly, counted-once, totals-sum}
 use Rattle.classification.proofs.Files.{accepted-passes, accepted-exactly, alike-like, like-alike, like-itself, like-back, like-on}
 
@@ -98,7 +98,7 @@ module _ (files : List (List ℕ)) where
   unfolding lowestFiles
   lowest-files =
       ap (λ (n : ℕ). keep (names (notesOf files)) (elements n)) length-notes
-      ∙ keep-within (names (notesOf files)) (λ k. ok k && eqb (lowest files k) k) (elements (length files)) (λ k m. names-is k (mem-elements (length files) k m))
+      ∙ keep-agree (names (notesOf files)) (λ k. ok k && eqb (lowest files k) k) (elements (length files)) (λ k m. names-is k (mem-elements (length files) k m))
 
   members-are : (a : ℕ) → members (notesOf files) a ≡ count (λ k. ok k && eqb (lowest files k) a) (elements (length files))
   unfolding members notesOf

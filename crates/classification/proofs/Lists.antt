@@ -1,12 +1,12 @@
 -- Lists: entries of a list of values, equal on the entries, the least number that passes. Assumes nothing.
 use mathlib.Core.Path.{_≡_, refl, ap, ap₂, _∙_}
-use mathlib.Core.Bool.{Bool, cond}
+use mathlib.Core.Bool.{Bool}
 use mathlib.Core.List.{List, [], _∷_, map, List·Memᴰ, List·Memᴰ·head, List·Memᴰ·tail}
 use mathlib.Core.Option.{Option, none, some, Option·getD}
 use Prim.Native.Nat.{ℕ, zero, suc, _+_, _-_, _≤_, _<_}
 use native.Mathlib.Omega.{arith}
 use lib.ListN.{length, getD}
-use Rattle.semigroups.specs.Lists.{range, elements, find, keep, least}
+use Rattle.semigroups.specs.Lists.{range, elements, find, least}
 use Rattle.semigroups.specs.Tables.{Element}
 use Rattle.semigroups.proofs.Lists.{mem-range, mem-elements, find-some, find-same}
 
@@ -15,11 +15,6 @@ unfolding range
 getD-map-range f d i zero k h = absurd (let z : ⊥ = omega arith in z)
 getD-map-range f d i (suc n) zero h = ap f (let z : i ≡ i + 0 = omega arith in z)
 getD-map-range f d i (suc n) (suc k) h = getD-map-range f d (suc i) n k (omega arith) ∙ ap f (let z : suc i + k ≡ i + suc k = omega arith in z)
-
-pub keep-within : {A : Type 0} (p q : A → Bool) (l : List A) → ((x : A) → List·Memᴰ x l → p x ≡ q x) → keep p l ≡ keep q l
-unfolding keep
-keep-within p q [] h = refl
-keep-within {A} p q (x ∷ l) h = ap₂ (λ (b : Bool) (r : List A). cond b (x ∷ r) r) (h x (List·Memᴰ·head refl)) (keep-within p q l (λ y m. h y (List·Memᴰ·tail m)))
 
 pub map-within : {A B : Type 0} (f g : A → B) (l : List A) → ((x : A) → List·Memᴰ x l → f x ≡ g x) → map f l ≡ map g l
 map-within f g [] h = refl

@@ -9,6 +9,7 @@ use lib.ListN.{length, getD}
 use Rattle.semigroups.specs.Lists.{elements, keep, count}
 use Rattle.csv.specs.Decimals.{numeral}
 use Rattle.csv.specs.Records.{rowsText}
+use Rattle.files.specs.Answers.{refusedWord}
 use Rattle.classification.specs.Classes.{Folder, filesOf, Note, refusedBy, inClass, notesOf}
 
 -- ---- the words of the records, as bytes
@@ -16,10 +17,6 @@ use Rattle.classification.specs.Classes.{Folder, filesOf, Note, refusedB
 -- "class"
 abbrev pub classWord : List ℕ
 classWord = 99 ∷ 108 ∷ 97 ∷ 115 ∷ 115 ∷ []
-
--- "refused"
-abbrev pub refusedWord : List ℕ
-refusedWord = 114 ∷ 101 ∷ 102 ∷ 117 ∷ 115 ∷ 101 ∷ 100 ∷ []
 
 -- "total"
 abbrev pub totalWord : List ℕ

@@ -15,13 +15,16 @@ ghost use Rattle.classification.specs.Classes as classes;
 ghost use Rattle.classification.specs.Output as output;
 ghost use Rattle.classification.specs.Progress as progress;
 ghost use Rattle.classification.specs.Held.{noteFrom, notesFrom, notesIn, progressOf, answerOf, cellsThen, totalText, fileName};
-use files::FileVerdict;
 use files::failed_question;
 use files::load_then_check;
 use lines::put_break;
 use lines::put_bytes;
 use lines::put_field;
 use search::Kind;
+use tables::Numbered;
+use tables::limits::CELLS;
+use tables::limits::ORDER;
+use tables::limits::SCRATCH;
 
 // What is done with the next file that is read: it is a new one; or it is file j, to be compared with the new file's table of order n; or none is
 // read any more.
@@ -53,13 +56,13 @@ pub fn file_name(k: usize) -> [u8; 6]
     ]
 }
 
-// Whether an isomorphism exists between two tables. The buffers lent to the search have the right length, so no question fails.
+// Returns whether an isomorphism exists between two accepted tables.
 fn isomorphic(source: &[u8], m: usize, target: &[u8], n: usize) -> bool
     requires { ⌜ Accepted m (now source) × Accepted n (now target) ⌝ }
     ensures answer { λ r. ⌜ r ≡ classes.isomorphic m (now (source .entry)) n (now (target .entry)) ⌝ }
 {
-    let mut map = [0u8; 120];
-    let mut scratch = [0u8; 14400];
+    let mut map = [0u8; ORDER];
+    let mut scratch = [0u8; SCRATCH];
     search::find(
         Kind::Isomorphisms,
         false,
@@ -77,9 +80,9 @@ fn holds_like(text: &[u8], n: usize, cells: &[u8]) -> bool
     requires { ⌜ Accepted n (now cells) ⌝ }
     ensures answer { λ r. ⌜ r ≡ classes.holdsLike (now (text .entry)) n (now (cells .entry)) ⌝ }
 {
-    let mut own = [0u8; 14400];
+    let mut own = [0u8; CELLS];
     let verdict = load_then_check(text, &mut own);
-    let FileVerdict::Accepted(m) = verdict else {
+    let Numbered::Number(m) = verdict else {
         return false;
     };
     if m != n {
@@ -340,7 +343,7 @@ impl Classifier {
         ensures cells { λ _. ⌜ now (cells .exit) ≡ cellsAfter (now (text .entry)) (now (cells .entry)) ⌝ }
     {
         let verdict = load_then_check(text, cells);
-        let FileVerdict::Accepted(n) = verdict else {
+        let Numbered::Number(n) = verdict else {
             return self.noted(0, failed_question(verdict));
         };
         self.onward(n, 0)

@@ -10,6 +10,8 @@ ghost use Rattle.semigroups.specs.Tables.{product, Element, Filled};
 ghost use Rattle.semigroups.specs.Search.{fits, passes};
 ghost use Rattle.constraints.specs.Constraints.{allows, noted, imageProduct, newFits};
 ghost use Rattle.constraints.specs.Tracking.{Trial, Tracks};
+use tables::limits::ORDER;
+use tables::limits::PLACES;
 
 // Whether a constraint allows the value y.
 fn allowed(constraint: u8, y: usize) -> bool
@@ -22,7 +24,7 @@ fn allowed(constraint: u8, y: usize) -> bool
 }
 
 // The value y is asked at this place too.
-fn note(constraints: &mut [u8; 121], place: usize, y: usize)
+fn note(constraints: &mut [u8; PLACES], place: usize, y: usize)
     requires { ⌜ (place ≤ 120) × (y ≤ 120) ⌝ }
     ensures constraints { λ _. ⌜ now (constraints .exit) ≡ noted (now (constraints .entry)) place y ⌝ }
 {
@@ -39,9 +41,9 @@ fn note_pair(
     m: usize,
     target: &[u8],
     n: usize,
-    image: &[u8; 120],
-    forced: &mut [u8; 121],
-    owner: &mut [u8; 121],
+    image: &[u8; ORDER],
+    forced: &mut [u8; PLACES],
+    owner: &mut [u8; PLACES],
     a: usize,
     b: usize,
 )
@@ -65,9 +67,9 @@ pub fn note_newest(
     m: usize,
     target: &[u8],
     n: usize,
-    image: &[u8; 120],
-    forced: &mut [u8; 121],
-    owner: &mut [u8; 121],
+    image: &[u8; ORDER],
+    forced: &mut [u8; PLACES],
+    owner: &mut [u8; PLACES],
     len: usize,
 )
     requires { ⌜ Filled m (now source) × Filled n (now target) ⌝ }
@@ -84,7 +86,7 @@ pub fn note_newest(
 }
 
 // The image of element a, where x is that of the next element.
-fn image_of(image: &[u8; 120], len: usize, x: usize, a: usize) -> usize
+fn image_of(image: &[u8; ORDER], len: usize, x: usize, a: usize) -> usize
     requires { ⌜ (length (now image) ≡ 120) × (len < 120) × Element (len + 1) a ⌝ }
     requires { ⌜ (Element len a → at (now image) a ≤ 120) ⌝ }
     ensures answer { λ r. ⌜ r ≡ at (take len (now (image .entry)) ++ x ∷ []) a ⌝ }
@@ -102,8 +104,8 @@ fn pair_fits(
     m: usize,
     target: &[u8],
     n: usize,
-    image: &[u8; 120],
-    used: &[u8; 121],
+    image: &[u8; ORDER],
+    used: &[u8; PLACES],
     len: usize,
     x: usize,
     a: usize,
@@ -133,8 +135,8 @@ fn new_fits<'a>(
     m: usize,
     target: &[u8],
     n: usize,
-    image: &'a [u8; 120],
-    used: &'a [u8; 121],
+    image: &'a [u8; ORDER],
+    used: &'a [u8; PLACES],
     len: usize,
     x: usize,
 ) -> bool
@@ -157,7 +159,7 @@ fn new_fits<'a>(
 }
 
 // Whether the constraints allow x as the image of element `next`.
-fn settled<'a>(forced: &'a [u8; 121], owner: &'a [u8; 121], next: usize, x: usize) -> bool
+fn settled<'a>(forced: &'a [u8; PLACES], owner: &'a [u8; PLACES], next: usize, x: usize) -> bool
     requires { ⌜ (next ≤ 120) × (x ≤ 120) ⌝ }
     ensures answer { λ r. ⌜ r ≡ (allows (getD (now (forced .entry)) next 0) x && allows (getD (now (owner .entry)) x 0) next) ⌝ }
 {
@@ -173,10 +175,10 @@ pub fn passes_with<'a>(
     m: usize,
     target: &[u8],
     n: usize,
-    image: &'a [u8; 120],
-    used: &'a [u8; 121],
-    forced: &'a [u8; 121],
-    owner: &'a [u8; 121],
+    image: &'a [u8; ORDER],
+    used: &'a [u8; PLACES],
+    forced: &'a [u8; PLACES],
+    owner: &'a [u8; PLACES],
     len: usize,
     x: usize,
 ) -> bool

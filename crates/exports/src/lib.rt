@@ -1,6 +1,7 @@
 // The library's entry points for programs in C and Rust: numbers and lent slices of any content. Each writes sixteen numbers to `answer`: the number of
 // the earliest failed question, or 0; the side that a refusal names, 1 for source or 2 for target, or 0; then the values of the answer, and zeros.
 ghost use mathlib.Core.Path.{_≡_};
+ghost use Prim.Native.Nat.{_≤_};
 ghost use lib.ListN.{length};
 ghost use Rattle.semigroups.specs.Tables.{product};
 ghost use Rattle.semigroups.specs.Invariants.{indexPeriod, profile};
@@ -8,43 +9,60 @@ ghost use Rattle.semigroups.specs.Maps.{embeddings, isomorphisms, reversed, fir
 ghost use Rattle.semigroups.specs.Questions.{tableRefusal, elementRefusal};
 ghost use Rattle.semigroups.specs.Light.{generatorsRefusal};
 ghost use Rattle.semigroups.specs.Calls.{givenUnless};
-ghost use Rattle.tables.specs.Answers.{verdictRefusal};
+ghost use Rattle.tables.specs.Answers.{verdictRefusal, numberedSays};
 ghost use Rattle.invariants.specs.Answers.{indexPeriodSays, profileSays};
 ghost use Rattle.maps.specs.Answers.{mapCheck, mapAnswerSays};
-ghost use Rattle.generated.specs.Answers.{generatorsVerdictRefusal, subsemigroupSays, partAfter, elementsAfter, subsemigroupAnswerSays};
+ghost use Rattle.generated.specs.Answers.{generatorsVerdictRefusal, subsemigroupSays, partAfter, elementsAfter};
 ghost use Rattle.copies.specs.Answers.{copiesSays, copiesScratch, copiesAnswerSays};
 ghost use Rattle.search.specs.Calls.{lend, call};
 ghost use Rattle.search.specs.Answers.{searchAnswerSays, limitedAnswerSays};
 ghost use Rattle.search.specs.Limited.{limitedCall};
 ghost use Rattle.search.specs.Among.{callAmong};
-ghost use Rattle.transformations.specs.Answers.{transformationSays, transformationCellsAfter, transformationAnswerSays};
+ghost use Rattle.transformations.specs.Answers.{transformationSays, transformationCellsAfter};
 ghost use Rattle.csv.specs.Calls.{loadAnswer, cellsAfter, saveAnswer, textAfter};
-ghost use Rattle.text.specs.Answers.{loadedAnswer, savedAnswer};
+ghost use Rattle.exports.specs.Words.{words, numbersWords};
 ghost use Rattle.exports.specs.Answers.{questionWords, valueWords, answerWords, returned, wordsOf, indexPeriodValues, profileValues, checkedValues, soughtValues, limitedValues, numberValues, degreeValues, copiesValues};
 ghost use Rattle.planning.specs.Answers.{degreeSays, positionsAfter, degreeAnswerSays};
 ghost use Rattle.sheets.specs.Readings.{Reading};
 ghost use Rattle.sheets.specs.Calls.{loadNamesAnswer, namesAfter, lengthsAfter, saveNamesAnswer, sheetAfter};
-ghost use Rattle.names.specs.Answers.{namesAnswerSays};
 use copies::CopiesAnswer;
 use generated::GeneratorsVerdict;
-use generated::SubsemigroupAnswer;
 use invariants::IndexPeriodAnswer;
 use invariants::ProfileAnswer;
 use maps::MapAnswer;
-use names::NamesAnswer;
-use numbers::refusal_words;
-use numbers::words;
 use planning::DegreeAnswer;
 use search::Kind;
 use search::LimitedAnswer;
 use search::SearchAnswer;
+use tables::Numbered;
 use tables::Refusal;
 use tables::Verdict;
-use text::Loaded;
-use text::Saved;
-use transformations::TransformationAnswer;
 
 // ---- the sixteen numbers of each answer
+
+// Returns the number, the side and the values, then zeros.
+fn words(number: usize, side: usize, values: &[usize]) -> [u64; 16]
+    requires few { ⌜ length (now values) ≤ 14 ⌝ }
+    ensures answer { λ r. ⌜ r ≡ words number side (now (values .entry)) ⌝ }
+{
+    let mut answer = [0u64; 16];
+    answer[0] = number as u64;
+    answer[1] = side as u64;
+    let mut i: usize = 0;
+    while i < values.len() {
+        answer[i + 2] = values[i] as u64;
+        i += 1;
+    }
+    answer
+}
+
+// Returns what is said with a refusal.
+fn refusal_words(refusal: Refusal) -> [u64; 16]
+    ensures answer { λ r. ⌜ r ≡ numbersWords refusal ⌝ }
+{
+    let values = [refusal.first, refusal.second, refusal.third];
+    words(refusal.number, refusal.side, &values)
+}
 
 fn verdict_words(verdict: Verdict) -> [u64; 16]
     ensures answer { λ r. ⌜ r ≡ questionWords (verdictRefusal verdict) ⌝ }
@@ -64,7 +82,7 @@ fn index_period_words(said: IndexPeriodAnswer) -> [u64; 16]
             0,
             &[powers.index, powers.period, powers.idempotent],
         ),
-        IndexPeriodAnswer::Refused(fault) => refusal_words(fault.refusal()),
+        IndexPeriodAnswer::Refused(no) => refusal_words(no.refusal()),
     }
 }
 
@@ -86,7 +104,7 @@ fn profile_words(said: ProfileAnswer) -> [u64; 16]
                 p.commuting,
             ],
         ),
-        ProfileAnswer::Refused(fault) => refusal_words(fault.refusal()),
+        ProfileAnswer::Refused(no) => refusal_words(no.refusal()),
     }
 }
 
@@ -112,15 +130,6 @@ fn generators_words(verdict: GeneratorsVerdict) -> [u64; 16]
     }
 }
 
-fn subsemigroup_words(said: SubsemigroupAnswer) -> [u64; 16]
-    ensures answer { λ r. ⌜ r ≡ answerWords numberValues (subsemigroupAnswerSays said) ⌝ }
-{
-    match said {
-        SubsemigroupAnswer::Order(k) => words(0, 0, &[k]),
-        SubsemigroupAnswer::Refused(fault) => refusal_words(fault.refusal()),
-    }
-}
-
 fn search_words(said: SearchAnswer) -> [u64; 16]
     ensures answer { λ r. ⌜ r ≡ answerWords soughtValues (searchAnswerSays said) ⌝ }
 {
@@ -142,51 +151,22 @@ fn limited_words(said: LimitedAnswer) -> [u64; 16]
     }
 }
 
-fn transformation_words(said: TransformationAnswer) -> [u64; 16]
-    ensures answer { λ r. ⌜ r ≡ answerWords numberValues (transformationAnswerSays said) ⌝ }
-{
-    match said {
-        TransformationAnswer::Degree => refusal_words(Refusal::by(8, 0)),
-        TransformationAnswer::Cells => refusal_words(Refusal::by(9, 0)),
-        TransformationAnswer::Order(n) => words(0, 0, &[n]),
-    }
-}
-
-fn loaded_words(said: Loaded) -> [u64; 16]
-    ensures answer { λ r. ⌜ r ≡ answerWords numberValues (loadedAnswer said) ⌝ }
-{
-    match said {
-        Loaded::Order(n) => words(0, 0, &[n]),
-        Loaded::Refused(fault) => refusal_words(fault.refusal()),
-    }
-}
-
-fn saved_words(said: Saved) -> [u64; 16]
-    ensures answer { λ r. ⌜ r ≡ answerWords numberValues (savedAnswer said) ⌝ }
-{
-    match said {
-        Saved::Length(size) => words(0, 0, &[size]),
-        Saved::Refused(fault) => refusal_words(fault.refusal()),
-        Saved::Room => refusal_words(Refusal::by(28, 0)),
-    }
-}
-
 fn degree_words(said: DegreeAnswer) -> [u64; 16]
     ensures answer { λ r. ⌜ r ≡ answerWords degreeValues (degreeAnswerSays said) ⌝ }
 {
     match said {
         DegreeAnswer::Degree(degree) => words(0, 0, &[degree]),
         DegreeAnswer::Nothing => words(0, 0, &[0]),
-        DegreeAnswer::Refused(fault) => refusal_words(fault.refusal()),
+        DegreeAnswer::Refused(no) => refusal_words(no.refusal()),
     }
 }
 
-fn names_words(said: NamesAnswer) -> [u64; 16]
-    ensures answer { λ r. ⌜ r ≡ answerWords numberValues (namesAnswerSays said) ⌝ }
+fn numbered_words(said: Numbered) -> [u64; 16]
+    ensures answer { λ r. ⌜ r ≡ answerWords numberValues (numberedSays said) ⌝ }
 {
     match said {
-        NamesAnswer::Given(x) => words(0, 0, &[x]),
-        NamesAnswer::Refused(fault) => refusal_words(fault.refusal()),
+        Numbered::Number(x) => words(0, 0, &[x]),
+        Numbered::Refused(no) => refusal_words(no.refusal()),
     }
 }
 
@@ -382,7 +362,7 @@ pub extern "C" fn tickdrizzle_subsemigroup(
     ensures part { λ _. ⌜ now (part .exit) ≡ partAfter order (now (cells .entry)) (now (chosen .entry)) (now (part .entry)) (length (now (elements .entry))) ⌝ }
     ensures elements { λ _. ⌜ now (elements .exit) ≡ elementsAfter order (now (cells .entry)) (now (chosen .entry)) (length (now (part .entry))) (now (elements .entry)) ⌝ }
 {
-    *answer = subsemigroup_words(generated::subsemigroup(cells, order, chosen, part, elements));
+    *answer = numbered_words(generated::subsemigroup(cells, order, chosen, part, elements));
 }
 
 // ---- transformations
@@ -397,7 +377,7 @@ pub extern "C" fn tickdrizzle_transformations(
     ensures answer { λ _. ⌜ now (answer .exit) ≡ answerWords numberValues (transformationSays degree (length (now (cells .entry)))) ⌝ }
     ensures cells { λ _. ⌜ now (cells .exit) ≡ transformationCellsAfter degree (now (cells .entry)) ⌝ }
 {
-    *answer = transformation_words(transformations::fill(degree, cells));
+    *answer = numbered_words(transformations::fill(degree, cells));
 }
 
 // ---- text
@@ -408,7 +388,7 @@ pub extern "C" fn tickdrizzle_load(text: &[u8], cells: &mut [u8], answer: &mut [
     ensures answer { λ _. ⌜ now (answer .exit) ≡ answerWords numberValues (loadAnswer (now (text .entry)) (now (cells .entry))) ⌝ }
     ensures cells { λ _. ⌜ now (cells .exit) ≡ cellsAfter (now (text .entry)) (now (cells .entry)) ⌝ }
 {
-    *answer = loaded_words(text::load(text, cells));
+    *answer = numbered_words(text::load(text, cells));
 }
 
 // Saves a table: writes its text to the start of `text`. Value: the length of the text.
@@ -422,7 +402,7 @@ pub extern "C" fn tickdrizzle_save(
     ensures answer { λ _. ⌜ now (answer .exit) ≡ answerWords numberValues (saveAnswer order (now (cells .entry)) (now (text .entry))) ⌝ }
     ensures text { λ _. ⌜ now (text .exit) ≡ textAfter order (now (cells .entry)) (now (text .entry)) ⌝ }
 {
-    *answer = saved_words(text::save(cells, order, text));
+    *answer = numbered_words(text::save(cells, order, text));
 }
 
 // ---- searches among given pairs
@@ -576,7 +556,7 @@ pub extern "C" fn tickdrizzle_load_names(
     ensures names { λ _. ⌜ ((w : Reading (now (text .entry))) → now (names .exit) ≡ namesAfter w (now (names .entry)) (now (lengths .entry))) ⌝ }
     ensures lengths { λ _. ⌜ ((w : Reading (now (text .entry))) → now (lengths .exit) ≡ lengthsAfter w (now (names .entry)) (now (lengths .entry))) ⌝ }
 {
-    *answer = names_words(names::load(text, names, lengths));
+    *answer = numbered_words(names::load(text, names, lengths));
 }
 
 // Saves names with these lengths: writes their sheet to the start of `text`. Value: the length of the sheet.
@@ -590,7 +570,7 @@ pub extern "C" fn tickdrizzle_save_names(
     ensures answer { λ _. ⌜ now (answer .exit) ≡ answerWords numberValues (saveNamesAnswer (now (names .entry)) (now (lengths .entry)) (now (text .entry))) ⌝ }
     ensures text { λ _. ⌜ now (text .exit) ≡ sheetAfter (now (names .entry)) (now (lengths .entry)) (now (text .entry)) ⌝ }
 {
-    *answer = names_words(names::save(names, lengths, text));
+    *answer = numbered_words(names::save(names, lengths, text));
 }
 
 // ---- copies

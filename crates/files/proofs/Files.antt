@@ -26,13 +26,11 @@ use Rattle.csv.proofs.Accepted.{first-row}
 use Rattle.csv.proofs.RoundTrips.{given-passed, loads-given}
 use denote.Enum.Declared.{tagOf}
 use types.Run.{OneOf, miss}
-use Rattle.tables.specs.Answers.{faultRefusal}
-use Rattle.text.specs.Answers.{textFaultRefusal as textRefusal}
+use Rattle.tables.specs.Answers.{noRefusal, numberedSays}
+use Rattle.tables.specs.declared.Numbered.{Numbered}
+use Rattle.tables.specs.declared.Numbered.the-variants.{Number, Refused as NumberRefused}
+use Rattle.tables.proofs.Numbered as numbered
 use Rattle.files.specs.Files.{loadedQuestions, fileRefusal, FilePasses, fileAnswer}
-use Rattle.files.specs.Answers.{verdictAnswer}
-use Rattle.files.specs.declared.FileVerdict.{FileVerdict}
-use Rattle.files.specs.declared.FileVerdict.the-variants.{Accepted as Accepted-order, Text, Table}
-use Rattle.files.proofs.FileVerdict as verdicts
 
 module _ (t : List ℕ) (room : ℕ) where
   pub loading-refused : {r : Refusal} → loadRefusal t room ≡ some r → fileRefusal t room ≡ some r
@@ -95,14 +93,13 @@ module _ (t cells : List ℕ) where
 -- ---- a verdict that is not the first case
 
 -- The file is refused.
-pub record Refused (v : FileVerdict) : Type 0 where
+pub record Refused (v : Numbered) : Type 0 where
   pub by : Refusal
-  pub says : verdictAnswer v ≡ refused by
+  pub says : numberedSays v ≡ refused by
 
-pub not-accepted : (v : FileVerdict) → OneOf (1 ∷ 2 ∷ []) (tagOf verdicts.the-type v) → Refused v
-not-accepted (Accepted-order n) h = absurd (miss (1 ∷ 2 ∷ []) 0 tt h)
-not-accepted (Text fault) h = record { by = textRefusal fault; says = refl }
-not-accepted (Table fault) h = record { by = faultRefusal fault; says = refl }
+pub not-accepted : (v : Numbered) → OneOf (1 ∷ []) (tagOf numbered.the-type v) → Refused v
+not-accepted (Number n) h = absurd (miss (1 ∷ []) 0 tt h)
+not-accepted (NumberRefused r) h = record { by = noRefusal r; says = refl }
 
 -- ---- an accepted file
 

@@ -1,18 +1,13 @@
--- What the answer about a file means: 01's number of the question, and what is said with it.
--- Assumes nothing.
+-- What programs say of a file that is refused (01, "Program `recue`"). Assumes nothing.
+use mathlib.Core.List.{List, [], _∷_}
 use Prim.Native.Nat.{ℕ}
 use Rattle.semigroups.specs.Calls.{Answer, refused, gives}
-use Rattle.tables.specs.Answers as tables
-use Rattle.text.specs.Answers as text
-use Rattle.files.specs.declared.FileVerdict.{FileVerdict}
-use Rattle.files.specs.declared.FileVerdict.the-variants.{Accepted, Text, Table}
 
-abbrev pub verdictAnswer : FileVerdict → Answer ℕ
-verdictAnswer (Accepted n) = gives n
-verdictAnswer (Text fault) = refused (text.textFaultRefusal fault)
-verdictAnswer (Table fault) = refused (tables.faultRefusal fault)
-
--- The number of the failed question; 0 where none fails.
+-- The number of the question that fails; 0 where none fails.
 abbrev pub numberOf : Answer ℕ → ℕ
 numberOf (refused r) = r .number
 numberOf (gives n) = 0
+
+-- "refused", as bytes
+abbrev pub refusedWord : List ℕ
+refusedWord = 114 ∷ 101 ∷ 102 ∷ 117 ∷ 115 ∷ 101 ∷ 100 ∷ []

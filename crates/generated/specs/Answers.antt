@@ -7,7 +7,7 @@ use Prim.Native.Nat.{ℕ}
 use lib.ListN.{length}
 use Rattle.semigroups.specs.Tables.{product}
 use Rattle.semigroups.specs.Questions.{Refusal, no}
-use Rattle.semigroups.specs.Calls.{Answer, refused, gives, givenUnless, writtenUnless}
+use Rattle.semigroups.specs.Calls.{Answer, givenUnless, writtenUnless}
 use Rattle.semigroups.specs.Generated.{generated}
 use Rattle.semigroups.specs.Subsemigroups.{partCells, subsemigroupRefusal}
 use Rattle.tables.specs.Answers.{faultRefusal}
@@ -15,10 +15,6 @@ use Rattle.generated.specs.declared.GeneratorsFault.{GeneratorsFault}
 use Rattle.generated.specs.declared.GeneratorsFault.the-variants.{Table, Entry, Elements}
 use Rattle.generated.specs.declared.GeneratorsVerdict.{GeneratorsVerdict}
 use Rattle.generated.specs.declared.GeneratorsVerdict.the-variants.{Accepted, Refused}
-use Rattle.generated.specs.declared.SubsemigroupFault.{SubsemigroupFault}
-use Rattle.generated.specs.declared.SubsemigroupFault.the-variants as fault
-use Rattle.generated.specs.declared.SubsemigroupAnswer.{SubsemigroupAnswer}
-use Rattle.generated.specs.declared.SubsemigroupAnswer.the-variants as answer
 
 -- ---- the shorter check (02, viii)
 
@@ -46,17 +42,6 @@ partAfter n cells l before elementsLength = writtenUnless (subsemigroupRefusal n
 -- The element buffer after the call: the part's elements; later bytes are untouched.
 unfoldable pub elementsAfter : ℕ → List ℕ → List ℕ → ℕ → List ℕ → List ℕ
 elementsAfter n cells l cellsLength before = writtenUnless (subsemigroupRefusal n cells l cellsLength (length before)) (generated n (product n cells) l) before
-
--- The table's fault as it is; 60 to 62 carry nothing.
-abbrev pub subsemigroupFaultRefusal : SubsemigroupFault → Refusal
-subsemigroupFaultRefusal (fault.Table f) = faultRefusal f
-subsemigroupFaultRefusal fault.Chosen = no 60 []
-subsemigroupFaultRefusal fault.Cells = no 61 []
-subsemigroupFaultRefusal fault.Elements = no 62 []
-
-abbrev pub subsemigroupAnswerSays : SubsemigroupAnswer → Answer ℕ
-subsemigroupAnswerSays (answer.Order k) = gives k
-subsemigroupAnswerSays (answer.Refused f) = refused (subsemigroupFaultRefusal f)
 
 -- A refusal changes no byte of either buffer.
 abbrev pub SubsemigroupKeeps : Type 0

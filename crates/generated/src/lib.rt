@@ -12,12 +12,14 @@ ghost use Rattle.semigroups.specs.Calls.{overwritten};
 ghost use Rattle.semigroups.specs.Generated.{Inside, generated};
 ghost use Rattle.semigroups.specs.Light.{badTripleThrough, generatorsRefusal};
 ghost use Rattle.semigroups.specs.Subsemigroups.{partCells};
-ghost use Rattle.tables.specs.Answers.{verdictRefusal, refusalNumbers};
+ghost use Rattle.tables.specs.Answers.{verdictRefusal, numberedSays, refusalNumbers};
 ghost use Rattle.tables.specs.Found.{indicator, addingAll, Found};
 ghost use Rattle.generated.specs.Found.{productsUpTo};
 ghost use Rattle.generated.specs.Parts.{markedElements, numbering, ClosedPart};
-ghost use Rattle.generated.specs.Answers.{generatorsFaultRefusal, generatorsVerdictRefusal, subsemigroupFaultRefusal, subsemigroupAnswerSays, subsemigroupSays, partAfter, elementsAfter};
+ghost use Rattle.generated.specs.Answers.{generatorsFaultRefusal, generatorsVerdictRefusal, subsemigroupSays, partAfter, elementsAfter};
 use tables::Fault;
+use tables::No;
+use tables::Numbered;
 use tables::Place;
 use tables::Refusal;
 use tables::Verdict;
@@ -172,33 +174,6 @@ pub fn check(cells: &[u8], n: usize, generators: &[u8]) -> GeneratorsVerdict
 
 // ---- the subsemigroup as a table of its own
 
-// Why a part is refused: its table's fault, or questions 60 to 62.
-pub enum SubsemigroupFault {
-    Table(Fault),
-    Chosen,
-    Cells,
-    Elements,
-}
-
-impl SubsemigroupFault {
-    pub fn refusal(self) -> Refusal
-        ensures answer { λ r. ⌜ r ≡ refusalNumbers (subsemigroupFaultRefusal self) ⌝ }
-    {
-        match self {
-            SubsemigroupFault::Table(fault) => fault.refusal(),
-            SubsemigroupFault::Chosen => Refusal::by(60, 0),
-            SubsemigroupFault::Cells => Refusal::by(61, 0),
-            SubsemigroupFault::Elements => Refusal::by(62, 0),
-        }
-    }
-}
-
-pub enum SubsemigroupAnswer {
-    // The part is written: its order.
-    Order(usize),
-    Refused(SubsemigroupFault),
-}
-
 // Writes the marked elements in rising order.
 fn write_elements(marks: &[u8; 121], n: usize, elements: &mut [u8])
     requires { ⌜ n ≤ 120 ⌝ ∗ ⌜ length (markedElements n (now marks)) ≤ length (now elements) ⌝ }
@@ -259,32 +234,32 @@ pub fn subsemigroup(
     chosen: &[u8],
     part: &mut [u8],
     elements: &mut [u8],
-) -> SubsemigroupAnswer
-    ensures answer { λ r. ⌜ subsemigroupAnswerSays r ≡ subsemigroupSays n (now (cells .entry)) (now (chosen .entry)) (length (now (part .entry))) (length (now (elements .entry))) ⌝ }
+) -> Numbered
+    ensures answer { λ r. ⌜ numberedSays r ≡ subsemigroupSays n (now (cells .entry)) (now (chosen .entry)) (length (now (part .entry))) (length (now (elements .entry))) ⌝ }
     ensures part { λ r. ⌜ now (part .exit) ≡ partAfter n (now (cells .entry)) (now (chosen .entry)) (now (part .entry)) (length (now (elements .entry))) ⌝ }
     ensures elements { λ r. ⌜ now (elements .exit) ≡ elementsAfter n (now (cells .entry)) (now (chosen .entry)) (length (now (part .entry))) (now (elements .entry)) ⌝ }
 {
     let table = tables::check(cells, n);
     if let Verdict::Refused(fault) = table {
-        return SubsemigroupAnswer::Refused(SubsemigroupFault::Table(fault));
+        return Numbered::Refused(fault.no());
     }
     if chosen.len() < 1 {
-        return SubsemigroupAnswer::Refused(SubsemigroupFault::Chosen);
+        return Numbered::Refused(No::Bare(60));
     }
     let entry = tables::outside(chosen, n);
     if let Place::At(_) = entry {
-        return SubsemigroupAnswer::Refused(SubsemigroupFault::Chosen);
+        return Numbered::Refused(No::Bare(60));
     }
     let generated = generate(cells, n, chosen);
     let k = generated.count;
     if part.len() < k * k {
-        return SubsemigroupAnswer::Refused(SubsemigroupFault::Cells);
+        return Numbered::Refused(No::Bare(61));
     }
     if elements.len() < k {
-        return SubsemigroupAnswer::Refused(SubsemigroupFault::Elements);
+        return Numbered::Refused(No::Bare(62));
     }
     let marks = generated.marks;
     write_elements(&marks, n, elements);
     write_part(cells, n, elements, k, part);
-    SubsemigroupAnswer::Order(k)
+    Numbered::Number(k)
 }

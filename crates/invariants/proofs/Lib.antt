@@ -2,4 +2,3 @@ pub mod Counts
 pub mod PerElement
 pub mod Powers
 pub mod Questions
-pub mod Refusals

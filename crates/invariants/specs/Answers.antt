@@ -1,13 +1,10 @@
 -- What the answers about an element mean (01, "The questions" and "Marks of an element"): the number of the failed question and the values said with
 -- it, or the numbers that were asked for. Assumes nothing.
-use mathlib.Core.List.{[]}
 use mathlib.Core.Option.{Option, none, some}
-use Rattle.semigroups.specs.Questions.{Refusal, no}
+use Rattle.semigroups.specs.Questions.{Refusal}
 use Rattle.semigroups.specs.Calls.{Answer, refused, gives}
 use Rattle.semigroups.specs.Invariants as marks
-use Rattle.tables.specs.Answers.{faultRefusal}
-use Rattle.invariants.specs.declared.ElementFault.{ElementFault}
-use Rattle.invariants.specs.declared.ElementFault.the-variants.{Table, NotElement}
+use Rattle.tables.specs.Answers.{noRefusal}
 use Rattle.invariants.specs.declared.ElementVerdict.{ElementVerdict}
 use Rattle.invariants.specs.declared.ElementVerdict.the-variants as verdict
 use Rattle.invariants.specs.declared.IndexPeriod.{IndexPeriod}
@@ -19,15 +16,10 @@ use Rattle.invariants.specs.declared.ProfileAnswer.the-variants as profi
 
 -- ---- questions
 
--- The table's fault as it is; 7 carries nothing.
-abbrev pub elementFaultRefusal : ElementFault → Refusal
-elementFaultRefusal (Table fault) = faultRefusal fault
-elementFaultRefusal NotElement = no 7 []
-
 -- An accepted element has no failed question.
 abbrev pub elementVerdictRefusal : ElementVerdict → Option Refusal
 elementVerdictRefusal verdict.Accepted = none
-elementVerdictRefusal (verdict.Refused fault) = some (elementFaultRefusal fault)
+elementVerdictRefusal (verdict.Refused r) = some (noRefusal r)
 
 -- ---- answers
 
@@ -37,7 +29,7 @@ indexPeriodValue r = record { index = r .index; period = r .period; idempotent =
 
 abbrev pub indexPeriodSays : IndexPeriodAnswer → Answer marks.IndexPeriod
 indexPeriodSays (index-period.Value r) = gives (indexPeriodValue r)
-indexPeriodSays (index-period.Refused fault) = refused (elementFaultRefusal fault)
+indexPeriodSays (index-period.Refused r) = refused (noRefusal r)
 
 -- The numbers of a profile.
 abbrev pub profileValue : ElementProfile → marks.Profile
@@ -53,4 +45,4 @@ profileValue r =
 
 abbrev pub profileSays : ProfileAnswer → Answer marks.Profile
 profileSays (profile.Value r) = gives (profileValue r)
-profileSays (profile.Refused fault) = refused (elementFaultRefusal fault)
+profileSays (profile.Refused r) = refused (noRefusal r)

@@ -1,45 +1,28 @@
 // Invariants of the elements of a table (arXiv 1603.06204, sections 3 and 4), which 01 calls their marks: index, period and idempotent power, and the
 // profile.
-// `index_period` and `profile` answer for one element of any cells, order and element, behind the questions about them.
+// `index_period` and `profile` answer for one element of any cells, order and element, once the questions about them have passed.
 // `all_index_period_keys` and `all_counts` answer for every element of cells that fill a table.
 ghost use mathlib.Core.Path.{_≡_};
 ghost use Rattle.semigroups.specs.Tables.{product, Element, Filled, Associative};
 ghost use Rattle.semigroups.specs.Questions.{elementRefusal};
 ghost use Rattle.semigroups.specs.Invariants.{indexPeriod, rowFrequency, columnFrequency, commuting, profile};
 ghost use Rattle.semigroups.specs.Calls.{givenUnless};
-ghost use Rattle.tables.specs.Answers.{refusalNumbers};
-ghost use Rattle.invariants.specs.Answers.{elementFaultRefusal, elementVerdictRefusal, indexPeriodValue, indexPeriodSays, profileValue, profileSays};
+ghost use Rattle.tables.specs.Counting.{occurrences, InRange};
+ghost use Rattle.invariants.specs.Answers.{elementVerdictRefusal, indexPeriodValue, indexPeriodSays, profileValue, profileSays};
 ghost use Rattle.invariants.specs.PerElement.{AllIndexPeriodKeys, AllLineCounts, AllCounts};
 ghost use Rattle.invariants.specs.Powers.{settled};
-ghost use Rattle.tables.specs.Counting.{occurrences, InRange};
-use tables::Fault;
-use tables::Refusal;
+use tables::No;
 use tables::Verdict;
 use tables::counts::frequencies;
 use tables::counts::tally;
+use tables::limits::ORDER;
+use tables::limits::PLACES;
 
 // ---- the questions
 
-// Why an element is refused: its table's fault, or question 7.
-pub enum ElementFault {
-    Table(Fault),
-    NotElement,
-}
-
-impl ElementFault {
-    pub fn refusal(self) -> Refusal
-        ensures answer { λ r. ⌜ r ≡ refusalNumbers (elementFaultRefusal self) ⌝ }
-    {
-        match self {
-            ElementFault::Table(fault) => fault.refusal(),
-            ElementFault::NotElement => Refusal::by(7, 0),
-        }
-    }
-}
-
 pub enum ElementVerdict {
     Accepted,
-    Refused(ElementFault),
+    Refused(No),
 }
 
 // The table's four questions, then 7: is the element 1 to n?
@@ -48,13 +31,13 @@ pub fn check_element(cells: &[u8], n: usize, a: usize) -> ElementVerdict
 {
     let table = tables::check(cells, n);
     if let Verdict::Refused(fault) = table {
-        return ElementVerdict::Refused(ElementFault::Table(fault));
+        return ElementVerdict::Refused(fault.no());
     }
     if a < 1 {
-        return ElementVerdict::Refused(ElementFault::NotElement);
+        return ElementVerdict::Refused(No::Bare(7));
     }
     if n < a {
-        return ElementVerdict::Refused(ElementFault::NotElement);
+        return ElementVerdict::Refused(No::Bare(7));
     }
     ElementVerdict::Accepted
 }
@@ -69,7 +52,7 @@ pub struct IndexPeriod {
 
 pub enum IndexPeriodAnswer {
     Value(IndexPeriod),
-    Refused(ElementFault),
+    Refused(No),
 }
 
 // The powers of a are walked until one was met before; `met` holds the exponent at which each element was met first, or 0, and `walk` at place k - 1
@@ -78,8 +61,8 @@ fn index_period_of(cells: &[u8], n: usize, a: usize) -> IndexPeriod
     requires { ⌜ Filled n (now cells) ⌝ ∗ ⌜ Element n a ⌝ }
     ensures answer { λ r. ⌜ indexPeriodValue r ≡ settled n (product n (now (cells .entry))) a ⌝ }
 {
-    let mut met = [0u8; 121];
-    let mut walk = [0u8; 120];
+    let mut met = [0u8; PLACES];
+    let mut walk = [0u8; ORDER];
     let mut power = a;
     let mut k: usize = 1;
     while met[power] == 0 {
@@ -104,7 +87,7 @@ pub fn index_period(cells: &[u8], n: usize, a: usize) -> IndexPeriodAnswer
     ensures answer { λ r. ⌜ indexPeriodSays r ≡ givenUnless (elementRefusal n (now (cells .entry)) a) (indexPeriod n (product n (now (cells .entry))) a) ⌝ }
 {
     match check_element(cells, n, a) {
-        ElementVerdict::Refused(fault) => IndexPeriodAnswer::Refused(fault),
+        ElementVerdict::Refused(no) => IndexPeriodAnswer::Refused(no),
         ElementVerdict::Accepted => IndexPeriodAnswer::Value(index_period_of(cells, n, a)),
     }
 }
@@ -112,8 +95,8 @@ pub fn index_period(cells: &[u8], n: usize, a: usize) -> IndexPeriodAnswer
 // The keys by which candidates for embeddings are compared: element a's index and period stand at place a - 1; places past the last element hold 0. The
 // idempotent power is not compared.
 pub struct IndexPeriodKeys {
-    pub index: [u16; 120],
-    pub period: [u16; 120],
+    pub index: [u16; ORDER],
+    pub period: [u16; ORDER],
 }
 
 // These keys of every element.
@@ -121,8 +104,8 @@ pub fn all_index_period_keys(cells: &[u8], n: usize) -> IndexPeriodKeys
     requires { ⌜ Filled n (now cells) ⌝ }
     ensures answer { λ r. ⌜ AllIndexPeriodKeys n (product n (now (cells .entry))) r ⌝ }
 {
-    let mut index = [0u16; 120];
-    let mut period = [0u16; 120];
+    let mut index = [0u16; ORDER];
+    let mut period = [0u16; ORDER];
     let mut a: usize = 1;
     while a <= n {
         let powers = index_period_of(cells, n, a);
@@ -189,18 +172,18 @@ fn commuting(cells: &[u8], n: usize, a: usize) -> usize
 
 // Element a's counts over its row and its column stand at place a - 1; places past the last element hold 0.
 struct LineCounts {
-    row: [u16; 120],
-    column: [u16; 120],
-    commuting: [u16; 120],
+    row: [u16; ORDER],
+    column: [u16; ORDER],
+    commuting: [u16; ORDER],
 }
 
 fn line_counts(cells: &[u8], n: usize) -> LineCounts
     requires { ⌜ Filled n (now cells) ⌝ }
     ensures answer { λ r. ⌜ AllLineCounts n (product n (now (cells .entry))) r ⌝ }
 {
-    let mut row = [0u16; 120];
-    let mut column = [0u16; 120];
-    let mut commute = [0u16; 120];
+    let mut row = [0u16; ORDER];
+    let mut column = [0u16; ORDER];
+    let mut commute = [0u16; ORDER];
     let mut a: usize = 1;
     while a <= n {
         row[a - 1] = row_frequency(cells, n, a) as u16;
@@ -229,7 +212,7 @@ pub struct ElementProfile {
 
 pub enum ProfileAnswer {
     Value(ElementProfile),
-    Refused(ElementFault),
+    Refused(No),
 }
 
 fn profile_of(cells: &[u8], n: usize, a: usize) -> ElementProfile
@@ -251,18 +234,18 @@ pub fn profile(cells: &[u8], n: usize, a: usize) -> ProfileAnswer
     ensures answer { λ r. ⌜ profileSays r ≡ givenUnless (elementRefusal n (now (cells .entry)) a) (profile n (product n (now (cells .entry))) a) ⌝ }
 {
     match check_element(cells, n, a) {
-        ElementVerdict::Refused(fault) => ProfileAnswer::Refused(fault),
+        ElementVerdict::Refused(no) => ProfileAnswer::Refused(no),
         ElementVerdict::Accepted => ProfileAnswer::Value(profile_of(cells, n, a)),
     }
 }
 
 // Each count of element a stands at place a - 1; places past the last element hold 0.
 pub struct ElementCounts {
-    pub frequency: [u16; 120],
-    pub diagonal: [u16; 120],
-    pub row: [u16; 120],
-    pub column: [u16; 120],
-    pub commuting: [u16; 120],
+    pub frequency: [u16; ORDER],
+    pub diagonal: [u16; ORDER],
+    pub row: [u16; ORDER],
+    pub column: [u16; ORDER],
+    pub commuting: [u16; ORDER],
 }
 
 // The counts of every element's profile.

@@ -1,26 +1,22 @@
 // What is said of a table, as numbers.
 ghost use mathlib.Core.Path.{_≡_};
-ghost use Rattle.tables.specs.Answers.{faultRefusal, verdictRefusal};
+ghost use Rattle.tables.specs.Answers.{noRefusal, verdictRefusal};
 ghost use Rattle.plain.specs.Said.{refusalSaid, saidOf};
 ghost use Rattle.judging.specs.Said.{sameSaid};
 use plain::Said;
 use plain::failed;
-use tables::Fault;
+use tables::No;
 use tables::Verdict;
 
-pub fn said_of_fault(fault: Fault) -> Said
-    ensures answer { λ r. ⌜ r ≡ refusalSaid (faultRefusal fault) ⌝ }
+pub fn said_of_no(no: No) -> Said
+    ensures answer { λ r. ⌜ r ≡ refusalSaid (noRefusal no) ⌝ }
 {
-    match fault {
-        Fault::Order => failed(1, 0),
-        Fault::Size => failed(2, 0),
-        Fault::Cell(k) => failed(3, k),
-        Fault::Triple(i, j, k) => Said {
-            number: 4,
-            first: i,
-            second: j,
-            third: k,
-        },
+    let refusal = no.refusal();
+    Said {
+        number: refusal.number,
+        first: refusal.first,
+        second: refusal.second,
+        third: refusal.third,
     }
 }
 
@@ -29,7 +25,7 @@ pub fn said_of(verdict: Verdict) -> Said
 {
     match verdict {
         Verdict::Accepted => failed(0, 0),
-        Verdict::Refused(fault) => said_of_fault(fault),
+        Verdict::Refused(fault) => said_of_no(fault.no()),
     }
 }
 

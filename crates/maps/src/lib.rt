@@ -4,6 +4,7 @@ use tables::Fault;
 use tables::PairVerdict;
 use tables::Place;
 use tables::Side;
+use tables::limits::ORDER;
 ghost use mathlib.Core.Path.{_≡_};
 ghost use Prim.Native.Nat.{ℕ, _≤_};
 ghost use lib.ListN.{length, take};
@@ -129,7 +130,7 @@ pub fn check(source: &[u8], m: usize, target: &[u8], n: usize, map: &[u8]) -> Ma
 }
 
 // Writes the images of the m elements.
-pub fn write_images(map: &mut [u8], image: &[u8; 120], m: usize)
+pub fn write_images(map: &mut [u8], image: &[u8; ORDER], m: usize)
     requires { ⌜ (length (now map) ≡ m) × (m ≤ 120) × (length (now image) ≡ 120) ⌝ }
     ensures map { λ _. ⌜ now (map .exit) ≡ take m (now (image .entry)) ⌝ }
 {

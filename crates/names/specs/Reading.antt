@@ -11,7 +11,7 @@ use Rattle.sheets.specs.Readings.{rowsNames}
 use Rattle.sheets.specs.Names.{namesText, namesAt}
 use Rattle.sheets.specs.Questions.{rowsQuestions, namesQuestions}
 use Rattle.sheets.specs.Automaton as automaton
-use Rattle.names.specs.Answers.{namesFaultRefusal}
+use Rattle.tables.specs.Answers.{noRefusal}
 use Rattle.names.specs.declared.Part.{Part}
 use Rattle.names.specs.declared.Part.the-variants.{Number, Name}
 use Rattle.names.specs.declared.State.{State}
@@ -55,7 +55,7 @@ pub record Holds (s : List ℕ) (v : Value) : Type 0 where
 -- 42 and 41 of each record, how many names there are, and how many bytes they have.
 abbrev pub Judges : List Row → Judged → Type 0
 Judges rows (Passed count total) = (firstNo (rowsQuestions 1 rows) ≡ none) × (count ≡ length rows) × (total ≡ length (flatten (rowsNames rows)))
-Judges rows (Failed fault) = firstNo (rowsQuestions 1 rows) ≡ some (namesFaultRefusal fault)
+Judges rows (Failed fault) = firstNo (rowsQuestions 1 rows) ≡ some (noRefusal fault)
 
 -- The records pass, and the buffers have room for the names and for their lengths.
 pub record Fits (rows : List Row) (nameRoom lengthRoom : ℕ) : Type 0 where
@@ -66,7 +66,7 @@ pub record Fits (rows : List Row) (nameRoom lengthRoom : ℕ) : Type 0 where
 -- 41 of each name, how many names there are, and the length of their text.
 abbrev pub JudgesNames : List ℕ → List ℕ → Judged → Type 0
 JudgesNames bytes lengths (Passed count total) = (firstNo (namesQuestions 1 bytes lengths) ≡ none) × (count ≡ length lengths) × (total ≡ length (namesText (namesAt bytes lengths)))
-JudgesNames bytes lengths (Failed fault) = firstNo (namesQuestions 1 bytes lengths) ≡ some (namesFaultRefusal fault)
+JudgesNames bytes lengths (Failed fault) = firstNo (namesQuestions 1 bytes lengths) ≡ some (noRefusal fault)
 
 -- There are at most 120 names, and each passes.
 pub record Nameable (bytes lengths : List ℕ) : Type 0 where

@@ -9,49 +9,18 @@ ghost use Prim.Native.Nat.{ℕ, _+_, _≤_};
 ghost use lib.ListN.{length, drop};
 ghost use lib.Seq.{sets};
 ghost use Rattle.semigroups.specs.Calls.{overwritten};
-ghost use Rattle.tables.specs.Answers.{refusalNumbers};
+ghost use Rattle.tables.specs.Answers.{numberedSays};
 ghost use Rattle.sheets.specs.Grammar.{isPrintable, isTextData, isQuotable, Passes, sheetRows};
 ghost use Rattle.sheets.specs.Readings.{Reading, rowsNames};
 ghost use Rattle.sheets.specs.Names.{isName, isNumber, needsQuotes, doubled, nameText, namesText, namesAt};
 ghost use Rattle.sheets.specs.Calls.{loadNamesAnswer, namesAfter, lengthsAfter, saveNamesAnswer, sheetAfter};
 ghost use Rattle.sheets.specs.Automaton.{afterField, bareStep, openingStep, step, accepting, isDead, accepts, place};
 ghost use Rattle.sheets.specs.Cursor.{bareValue, quotedValue, quotedSize, valueAt, sizeAt};
-ghost use Rattle.names.specs.Answers.{namesFaultRefusal, namesAnswerSays};
 ghost use Rattle.names.specs.declared.State.the-variants.{Quoted, Shut, Cr, Bare};
 ghost use Rattle.names.specs.Reading.{partOf, stateOf, formPlace, Holds, Judges, JudgesNames, Fits, Nameable};
-use tables::Refusal;
-
-// Why a text or names are refused: 40 with the offending place; 42 and 41 with the place of the record or name, from 1; 42 for the number of lengths; 27
-// for the buffers of the names; 28 for the buffer of the text.
-pub enum NamesFault {
-    Form(usize),
-    Number(usize),
-    Name(usize),
-    Count,
-    NamesRoom,
-    TextRoom,
-}
-
-impl NamesFault {
-    pub fn refusal(self) -> Refusal
-        ensures answer { λ r. ⌜ r ≡ refusalNumbers (namesFaultRefusal self) ⌝ }
-    {
-        match self {
-            NamesFault::Form(place) => Refusal::by(40, place),
-            NamesFault::Number(place) => Refusal::by(42, place),
-            NamesFault::Name(place) => Refusal::by(41, place),
-            NamesFault::Count => Refusal::by(42, 0),
-            NamesFault::NamesRoom => Refusal::by(27, 0),
-            NamesFault::TextRoom => Refusal::by(28, 0),
-        }
-    }
-}
-
-// What a call answers: the number of names loaded or the length of the text saved; or the earliest failed question.
-pub enum NamesAnswer {
-    Given(usize),
-    Refused(NamesFault),
-}
+use tables::No;
+use tables::Numbered;
+use tables::limits::ORDER;
 
 // ---- bytes
 
@@ -403,7 +372,7 @@ fn read_field(text: &[u8], at: usize) -> Value
 fn is_number(bytes: &[u8], k: usize) -> bool
     ensures answer { λ r. ⌜ r ≡ isNumber k (now (bytes .entry)) ⌝ }
 {
-    if 120 < k {
+    if ORDER < k {
         return false;
     }
     if bytes.len() < 1 {
@@ -462,7 +431,7 @@ fn is_name(bytes: &[u8]) -> bool
 // Whether the questions about the records or the names pass; then two numbers: how many names, and how many bytes they take in memory or as a text.
 enum Judged {
     Passed(usize, usize),
-    Failed(NamesFault),
+    Failed(No),
 }
 
 // Questions 42 and 41 of each record; then how many names there are, and how many bytes they have.
@@ -478,13 +447,13 @@ fn judge_records(text: &[u8]) -> Judged
         let number = read_field(text, at);
         let comma = number.end;
         if !number.is_number(k) {
-            return Judged::Failed(NamesFault::Number(k));
+            return Judged::Failed(No::With(42, k));
         }
         let name = read_field(text, comma + 1);
         let end = name.end;
         let size = name.size;
         if !name.is_name() {
-            return Judged::Failed(NamesFault::Name(k));
+            return Judged::Failed(No::With(41, k));
         }
         total += size;
         k += 1;
@@ -521,27 +490,27 @@ fn write_names(text: &[u8], names: &mut [u8], lengths: &mut [u8])
 
 // Loads the names on the sheet `text`: answers their number, writes them one after another to the start of `names` and their lengths to the start of
 // `lengths`; or answers the earliest question that fails, and writes nothing.
-pub fn load(text: &[u8], names: &mut [u8], lengths: &mut [u8]) -> NamesAnswer
-    ensures answer { λ r. ⌜ ((w : Reading (now (text .entry))) → namesAnswerSays r ≡ loadNamesAnswer w (now (names .entry)) (now (lengths .entry))) ⌝ }
+pub fn load(text: &[u8], names: &mut [u8], lengths: &mut [u8]) -> Numbered
+    ensures answer { λ r. ⌜ ((w : Reading (now (text .entry))) → numberedSays r ≡ loadNamesAnswer w (now (names .entry)) (now (lengths .entry))) ⌝ }
     ensures names { λ _. ⌜ ((w : Reading (now (text .entry))) → now (names .exit) ≡ namesAfter w (now (names .entry)) (now (lengths .entry))) ⌝ }
     ensures lengths { λ _. ⌜ ((w : Reading (now (text .entry))) → now (lengths .exit) ≡ lengthsAfter w (now (names .entry)) (now (lengths .entry))) ⌝ }
 {
     let form = scan(text);
     if let Form::Offends(k) = form {
-        return NamesAnswer::Refused(NamesFault::Form(k));
+        return Numbered::Refused(No::With(40, k));
     }
     let judged = judge_records(text);
     match judged {
-        Judged::Failed(fault) => NamesAnswer::Refused(fault),
+        Judged::Failed(fault) => Numbered::Refused(fault),
         Judged::Passed(count, total) => {
             if names.len() < total {
-                return NamesAnswer::Refused(NamesFault::NamesRoom);
+                return Numbered::Refused(No::Bare(27));
             }
             if lengths.len() < count {
-                return NamesAnswer::Refused(NamesFault::NamesRoom);
+                return Numbered::Refused(No::Bare(27));
             }
             write_names(text, names, lengths);
-            NamesAnswer::Given(count)
+            Numbered::Number(count)
         }
     }
 }
@@ -649,11 +618,11 @@ fn judge_names(names: &[u8], lengths: &[u8]) -> Judged
     while k < lengths.len() {
         let size = lengths[k] as usize;
         if names.len() - start < size {
-            return Judged::Failed(NamesFault::Name(k + 1));
+            return Judged::Failed(No::With(41, k + 1));
         }
         let end = start + size;
         if !is_name(&names[start..end]) {
-            return Judged::Failed(NamesFault::Name(k + 1));
+            return Judged::Failed(No::With(41, k + 1));
         }
         total += lines::digit_count(k + 1) + name_length(&names[start..end]) + 3;
         start = end;
@@ -684,25 +653,25 @@ fn put_names(names: &[u8], lengths: &[u8], text: &mut [u8])
 
 // Saves names that stand one after another in `names` with these lengths: writes their sheet to the start of `text` and answers its length; or answers
 // the earliest question that fails, and writes nothing.
-pub fn save(names: &[u8], lengths: &[u8], text: &mut [u8]) -> NamesAnswer
-    ensures answer { λ r. ⌜ namesAnswerSays r ≡ saveNamesAnswer (now (names .entry)) (now (lengths .entry)) (now (text .entry)) ⌝ }
+pub fn save(names: &[u8], lengths: &[u8], text: &mut [u8]) -> Numbered
+    ensures answer { λ r. ⌜ numberedSays r ≡ saveNamesAnswer (now (names .entry)) (now (lengths .entry)) (now (text .entry)) ⌝ }
     ensures text { λ _. ⌜ now (text .exit) ≡ sheetAfter (now (names .entry)) (now (lengths .entry)) (now (text .entry)) ⌝ }
 {
     if lengths.len() < 1 {
-        return NamesAnswer::Refused(NamesFault::Count);
+        return Numbered::Refused(No::Bare(42));
     }
-    if 120 < lengths.len() {
-        return NamesAnswer::Refused(NamesFault::Count);
+    if ORDER < lengths.len() {
+        return Numbered::Refused(No::Bare(42));
     }
     let judged = judge_names(names, lengths);
     match judged {
-        Judged::Failed(fault) => NamesAnswer::Refused(fault),
+        Judged::Failed(fault) => Numbered::Refused(fault),
         Judged::Passed(_, total) => {
             if text.len() < total {
-                return NamesAnswer::Refused(NamesFault::TextRoom);
+                return Numbered::Refused(No::Bare(28));
             }
             put_names(names, lengths, text);
-            NamesAnswer::Given(total)
+            Numbered::Number(total)
         }
     }
 }

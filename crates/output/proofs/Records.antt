@@ -15,7 +15,8 @@ use Rattle.semigroups.specs.Calls.{overwritten}
 use Rattle.csv.proofs.Decimals.{digits-few}
 use Rattle.csv.proofs.Writing.{Writing, write-first, write-last, sets-overwritten}
 use Rattle.lines.proofs.Lines.{written, three-fields, two-fields}
-use Rattle.output.specs.Records.{foundWord, refusedWord, firstRecord, pairRecord, pairRecords, foundRecords, refusedRecord, refusedRecords}
+use Rattle.files.specs.Answers.{refusedWord}
+use Rattle.output.specs.Records.{foundWord, firstRecord, pairRecord, pairRecords, foundRecords, refusedRecord, refusedRecords}
 
 -- ---- a record
 

@@ -5,6 +5,7 @@ use Prim.Native.Nat.{ℕ}
 use Rattle.semigroups.specs.Lists.{elements, at}
 use Rattle.semigroups.specs.Questions.{Refusal}
 use Rattle.csv.specs.Decimals.{numeral}
+use Rattle.files.specs.Answers.{refusedWord}
 
 -- ---- the words of the first record, as bytes
 
@@ -15,10 +16,6 @@ foundWord = 102 ∷ 111 ∷ 117 ∷ 110 ∷ 100 ∷ []
 -- "none"
 abbrev pub noneWord : List ℕ
 noneWord = 110 ∷ 111 ∷ 110 ∷ 101 ∷ []
-
--- "refused"
-abbrev pub refusedWord : List ℕ
-refusedWord = 114 ∷ 101 ∷ 102 ∷ 117 ∷ 115 ∷ 101 ∷ 100 ∷ []
 
 -- ---- the records
 

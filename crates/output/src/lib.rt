@@ -11,7 +11,6 @@ ghost use Rattle.csv.specs.Decimals.{numeral};
 ghost use Rattle.csv.specs.Records.{lineText, rowsText};
 ghost use Rattle.output.specs.Records.{firstRecord, pairRecords, foundRecords};
 ghost use Rattle.output.specs.Program.{answerRecords, recueOutput};
-use files::FileVerdict;
 use files::failed_question;
 use files::load_then_check;
 use lines::put_break;
@@ -19,6 +18,11 @@ use lines::put_bytes;
 use lines::put_field;
 use lines::put_number;
 use search::Kind;
+use tables::Numbered;
+use tables::limits::CELLS;
+use tables::limits::ORDER;
+use tables::limits::OUTPUT;
+use tables::limits::SCRATCH;
 
 // Writes the record of a word and two numbers to the start of `out`. Answers its length.
 fn put_record(out: &mut [u8], word: &[u8], a: usize, b: usize) -> usize
@@ -74,13 +78,13 @@ fn put_found(out: &mut [u8], n: usize, map: &[u8]) -> usize
 
 // Asks for the first embedding of one table in another, writes what is found, or none, to the start of `out` and answers the length. The map buffer has
 // the right length, and scratch is enough for the largest tables, so no question is asked.
-fn put_answer(out: &mut [u8; 1095], source: &[u8], m: usize, target: &[u8], n: usize) -> usize
+fn put_answer(out: &mut [u8; OUTPUT], source: &[u8], m: usize, target: &[u8], n: usize) -> usize
     requires tables { ⌜ Accepted m (now source) × Accepted n (now target) ⌝ }
     ensures answer { λ r. ⌜ r ≡ length (rowsText (answerRecords m (now (source .entry)) n (now (target .entry)))) ⌝ }
     ensures out { λ _. ⌜ now (out .exit) ≡ overwritten (rowsText (answerRecords m (now (source .entry)) n (now (target .entry)))) (now (out .entry)) ⌝ }
 {
-    let mut map = [0u8; 120];
-    let mut scratch = [0u8; 1800];
+    let mut map = [0u8; ORDER];
+    let mut scratch = [0u8; SCRATCH];
     let found = search::find(
         Kind::Embeddings,
         false,
@@ -98,18 +102,18 @@ fn put_answer(out: &mut [u8; 1095], source: &[u8], m: usize, target: &[u8], n: u
 }
 
 // The whole output of the program for files with these bytes, written to the start of `out`. Answers its length.
-pub fn recue(source: &[u8], target: &[u8], out: &mut [u8; 1095]) -> usize
+pub fn recue(source: &[u8], target: &[u8], out: &mut [u8; OUTPUT]) -> usize
     ensures answer { λ r. ⌜ r ≡ length (recueOutput (now (source .entry)) (now (target .entry))) ⌝ }
     ensures out { λ _. ⌜ now (out .exit) ≡ overwritten (recueOutput (now (source .entry)) (now (target .entry))) (now (out .entry)) ⌝ }
 {
-    let mut source_cells = [0u8; 14400];
+    let mut source_cells = [0u8; CELLS];
     let first = load_then_check(source, &mut source_cells);
-    let FileVerdict::Accepted(m) = first else {
+    let Numbered::Number(m) = first else {
         return put_record(out, b"refused", 1, failed_question(first));
     };
-    let mut target_cells = [0u8; 14400];
+    let mut target_cells = [0u8; CELLS];
     let second = load_then_check(target, &mut target_cells);
-    let FileVerdict::Accepted(n) = second else {
+    let Numbered::Number(n) = second else {
         return put_record(out, b"refused", 2, failed_question(second));
     };
     let source_size = m * m;

@@ -7,12 +7,13 @@ ghost use lib.ListN.{length};
 ghost use Rattle.output.specs.Program.{recueOutput};
 use libc::STDIN_FILENO;
 use libc::STDOUT_FILENO;
+use tables::limits::OUTPUT;
 
 // Prints the output for two files with these bytes. Returns its length.
 fn show(source: &[u8], target: &[u8]) -> usize
     ensures answer { λ r. ⌜ r ≡ length (recueOutput (now (source .entry)) (now (target .entry))) ⌝ }
 {
-    let mut out = [0u8; 1095];
+    let mut out = [0u8; OUTPUT];
     let written = output::recue(source, target, &mut out);
     io::write_all(STDOUT_FILENO, &out[..written]);
     written

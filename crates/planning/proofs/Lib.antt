@@ -6,4 +6,3 @@ pub mod Points
 pub mod Searching
 pub mod Trying
 pub mod Questions
-pub mod Refusals

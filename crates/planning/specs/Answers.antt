@@ -1,17 +1,15 @@
 -- What a call about the least degree says and leaves in the position buffer, and what its answers mean: for each case the number of the question and the
 -- values said with it (02, xiii). Assumes nothing.
 use mathlib.Core.Path.{_≡_}
-use mathlib.Core.List.{List, []}
+use mathlib.Core.List.{List}
 use mathlib.Core.Option.{Option, none, some}
 use Prim.Native.Nat.{ℕ}
 use lib.ListN.{length}
 use Rattle.semigroups.specs.Tables.{product}
-use Rattle.semigroups.specs.Questions.{Refusal, no}
+use Rattle.semigroups.specs.Questions.{Refusal}
 use Rattle.semigroups.specs.Calls.{Answer, refused, gives, givenUnless, writtenUnless}
-use Rattle.tables.specs.Answers.{faultRefusal}
+use Rattle.tables.specs.Answers.{noRefusal}
 use Rattle.planning.specs.Degrees.{leastFit, leastDegree, fitPositions, degreeRefusal}
-use Rattle.planning.specs.declared.DegreeFault.{DegreeFault}
-use Rattle.planning.specs.declared.DegreeFault.the-variants.{Table, Positions}
 use Rattle.planning.specs.declared.DegreeAnswer.{DegreeAnswer}
 use Rattle.planning.specs.declared.DegreeAnswer.the-variants.{Degree, Nothing, Refused}
 
@@ -23,15 +21,10 @@ degreeSays m cells size = givenUnless (degreeRefusal m cells size) (leastDegree 
 unfoldable pub positionsAfter : ℕ → List ℕ → List ℕ → List ℕ
 positionsAfter m cells before = writtenUnless (degreeRefusal m cells (length before)) (fitPositions m (leastFit m (product m cells))) before
 
--- The table's fault as it is; 80 carries nothing.
-abbrev pub degreeFaultRefusal : DegreeFault → Refusal
-degreeFaultRefusal (Table fault) = faultRefusal fault
-degreeFaultRefusal Positions = no 80 []
-
 abbrev pub degreeAnswerSays : DegreeAnswer → Answer (Option ℕ)
 degreeAnswerSays (Degree d) = gives (some d)
 degreeAnswerSays Nothing = gives none
-degreeAnswerSays (Refused fault) = refused (degreeFaultRefusal fault)
+degreeAnswerSays (Refused r) = refused (noRefusal r)
 
 -- A refusal and "none of these" change no byte of the buffer.
 abbrev pub PositionsKept : Type 0

@@ -10,14 +10,12 @@ ghost use Rattle.semigroups.specs.Lists.{at};
 ghost use Rattle.semigroups.specs.Tables.{product, Element, IsList, Accepted};
 ghost use Rattle.semigroups.specs.Calls.{gives, overwritten};
 ghost use Rattle.semigroups.specs.Transformations.{transformationOrder, transformation};
-ghost use Rattle.tables.specs.Answers.{refusalNumbers};
 ghost use Rattle.planning.specs.Degrees.{firstAt, leastFit, leastDegree, landings, fitPositions};
-ghost use Rattle.planning.specs.Answers.{degreeFaultRefusal, degreeAnswerSays, degreeSays, positionsAfter};
+ghost use Rattle.planning.specs.Answers.{degreeAnswerSays, degreeSays, positionsAfter};
 use search::Kind;
-use tables::Fault;
-use tables::Refusal;
+use tables::No;
+use tables::Numbered;
 use tables::Verdict;
-use transformations::TransformationAnswer;
 
 // ---- landing positions
 
@@ -64,7 +62,7 @@ fn fits(cells: &[u8], m: usize, degree: usize, image: &mut [u8]) -> bool
 {
     let mut target = [0u8; 729];
     let filled = transformations::fill(degree, &mut target);
-    let TransformationAnswer::Order(n) = filled else {
+    let Numbered::Number(n) = filled else {
         return false;
     };
     let size = n * n;
@@ -81,29 +79,12 @@ fn fits(cells: &[u8], m: usize, degree: usize, image: &mut [u8]) -> bool
     )
 }
 
-// Why a table is refused: its fault, or question 80.
-pub enum DegreeFault {
-    Table(Fault),
-    Positions,
-}
-
-impl DegreeFault {
-    pub fn refusal(self) -> Refusal
-        ensures answer { λ r. ⌜ r ≡ refusalNumbers (degreeFaultRefusal self) ⌝ }
-    {
-        match self {
-            DegreeFault::Table(fault) => fault.refusal(),
-            DegreeFault::Positions => Refusal::by(80, 0),
-        }
-    }
-}
-
 pub enum DegreeAnswer {
     // The positions are written: the degree.
     Degree(usize),
     // None of the degrees 1 to 3.
     Nothing,
-    Refused(DegreeFault),
+    Refused(No),
 }
 
 // Tries the degrees from 1 upward and writes the positions at the first that fits.
@@ -131,10 +112,10 @@ pub fn least_degree(cells: &[u8], m: usize, positions: &mut [u8]) -> DegreeAnswe
 {
     let table = tables::check(cells, m);
     if let Verdict::Refused(fault) = table {
-        return DegreeAnswer::Refused(DegreeFault::Table(fault));
+        return DegreeAnswer::Refused(fault.no());
     }
     if positions.len() < m * 3 {
-        return DegreeAnswer::Refused(DegreeFault::Positions);
+        return DegreeAnswer::Refused(No::Bare(80));
     }
     if 27 < m {
         return DegreeAnswer::Nothing;

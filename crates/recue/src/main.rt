@@ -5,13 +5,11 @@ ghost use lib.ListN.{length};
 ghost use Rattle.io.specs.Counts.{Counts};
 ghost use Rattle.csv.specs.Questions.{longest};
 use libc::STDOUT_FILENO;
-
-// One byte more than a text may have: enough to see that a file is too long. Its later bytes do not matter (`first-bytes-decide`
-// of crate `output`).
-const ROOM: usize = 57721;
+use tables::limits::FILE;
+use tables::limits::OUTPUT;
 
 // Reads a file to `text` and answers how many bytes came. A file that can't be opened or read counts as empty.
-fn read_file(name: &[u8], text: &mut [u8; ROOM]) -> usize
+fn read_file(name: &[u8], text: &mut [u8; FILE]) -> usize
     requires room { ⌜ longest < length (now text) ⌝ }
     ensures count { λ r. ⌜ Counts r (now (text .exit)) ⌝ }
 {
@@ -25,9 +23,9 @@ fn read_file(name: &[u8], text: &mut [u8; ROOM]) -> usize
 }
 
 fn main() {
-    let mut source = [0u8; ROOM];
-    let mut target = [0u8; ROOM];
-    let mut out = [0u8; 1095];
+    let mut source = [0u8; FILE];
+    let mut target = [0u8; FILE];
+    let mut out = [0u8; OUTPUT];
     let source_length = read_file(b"source.csv", &mut source);
     let target_length = read_file(b"target.csv", &mut target);
     let written = output::recue(&source[..source_length], &target[..target_length], &mut out);

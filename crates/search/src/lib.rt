@@ -9,7 +9,7 @@ ghost use mathlib.Core.Path.{_≡_};
 ghost use mathlib.Core.Option.{none};
 ghost use Prim.Native.Nat.{_*_, _≤_};
 ghost use lib.ListN.{length};
-ghost use Rattle.semigroups.specs.Tables.{product, Filled, Accepted};
+ghost use Rattle.semigroups.specs.Tables.{product, turnedCells, Filled, Accepted};
 ghost use Rattle.semigroups.specs.Scratch.{scratchSize};
 ghost use Rattle.semigroups.specs.Questions.{searchRefusal};
 ghost use Rattle.semigroups.specs.Calls.{gives, overwritten, scratchAfter, mapUnless};
@@ -30,6 +30,7 @@ use tables::Fault;
 use tables::PairVerdict;
 use tables::Refusal;
 use tables::Side;
+use tables::limits::CELLS;
 
 pub enum Kind {
     Embeddings,
@@ -235,6 +236,7 @@ fn search_turned(
     requires { ⌜ (length (now map) ≡ m) × (scratchSize m n ≤ length (now scratch)) ⌝ }
     requires { ⌜ n * n ≤ length (now room) ⌝ }
     ensures call { λ r. ⌜ called (gives (searchedSays r)) (now (map .exit)) (now (scratch .exit)) ≡ searched reversed next limit (lend (now (source .entry)) m (now (target .entry)) n (now (map .entry)) (now (scratch .entry))) ⌝ }
+    ensures room { λ _. ⌜ now (room .exit) ≡ overwritten (turnedCells n (now (target .entry))) (now (room .entry)) ⌝ }
 {
     let size = n * n;
     tables::turn(target, n, room);
@@ -260,7 +262,7 @@ fn search_reversed(
         let mut few = [0u8; 900];
         return search_turned(next, limit, source, m, target, n, map, scratch, &mut few);
     }
-    let mut all = [0u8; 14400];
+    let mut all = [0u8; CELLS];
     search_turned(next, limit, source, m, target, n, map, scratch, &mut all)
 }
 

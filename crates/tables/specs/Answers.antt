@@ -2,11 +2,16 @@
 -- Assumes nothing.
 use mathlib.Core.List.{[], _∷_}
 use mathlib.Core.Option.{Option, none, some}
-use Prim.Native.Nat.{ℕ, _≤_, _<_}
+use Prim.Native.Nat.{ℕ, _≤_}
 use lib.ListN.{length, getD}
 use Rattle.semigroups.specs.Questions.{Refusal, no, naming}
+use Rattle.semigroups.specs.Calls.{Answer, refused, gives}
 use Rattle.tables.specs.declared.Fault.{Fault}
 use Rattle.tables.specs.declared.Fault.the-variants.{Order, Size, Cell, Triple}
+use Rattle.tables.specs.declared.No.{No}
+use Rattle.tables.specs.declared.No.the-variants.{Bare, With, Triple as NoTriple}
+use Rattle.tables.specs.declared.Numbered.{Numbered}
+use Rattle.tables.specs.declared.Numbered.the-variants.{Number, Refused as NumberRefused}
 use Rattle.tables.specs.declared.Verdict.{Verdict}
 use Rattle.tables.specs.declared.Verdict.the-variants.{Accepted, Refused}
 use Rattle.tables.specs.declared.Side.{Side}
@@ -23,6 +28,17 @@ faultRefusal Order = no 1 []
 faultRefusal Size = no 2 []
 faultRefusal (Cell k) = no 3 (k ∷ [])
 faultRefusal (Triple i j k) = no 4 (i ∷ j ∷ k ∷ [])
+
+-- A "no" with its number and its values.
+abbrev pub noRefusal : No → Refusal
+noRefusal (Bare number) = no number []
+noRefusal (With number value) = no number (value ∷ [])
+noRefusal (NoTriple i j k) = no 4 (i ∷ j ∷ k ∷ [])
+
+-- A number, or the earliest failed question.
+abbrev pub numberedSays : Numbered → Answer ℕ
+numberedSays (Number x) = gives x
+numberedSays (NumberRefused r) = refused (noRefusal r)
 
 -- An accepted table has no failed question.
 abbrev pub verdictRefusal : Verdict → Option Refusal
@@ -59,7 +75,6 @@ refusalNumbers r = record { number = r .number; side = sideOf (r .side); first =
 abbrev pub numbersNaming : ℕ → Numbers → Numbers
 numbersNaming side r = record { number = r .number; side = side; first = r .first; second = r .second; third = r .third }
 
--- The numbers lose nothing: at most three values are said. The question's number has at most two digits.
-pub record Brief (r : Refusal) : Type 0 where
-  pub few-values : length (r .values) ≤ 3
-  pub two-digits : r .number < 100
+-- The numbers lose nothing: at most three values are said.
+abbrev pub Brief : Refusal → Type 0
+Brief r = length (r .values) ≤ 3

@@ -9,7 +9,9 @@ ghost use Rattle.semigroups.specs.Lists.{elements, find};
 ghost use Rattle.semigroups.specs.Tables.{Element, Filled, product, turnedCells, associates, badCell, badTriple};
 ghost use Rattle.semigroups.specs.Questions.{no, cellsRefusal, tableRefusal, tablesRefusal};
 ghost use Rattle.semigroups.specs.Calls.{overwritten};
-ghost use Rattle.tables.specs.Answers.{faultRefusal, verdictRefusal, sideNumber, placeOption, pairRefusal, refusalNumbers, numbersNaming};
+ghost use Rattle.tables.specs.Answers.{noRefusal, faultRefusal, verdictRefusal, sideNumber, placeOption, pairRefusal, refusalNumbers, numbersNaming};
+
+pub mod limits;
 
 pub mod counts;
 pub mod generators;
@@ -40,6 +42,19 @@ pub struct Refusal {
     pub first: usize,
     pub second: usize,
     pub third: usize,
+}
+
+// A "no" to a question: the question's number alone; with the one value that is said with it; or, of question 4, the triple.
+pub enum No {
+    Bare(usize),
+    With(usize, usize),
+    Triple(usize, usize, usize),
+}
+
+// What a call answers that gives a number: an order, a length or a count; or the earliest "no".
+pub enum Numbered {
+    Number(usize),
+    Refused(No),
 }
 
 pub enum PairVerdict {
@@ -94,15 +109,15 @@ impl Refusal {
     }
 }
 
-impl Fault {
+impl No {
+    // Returns its number and values; it names no side.
     pub fn refusal(self) -> Refusal
-        ensures answer { λ r. ⌜ r ≡ refusalNumbers (faultRefusal self) ⌝ }
+        ensures answer { λ r. ⌜ r ≡ refusalNumbers (noRefusal self) ⌝ }
     {
         match self {
-            Fault::Order => Refusal::by(1, 0),
-            Fault::Size => Refusal::by(2, 0),
-            Fault::Cell(cell) => Refusal::by(3, cell),
-            Fault::Triple(i, j, k) => Refusal {
+            No::Bare(number) => Refusal::by(number, 0),
+            No::With(number, value) => Refusal::by(number, value),
+            No::Triple(i, j, k) => Refusal {
                 number: 4,
                 side: 0,
                 first: i,
@@ -110,6 +125,27 @@ impl Fault {
                 third: k,
             },
         }
+    }
+}
+
+impl Fault {
+    // Returns the "no" to its question.
+    pub fn no(self) -> No
+        ensures answer { λ r. ⌜ noRefusal r ≡ faultRefusal self ⌝ }
+    {
+        match self {
+            Fault::Order => No::Bare(1),
+            Fault::Size => No::Bare(2),
+            Fault::Cell(cell) => No::With(3, cell),
+            Fault::Triple(i, j, k) => No::Triple(i, j, k),
+        }
+    }
+
+    // Returns its number and values; it names no side.
+    pub fn refusal(self) -> Refusal
+        ensures answer { λ r. ⌜ r ≡ refusalNumbers (faultRefusal self) ⌝ }
+    {
+        self.no().refusal()
     }
 }
 
@@ -204,7 +240,7 @@ pub fn check_cells(cells: &[u8], n: usize) -> Verdict
     if n < 1 {
         return Verdict::Refused(Fault::Order);
     }
-    if 120 < n {
+    if limits::ORDER < n {
         return Verdict::Refused(Fault::Order);
     }
     if cells.len() != n * n {

@@ -14,57 +14,19 @@ ghost use Rattle.csv.specs.Tables.{fieldsOf, orderOf, cellsOf, rowFields, table
 ghost use Rattle.csv.specs.Questions.{bytesRefusal, fieldRefusal, fieldsRefusal, gridRefusal};
 ghost use Rattle.semigroups.specs.Calls.{overwritten};
 ghost use Rattle.csv.specs.Calls.{loadAnswer, cellsAfter, saveAnswer, textAfter};
-ghost use Rattle.tables.specs.Answers.{refusalNumbers};
-ghost use Rattle.text.specs.Answers.{textFaultRefusal, judgedRefusal, loadedAnswer, savedAnswer};
+ghost use Rattle.tables.specs.Answers.{numberedSays};
+ghost use Rattle.text.specs.Answers.{judgedRefusal};
 ghost use Rattle.text.specs.Fields.{fieldAt};
-use tables::Refusal;
-
-// Why a text is refused: questions 20, 21, 23 to 26, 1 and 27. 21 carries the place of the byte, from 0.
-pub enum TextFault {
-    Length,
-    Byte(usize),
-    FieldLength,
-    LeadingZero,
-    FieldValue,
-    Shape,
-    Order,
-    Room,
-}
-
-impl TextFault {
-    pub fn refusal(self) -> Refusal
-        ensures answer { λ r. ⌜ r ≡ refusalNumbers (textFaultRefusal self) ⌝ }
-    {
-        match self {
-            TextFault::Length => Refusal::by(20, 0),
-            TextFault::Byte(place) => Refusal::by(21, place),
-            TextFault::FieldLength => Refusal::by(23, 0),
-            TextFault::LeadingZero => Refusal::by(24, 0),
-            TextFault::FieldValue => Refusal::by(25, 0),
-            TextFault::Shape => Refusal::by(26, 0),
-            TextFault::Order => Refusal::by(1, 0),
-            TextFault::Room => Refusal::by(27, 0),
-        }
-    }
-}
-
-// What loading answers: the order, or the earliest failed question.
-pub enum Loaded {
-    Order(usize),
-    Refused(TextFault),
-}
-
-// What saving answers: the length of the text; or the first of questions 1 to 3 that fails; or that the buffer is short of the whole length.
-pub enum Saved {
-    Length(usize),
-    Refused(tables::Fault),
-    Room,
-}
+use tables::No;
+use tables::Numbered;
+use tables::Verdict;
+use tables::limits::ORDER;
+use tables::limits::TEXT;
 
 // Whether some of the questions about a text pass.
 enum Judged {
     Passed,
-    Failed(TextFault),
+    Failed(No),
 }
 
 // Question 21: is every byte a digit, a comma, or part of a CR LF pair?
@@ -83,15 +45,15 @@ fn judge_bytes(text: &[u8]) -> Judged
             }
             13 => {
                 if text.len() - i < 2 {
-                    return Judged::Failed(TextFault::Byte(i));
+                    return Judged::Failed(No::With(21, i));
                 }
                 if text[i + 1] != 10 {
-                    return Judged::Failed(TextFault::Byte(i));
+                    return Judged::Failed(No::With(21, i));
                 }
                 i += 2;
             }
             _ => {
-                return Judged::Failed(TextFault::Byte(i));
+                return Judged::Failed(No::With(21, i));
             }
         }
     }
@@ -140,16 +102,16 @@ fn judge_field(text: &[u8], at: usize, end: usize) -> Judged
     ensures answer { λ r. ⌜ judgedRefusal r ≡ fieldRefusal (digits (drop at (now (text .entry)))) ⌝ }
 {
     if end - at < 1 {
-        return Judged::Failed(TextFault::FieldLength);
+        return Judged::Failed(No::Bare(23));
     }
     if text[at] == 48 {
-        return Judged::Failed(TextFault::LeadingZero);
+        return Judged::Failed(No::Bare(24));
     }
     if 3 < end - at {
-        return Judged::Failed(TextFault::FieldLength);
+        return Judged::Failed(No::Bare(23));
     }
-    if 120 < read_number(text, at, end) {
-        return Judged::Failed(TextFault::FieldValue);
+    if ORDER < read_number(text, at, end) {
+        return Judged::Failed(No::Bare(25));
     }
     Judged::Passed
 }
@@ -239,10 +201,10 @@ fn judge_fields(text: &[u8], n: usize) -> Judged
         }
     }
     if !square {
-        return Judged::Failed(TextFault::Shape);
+        return Judged::Failed(No::Bare(26));
     }
     if row != n {
-        return Judged::Failed(TextFault::Shape);
+        return Judged::Failed(No::Bare(26));
     }
     Judged::Passed
 }
@@ -269,33 +231,33 @@ fn fill(text: &[u8], cells: &mut [u8])
 
 // Loads the table that `text` holds: answers its order and writes its cells, row by row, to the start of `cells`; or answers the earliest
 // question that fails, and writes nothing.
-pub fn load(text: &[u8], cells: &mut [u8]) -> Loaded
-    ensures answer { λ r. ⌜ loadedAnswer r ≡ loadAnswer (now (text .entry)) (now (cells .entry)) ⌝ }
+pub fn load(text: &[u8], cells: &mut [u8]) -> Numbered
+    ensures answer { λ r. ⌜ numberedSays r ≡ loadAnswer (now (text .entry)) (now (cells .entry)) ⌝ }
     ensures cells { λ _. ⌜ now (cells .exit) ≡ cellsAfter (now (text .entry)) (now (cells .entry)) ⌝ }
 {
     if text.len() < 1 {
-        return Loaded::Refused(TextFault::Length);
+        return Numbered::Refused(No::Bare(20));
     }
-    if 57720 < text.len() {
-        return Loaded::Refused(TextFault::Length);
+    if TEXT < text.len() {
+        return Numbered::Refused(No::Bare(20));
     }
     let bytes = judge_bytes(text);
     if let Judged::Failed(f) = bytes {
-        return Loaded::Refused(f);
+        return Numbered::Refused(f);
     }
     let n = columns(text);
     let fields = judge_fields(text, n);
     if let Judged::Failed(f) = fields {
-        return Loaded::Refused(f);
+        return Numbered::Refused(f);
     }
-    if 120 < n {
-        return Loaded::Refused(TextFault::Order);
+    if ORDER < n {
+        return Numbered::Refused(No::Bare(1));
     }
     if cells.len() < n * n {
-        return Loaded::Refused(TextFault::Room);
+        return Numbered::Refused(No::Bare(27));
     }
     fill(text, cells);
-    Loaded::Order(n)
+    Numbered::Number(n)
 }
 
 // The length of the text of a table: each cell is followed by a comma or a CR, each row by an LF.
@@ -347,16 +309,16 @@ fn put_rows(cells: &[u8], n: usize, text: &mut [u8]) -> usize
 
 // Saves the table of this order with these cells: writes its text to the start of `text` and answers its length; or answers the earliest
 // question that fails, and writes nothing.
-pub fn save(cells: &[u8], order: usize, text: &mut [u8]) -> Saved
-    ensures answer { λ r. ⌜ savedAnswer r ≡ saveAnswer order (now (cells .entry)) (now (text .entry)) ⌝ }
+pub fn save(cells: &[u8], order: usize, text: &mut [u8]) -> Numbered
+    ensures answer { λ r. ⌜ numberedSays r ≡ saveAnswer order (now (cells .entry)) (now (text .entry)) ⌝ }
     ensures text { λ _. ⌜ now (text .exit) ≡ textAfter order (now (cells .entry)) (now (text .entry)) ⌝ }
 {
     let verdict = tables::check_cells(cells, order);
-    if let tables::Verdict::Refused(f) = verdict {
-        return Saved::Refused(f);
+    if let Verdict::Refused(f) = verdict {
+        return Numbered::Refused(f.no());
     }
     if text.len() < text_length(cells, order) {
-        return Saved::Room;
+        return Numbered::Refused(No::Bare(28));
     }
-    Saved::Length(put_rows(cells, order, text))
+    Numbered::Number(put_rows(cells, order, text))
 }

@@ -1,39 +1,34 @@
-// The tables of all transformations of one to three points, stored. A degree or a buffer that does not do is refused, and the buffer then keeps its
+// The tables of all transformations of one to three points, stored. An invalid degree or a buffer that is too small is refused, and the buffer then keeps its
 // bytes.
 ghost use mathlib.Core.Path.{_≡_};
 ghost use lib.ListN.{length};
 ghost use Rattle.semigroups.specs.Calls.{givenUnless, writtenUnless};
-ghost use Rattle.transformations.specs.Answers.{transformationSays, transformationAnswerSays, transformationCellsAfter, roomRefusal};
+ghost use Rattle.tables.specs.Answers.{numberedSays};
+ghost use Rattle.transformations.specs.Answers.{transformationSays, transformationCellsAfter, roomRefusal};
+use tables::No;
+use tables::Numbered;
 
 pub mod stored;
 
-pub enum TransformationAnswer {
-    // Questions 8 and 9.
-    Degree,
-    Cells,
-    // The table is written: its order.
-    Order(usize),
-}
-
-// Writes a table of order n where there is room for it, and answers its order.
-fn put(n: usize, table: &[u8], cells: &mut [u8]) -> TransformationAnswer
-    ensures answer { λ r. ⌜ transformationAnswerSays r ≡ givenUnless (roomRefusal (length (now (table .entry))) (length (now (cells .entry)))) n ⌝ }
+// Writes a table of order n to the start of `cells` and answers its order; or answers 9 where there is no room for it.
+fn put(n: usize, table: &[u8], cells: &mut [u8]) -> Numbered
+    ensures answer { λ r. ⌜ numberedSays r ≡ givenUnless (roomRefusal (length (now (table .entry))) (length (now (cells .entry)))) n ⌝ }
     ensures cells { λ r. ⌜ now (cells .exit) ≡ writtenUnless (roomRefusal (length (now (table .entry))) (length (now (cells .entry)))) (now (table .entry)) (now (cells .entry)) ⌝ }
 {
     if cells.len() < table.len() {
-        return TransformationAnswer::Cells;
+        return Numbered::Refused(No::Bare(9));
     }
     let mut place: usize = 0;
     while place < table.len() {
         cells[place] = table[place];
         place += 1;
     }
-    TransformationAnswer::Order(n)
+    Numbered::Number(n)
 }
 
-// Writes the table of all transformations of `degree` points into `cells` and answers its order.
-pub fn fill(degree: usize, cells: &mut [u8]) -> TransformationAnswer
-    ensures answer { λ r. ⌜ transformationAnswerSays r ≡ transformationSays degree (length (now (cells .entry))) ⌝ }
+// Writes the table of all transformations of `degree` points to the start of `cells` and answers its order; or answers 8 or 9.
+pub fn fill(degree: usize, cells: &mut [u8]) -> Numbered
+    ensures answer { λ r. ⌜ numberedSays r ≡ transformationSays degree (length (now (cells .entry))) ⌝ }
     ensures cells { λ r. ⌜ now (cells .exit) ≡ transformationCellsAfter degree (now (cells .entry)) ⌝ }
 {
     if degree == 3 {
@@ -45,5 +40,5 @@ pub fn fill(degree: usize, cells: &mut [u8]) -> TransformationAnswer
     if degree == 1 {
         return put(1, &stored::degree_1(), cells);
     }
-    TransformationAnswer::Degree
+    Numbered::Refused(No::Bare(8))
 }

@@ -7,7 +7,7 @@ use denote.Ref.{now}
 use Rattle.semigroups.specs.Calls.{gives}
 use Rattle.tables.proofs.Questions.{square-small}
 use Rattle.files.specs.Files.{fileAnswer}
-use Rattle.files.specs.Answers.{verdictAnswer}
+use Rattle.tables.specs.Answers.{numberedSays}
 use Rattle.files.proofs.Files.{Holds, not-accepted, holds}
 use Rattle.classification.proofs.Steps.{holds-refused, holds-is, holds-other}
 use borrow.Author.Needs.{needs}
@@ -23,7 +23,7 @@ module _ (c : tie.After-verdict) where
   start-of = loaded .before .before .before .before
 
   own-given : fileAnswer (now (start-of .args .text)) (replicate 14400 0) ≡ gives (c .verdict .given .0 .0)
-  own-given = sym (loaded .load-then-check .ensures .0) ∙ ap verdictAnswer (c .verdict .given .1)
+  own-given = sym (loaded .load-then-check .ensures .0) ∙ ap numberedSays (c .verdict .given .1)
 
   own-holds : Holds (now (start-of .args .text)) (loaded .load-then-check .last .1 .0) (c .verdict .given .0 .0)
   own-holds = holds _ _ _ own-given (loaded .load-then-check .ensures .1) (loaded .load-then-check .kept .1 .0)
@@ -37,10 +37,14 @@ load-then-check-requires c κs = search needs
 enum-known-verdict : tie.Need-enum-known-verdict
 enum-known-verdict c = search needs
 
+enum-told : tie.Need-enum-told
+enum-told c = search needs
+
 returns : tie.Need-returns
 returns c =
-    let loaded = c .before .before in
-    let no = not-accepted (loaded .load-then-check .result) (c .match .keys2) in
+    let other = c .before in
+    let loaded = other .before .before in
+    let no = not-accepted (loaded .load-then-check .result) (other .match .keys2) in
     holds-refused _ (replicate 14400 0) refl _ _ (no .by) (sym (loaded .load-then-check .ensures .0) ∙ no .says)
 
 returns-2 : tie.Need-returns-2
@@ -68,6 +72,7 @@ holds-like-spec =
     slice-aggregate-load-then-check
     load-then-check-requires
     enum-known-verdict
+    enum-told
     returns
     returns-2
     mul-size

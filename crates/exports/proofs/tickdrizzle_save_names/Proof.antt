@@ -7,8 +7,8 @@ use Rattle.exports.proofs.tickdrizzle_save_names.Tie as tie
 save-requires : tie.Need-save-requires
 save-requires c κs = search needs
 
-names-words-requires : tie.Need-names-words-requires
-names-words-requires c κs = search needs
+numbered-words-requires : tie.Need-numbered-words-requires
+numbered-words-requires c κs = search needs
 
 same-length : tie.Need-same-length
 same-length c = search needs
@@ -16,8 +16,8 @@ same-length c = search needs
 returns : tie.Need-returns
 returns c =
     let called = c .before .before .before .save .ensures in
-    (rw (called .0) at (c .names-words .ensures), called .1)
+    (rw (called .0) at (c .numbered-words .ensures), called .1)
 
 pub tickdrizzle-save-names-spec : {M : Type 1} → statement M
 tickdrizzle-save-names-spec =
-    tie.close (tie.spec save-requires names-words-requires same-length returns)
+    tie.close (tie.spec save-requires numbered-words-requires same-length returns)

@@ -7,8 +7,8 @@ use Rattle.exports.proofs.tickdrizzle_subsemigroup.Tie as tie
 subsemigroup-requires : tie.Need-subsemigroup-requires
 subsemigroup-requires c κs = search needs
 
-subsemigroup-words-requires : tie.Need-subsemigroup-words-requires
-subsemigroup-words-requires c κs = search needs
+numbered-words-requires : tie.Need-numbered-words-requires
+numbered-words-requires c κs = search needs
 
 same-length : tie.Need-same-length
 same-length c = search needs
@@ -19,9 +19,9 @@ same-length-2 c = search needs
 returns : tie.Need-returns
 returns c =
     let called = c .before .before .before .before .before .subsemigroup .ensures in
-    (rw (called .0) at (c .subsemigroup-words .ensures), called .1)
+    (rw (called .0) at (c .numbered-words .ensures), called .1)
 
 pub tickdrizzle-subsemigroup-spec : {M : Type 1} → statement M
 tickdrizzle-subsemigroup-spec =
     tie.close
-    (tie.spec subsemigroup-requires subsemigroup-words-requires same-length same-length-2 returns)
+    (tie.spec subsemigroup-requires numbered-words-requires same-length same-length-2 returns)

@@ -6,11 +6,10 @@ use native.Mathlib.Omega.{arith}
 use borrow.Author.Needs.{needs}
 use lib.ListN.{length, length-take}
 use denote.Ref.{now}
-use Rattle.semigroups.specs.Calls.{gives}
+use Rattle.semigroups.specs.Calls.{Answer, refused, gives}
 use Rattle.csv.specs.Calls.{loadAnswer}
 use Rattle.tables.proofs.Questions.{square-small}
-use Rattle.tables.specs.Answers.{verdictRefusal}
-use Rattle.text.specs.Answers.{loadedAnswer}
+use Rattle.tables.specs.Answers.{verdictRefusal, numberedSays}
 use Rattle.files.proofs.Files.{judged-text, judged-table, loaded-order, loaded-room}
 use Rattle.files.proofs.load_then_check.Statement.{statement}
 use Rattle.files.proofs.load_then_check.Tie as tie
@@ -27,7 +26,7 @@ module _ (c : tie.After-known-told) where
   order-of = c .before .loaded .given .0 .0
 
   given-order : loadAnswer (now (start-of .args .text)) (now (start-of .args .cells)) ≡ gives order-of
-  given-order = sym (loading-of .load .ensures .0) ∙ ap loadedAnswer (c .before .loaded .given .1)
+  given-order = sym (loading-of .load .ensures .0) ∙ ap numberedSays (c .before .loaded .given .1)
 
   fits : order-of * order-of ≤ length (loading-of .load .last .1 .0)
   fits = loaded-room _ _ _ given-order (loading-of .load .ensures .1) (loading-of .load .kept .1 .0)
@@ -41,17 +40,14 @@ enum-known-loaded c = search needs
 enum-told : tie.Need-enum-told
 enum-told c = search needs
 
-of-loading-requires : tie.Need-of-loading-requires
-of-loading-requires c κs = search needs
-
 same-length : tie.Need-same-length
 same-length c = search needs
 
 returns : tie.Need-returns
 returns c =
-    let loading = c .before .before .before .before .before in
-    let told = ap loadedAnswer (c .before .enum-told .given .1) in
-    (c .of-loading .ensures ∙ told ∙ judged-text _ _ (sym told ∙ loading .load .ensures .0), loading .load .ensures .1)
+    let loading = c .before .before .before .before in
+    let told = ap numberedSays (c .enum-told .given .1) in
+    (told ∙ judged-text _ _ (sym told ∙ loading .load .ensures .0), loading .load .ensures .1)
 
 mul-size : tie.Need-mul-size
 mul-size c = omega (arith, square-small _ (loaded-order _ _ _ (given-order c)))
@@ -102,7 +98,6 @@ load-then-check-spec =
     load-requires
     enum-known-loaded
     enum-told
-    of-loading-requires
     same-length
     returns
     mul-size

@@ -9,6 +9,7 @@ use borrow.Author.Needs.{needs}
 use lib.ListN.{length}
 use Rattle.semigroups.specs.Tables.{Accepted}
 use Rattle.semigroups.specs.Questions.{tableRefusal}
+use Rattle.semigroups.specs.Calls.{Answer, refused}
 use Rattle.semigroups.specs.Generated.{Inside}
 use Rattle.semigroups.proofs.Tables.{accepted}
 use Rattle.semigroups.proofs.Subsemigroups.{table-refused, none-chosen, not-inside}
@@ -67,10 +68,14 @@ check-requires c κs = search needs
 enum-known-table : tie.Need-enum-known-table
 enum-known-table c = search needs
 
+no-requires : tie.Need-no-requires
+no-requires c κs = search needs
+
 returns : tie.Need-returns
 returns c =
-    let k = c .before in
-    kept _ _ _ _ _ _ (table-refused _ _ _ _ _ _ (sym (k .before .before .check .ensures) ∙ ap verdictRefusal (k .table .given .1)))
+    let k = c .before .before in
+    let table = kept _ _ _ _ _ _ (table-refused _ _ _ _ _ _ (sym (k .before .before .check .ensures) ∙ ap verdictRefusal (k .table .given .1))) in
+    (ap {B = Answer ℕ} refused (c .no .ensures) ∙ table .0, table .1)
 
 enum-told : tie.Need-enum-told
 enum-told c = search needs
@@ -142,6 +147,7 @@ subsemigroup-spec =
     (tie.spec
     check-requires
     enum-known-table
+    no-requires
     returns
     enum-told
     returns-2

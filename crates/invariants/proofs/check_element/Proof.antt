@@ -1,5 +1,7 @@
 -- `check_element` meets its contract: the table's refusal is the answer, else question 7 decides. Assumes nothing.
 use mathlib.Core.Path.{sym, ap, _∙_}
+use mathlib.Core.Option.{Option, some}
+use Rattle.semigroups.specs.Questions.{Refusal}
 use Rattle.tables.specs.Answers.{verdictRefusal}
 use Rattle.invariants.proofs.Questions.{table-refused, element-low, element-high, element-passes}
 use borrow.Author.Needs.{needs}
@@ -12,8 +14,13 @@ check-requires c κs = search needs
 enum-known-table : tie.Need-enum-known-table
 enum-known-table c = search needs
 
+no-requires : tie.Need-no-requires
+no-requires c κs = search needs
+
 returns : tie.Need-returns
-returns c = let t = c .before in sym (table-refused _ _ _ _ (sym (t .before .before .check .ensures) ∙ ap verdictRefusal (t .table .given .1)))
+returns c =
+    let t = c .before .before in
+    ap {B = Option Refusal} some (c .no .ensures) ∙ sym (table-refused _ _ _ _ (sym (t .before .before .check .ensures) ∙ ap verdictRefusal (t .table .given .1)))
 
 enum-told : tie.Need-enum-told
 enum-told c = search needs
@@ -30,4 +37,4 @@ returns-4 c = let t = c .before .before in sym (element-passes _ _ _ (sym (t .be
 pub check-element-spec : {M : Type 1} → statement M
 check-element-spec =
     tie.close
-    (tie.spec check-requires enum-known-table returns enum-told returns-2 returns-3 returns-4)
+    (tie.spec check-requires enum-known-table no-requires returns enum-told returns-2 returns-3 returns-4)

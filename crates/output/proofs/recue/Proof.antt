@@ -11,8 +11,10 @@ use denote.Ref.{now}
 use Rattle.semigroups.specs.Calls.{gives, overwritten}
 use Rattle.tables.proofs.Questions.{square-small}
 use Rattle.files.specs.Files.{fileRefusal, fileAnswer, room}
-use Rattle.files.specs.Answers.{verdictAnswer, numberOf}
+use Rattle.tables.specs.Answers.{numberedSays}
+use Rattle.files.specs.Answers.{numberOf}
 use Rattle.files.proofs.Files.{Holds, not-accepted, holds, accepted-file}
+use Rattle.files.proofs.Numbers.{failed-small}
 use Rattle.output.proofs.Records.{refused-written}
 use Rattle.output.proofs.Program.{prints-source, prints-target, prints-answer}
 use Rattle.output.proofs.recue.Statement.{statement}
@@ -32,7 +34,7 @@ module _ (c : tie.After-first) where
   start-of = source-loaded .before .before .before .before
 
   source-given : fileAnswer (now (start-of .args .source)) (replicate 14400 0) ≡ gives (c .first .given .0 .0)
-  source-given = sym (source-loaded .load-then-check .ensures .0) ∙ ap verdictAnswer (c .first .given .1)
+  source-given = sym (source-loaded .load-then-check .ensures .0) ∙ ap numberedSays (c .first .given .1)
 
   source-passes : fileRefusal (now (start-of .args .source)) room ≡ none
   source-passes = accepted-file _ _ _ source-given
@@ -49,7 +51,7 @@ module _ (c : tie.After-second) where
   target-text = now (start-of (target-loaded .before .before .before) .args .target)
 
   target-given : fileAnswer target-text (replicate 14400 0) ≡ gives (c .second .given .0 .0)
-  target-given = sym (target-loaded .load-then-check2 .ensures .0) ∙ ap verdictAnswer (c .second .given .1)
+  target-given = sym (target-loaded .load-then-check2 .ensures .0) ∙ ap numberedSays (c .second .given .1)
 
   target-passes : fileRefusal target-text room ≡ none
   target-passes = accepted-file _ _ _ target-given
@@ -66,6 +68,9 @@ load-then-check-requires c κs = search needs
 enum-known-first : tie.Need-enum-known-first
 enum-known-first c = search needs
 
+enum-told : tie.Need-enum-told
+enum-told c = search needs
+
 slice-aggregate-put-record : tie.Need-slice-aggregate-put-record
 slice-aggregate-put-record c = search needs
 
@@ -73,14 +78,17 @@ failed-question-requires : tie.Need-failed-question-requires
 failed-question-requires c κs = search needs
 
 put-record-requires : tie.Need-put-record-requires
-put-record-requires c κs = search needs
+put-record-requires c κs =
+    let loading = c .before .before .before .before .before .before in
+    let small = failed-small _ _ (loading .load-then-check .result) (loading .load-then-check .ensures .0) (c .failed-question .ensures) in
+    ((omega arith, omega arith), search needs)
 
 returns : tie.Need-returns
 returns c =
-    let loading = c .before .before .before .before .before .before in
+    let loading = c .before .before .before .before .before .before .before in
     let z = loading .before .before .before .before in
-    let no = not-accepted (loading .load-then-check .result) (c .before .before .before .before .match .keys2) in
-    let w = refused-written _ 1 _ (no .by) (c .before .failed-question .ensures .0 ∙ ap numberOf (no .says)) (search needs) (c .put-record .ensures .0) (c .put-record .ensures .1) in
+    let no = not-accepted (loading .load-then-check .result) (c .before .before .before .before .before .match .keys2) in
+    let w = refused-written _ 1 _ (no .by) (c .before .failed-question .ensures ∙ ap numberOf (no .says)) (search needs) (c .put-record .ensures .0) (c .put-record .ensures .1) in
     printed (now (z .args .out)) (prints-source (now (z .args .source)) (now (z .args .target)) (replicate 14400 0) refl (no .by) (sym (loading .load-then-check .ensures .0) ∙ no .says)) (w .size) (w .text)
 
 slice-aggregate-load-then-check-2 : tie.Need-slice-aggregate-load-then-check-2
@@ -92,6 +100,9 @@ load-then-check-requires-2 c κs = search needs
 enum-known-second : tie.Need-enum-known-second
 enum-known-second c = search needs
 
+enum-told-2 : tie.Need-enum-told-2
+enum-told-2 c = search needs
+
 slice-aggregate-put-record-2 : tie.Need-slice-aggregate-put-record-2
 slice-aggregate-put-record-2 c = search needs
 
@@ -99,15 +110,18 @@ failed-question-requires-2 : tie.Need-failed-question-requires-2
 failed-question-requires-2 c κs = search needs
 
 put-record-requires-2 : tie.Need-put-record-requires-2
-put-record-requires-2 c κs = search needs
+put-record-requires-2 c κs =
+    let loading = c .before .before .before .before .before .before in
+    let small = failed-small _ _ (loading .load-then-check2 .result) (loading .load-then-check2 .ensures .0) (c .failed-question2 .ensures) in
+    ((omega arith, omega arith), search needs)
 
 returns-2 : tie.Need-returns-2
 returns-2 c =
-    let loading = c .before .before .before .before .before .before in
+    let loading = c .before .before .before .before .before .before .before in
     let first = loading .before .before .before in
     let z = start-of first in
-    let no = not-accepted (loading .load-then-check2 .result) (c .before .before .before .before .match2 .keys2) in
-    let w = refused-written _ 2 _ (no .by) (c .before .failed-question2 .ensures .0 ∙ ap numberOf (no .says)) (search needs) (c .put-record2 .ensures .0) (c .put-record2 .ensures .1) in
+    let no = not-accepted (loading .load-then-check2 .result) (c .before .before .before .before .before .match2 .keys2) in
+    let w = refused-written _ 2 _ (no .by) (c .before .failed-question2 .ensures ∙ ap numberOf (no .says)) (search needs) (c .put-record2 .ensures .0) (c .put-record2 .ensures .1) in
     printed (now (z .args .out)) (prints-target (now (z .args .source)) (now (z .args .target)) (replicate 14400 0) refl (no .by) (source-passes first) (sym (loading .load-then-check2 .ensures .0) ∙ no .says)) (w .size) (w .text)
 
 mul-source-size : tie.Need-mul-source-size
@@ -147,6 +161,7 @@ recue-spec =
     slice-aggregate-load-then-check
     load-then-check-requires
     enum-known-first
+    enum-told
     slice-aggregate-put-record
     failed-question-requires
     put-record-requires
@@ -154,6 +169,7 @@ recue-spec =
     slice-aggregate-load-then-check-2
     load-then-check-requires-2
     enum-known-second
+    enum-told-2
     slice-aggregate-put-record-2
     failed-question-requires-2
     put-record-requires-2

@@ -1,12 +1,14 @@
 -- `least_degree` meets its contract: one law for each way out of the questions; more than 27 elements fit nowhere; else the degrees are tried. Assumes nothing.
 use mathlib.Core.Path.{_≡_, sym, ap, _∙_}
-use mathlib.Core.Option.{none}
+use mathlib.Core.Option.{Option, none}
+use Prim.Native.Nat.{ℕ}
 use native.Mathlib.Omega.{arith}
 use borrow.Author.Needs.{needs}
 use denote.Ref.{now}
 use lib.Seq.{length-take-le}
 use Rattle.semigroups.specs.Tables.{Accepted}
 use Rattle.semigroups.specs.Questions.{tableRefusal}
+use Rattle.semigroups.specs.Calls.{Answer, refused}
 use Rattle.semigroups.proofs.Tables.{accepted}
 use Rattle.tables.specs.Answers.{verdictRefusal}
 use Rattle.planning.proofs.Questions.{table-kept, room-kept, answered, too-many}
@@ -30,8 +32,14 @@ check-requires c κs = search needs
 enum-known-table : tie.Need-enum-known-table
 enum-known-table c = search needs
 
+no-requires : tie.Need-no-requires
+no-requires c κs = search needs
+
 returns : tie.Need-returns
-returns c = let k = c .before in table-kept _ _ _ _ (sym (k .before .before .check .ensures) ∙ ap verdictRefusal (k .table .given .1))
+returns c =
+    let k = c .before .before in
+    let table = table-kept _ _ _ _ (sym (k .before .before .check .ensures) ∙ ap verdictRefusal (k .table .given .1)) in
+    (ap {B = Answer (Option ℕ)} refused (c .no .ensures) ∙ table .0, table .1)
 
 enum-told : tie.Need-enum-told
 enum-told c = search needs
@@ -72,6 +80,7 @@ least-degree-spec =
     (tie.spec
     check-requires
     enum-known-table
+    no-requires
     returns
     enum-told
     mul-if1

@@ -61,10 +61,12 @@ returns : tie.Need-returns
 returns c =
     let t = c .before .before .before .before .before .before .before .before .before .before in
     let z = start t in
-    let a = z .args in
-    c .before .before .before .before .search-straight .ensures
-    ∙ ap (λ (g : List ℕ). searched isomorphisms (a .next) (a .limit) (lend (now (a .source)) (a .m) g (n t) (now (a .map)) (now (a .scratch)))) (turned-part (n t) (target t) (now (a .room)) (room t) (z .pre .0 .1) (fits t) (t .turn .ensures))
-    ∙ turned-call (a .next) (a .limit) (a .m) (now (a .source)) (n t) (target t) (now (a .map)) (now (a .scratch)) (z .pre .0 .1)
+    let a = z .args in (
+      c .before .before .before .before .search-straight .ensures
+          ∙ ap (λ (g : List ℕ). searched isomorphisms (a .next) (a .limit) (lend (now (a .source)) (a .m) g (n t) (now (a .map)) (now (a .scratch)))) (turned-part (n t) (target t) (now (a .room)) (room t) (z .pre .0 .1) (fits t) (t .turn .ensures))
+          ∙ turned-call (a .next) (a .limit) (a .m) (now (a .source)) (n t) (target t) (now (a .map)) (now (a .scratch)) (z .pre .0 .1),
+      t .turn .ensures,
+    )
 
 pub search-turned-spec : {M : Type 1} → statement M
 search-turned-spec =

@@ -8,7 +8,7 @@ use borrow.Author.Needs.{needs}
 use Rattle.semigroups.specs.Questions.{cellsRefusal}
 use Rattle.semigroups.proofs.Tables.{filled}
 use Rattle.tables.specs.Answers.{verdictRefusal}
-use Rattle.semigroups.specs.Calls.{Answer, gives}
+use Rattle.semigroups.specs.Calls.{Answer, refused, gives}
 use Rattle.csv.proofs.Saving.{bad-table, bad-room, save-given}
 use Rattle.text.proofs.save.Statement.{statement}
 use Rattle.text.proofs.save.Tie as tie
@@ -27,8 +27,14 @@ check-cells-requires c κs = search needs
 enum-known-verdict : tie.Need-enum-known-verdict
 enum-known-verdict c = search needs
 
+no-requires : tie.Need-no-requires
+no-requires c κs = search needs
+
 returns : tie.Need-returns
-returns c = bad-table _ _ _ (sym (c .before .before .before .check-cells .ensures) ∙ ap verdictRefusal (c .before .verdict .given .1))
+returns c =
+    let known = c .before in
+    let table = bad-table _ _ _ (sym (known .before .before .before .check-cells .ensures) ∙ ap verdictRefusal (known .before .verdict .given .1)) in
+    (ap {B = Answer ℕ} refused (c .no .ensures) ∙ table .0, table .1)
 
 enum-told : tie.Need-enum-told
 enum-told c = search needs
@@ -62,6 +68,7 @@ save-spec =
     (tie.spec
     check-cells-requires
     enum-known-verdict
+    no-requires
     returns
     enum-told
     text-length-requires

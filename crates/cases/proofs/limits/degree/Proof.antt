@@ -15,8 +15,8 @@ slice-aggregate-fill c = search needs
 fill-requires : tie.Need-fill-requires
 fill-requires c κs = search needs
 
-transformations-said-requires : tie.Need-transformations-said-requires
-transformations-said-requires c κs = search needs
+numbered-said-requires : tie.Need-numbered-said-requires
+numbered-said-requires c κs = search needs
 
 same-said-requires : tie.Need-same-said-requires
 same-said-requires c κs = search needs
@@ -40,7 +40,7 @@ returns : tie.Need-returns
 returns c =
     let filled = c .before .before .before .before .before .before .before .before in
     let a = filled .before .before .args in
-    let says = c .before .before .before .before .before .before .transformations-said .ensures ∙ ap answerSaid (filled .fill .ensures .0) in
+    let says = c .before .before .before .before .before .before .numbered-said .ensures ∙ ap answerSaid (filled .fill .ensures .0) in
     let one = c .before .before .before .before .counted .ensures ∙ ap (counted (a .tally)) (c .before .before .before .before .before .same-said .ensures ∙ ap (λ (x : Said). sameSaid x (a .said)) says) in
     c .counted2 .ensures ∙ ap₂ counted one (same-left _ _ _ _ (c .before .same-bytes .ensures) (filled .fill .ensures .1))
 
@@ -50,7 +50,7 @@ degree-spec =
     (tie.spec
     slice-aggregate-fill
     fill-requires
-    transformations-said-requires
+    numbered-said-requires
     same-said-requires
     counted-requires
     slice-aggregate-same-bytes

@@ -12,7 +12,8 @@ use Rattle.semigroups.specs.Transformations.{transformations, transformationOrd
 use Rattle.transformations.specs.Answers.{transformationSays, transformationCellsAfter}
 use Rattle.plain.specs.declared.Said.{Said}
 use Rattle.judging.specs.Said.{sameSaid}
-use Rattle.cases.specs.Answering.{answerSaid, sameBytes}
+use Rattle.semigroups.specs.Copies.{sameList}
+use Rattle.cases.specs.Answering.{answerSaid}
 use Rattle.judging.specs.Tally.{empty, agreed}
 use Rattle.judging.proofs.Counting.{two-more}
 use borrow.Author.Needs.{needs}
@@ -23,35 +24,35 @@ said : (d : ℕ) {r s : Said} → r ≡ s → sameSaid (answerSaid (transformati
 said d e h = ap (sameSaid (answerSaid (transformationSays d 20))) e ∙ h
 
 one-said : sameSaid (answerSaid (transformationSays 1 20)) (record { number = 0; first = 1; second = 0; third = 0 }) ≡ true
-unfolding sameSaid sameBytes at range elements lists sum count earlier grid isElement firstOf after transformations transformationOrder transformation numberOf transformationProduct transformationCells transformationRefusal transformationSays transformationCellsAfter orElse flatMap
+unfolding sameSaid sameList at range elements lists sum count earlier grid isElement firstOf after transformations transformationOrder transformation numberOf transformationProduct transformationCells transformationRefusal transformationSays transformationCellsAfter orElse flatMap
 one-said = refl
 
-one-cells : sameBytes (transformationCellsAfter 1 (replicate 20 7)) (1 ∷ 7 ∷ 7 ∷ 7 ∷ 7 ∷ 7 ∷ 7 ∷ 7 ∷ 7 ∷ 7 ∷ 7 ∷ 7 ∷ 7 ∷ 7 ∷ 7 ∷ 7 ∷ 7 ∷ 7 ∷ 7 ∷ 7 ∷ []) ≡ true
-unfolding sameSaid sameBytes at range elements lists sum count earlier grid isElement firstOf after transformations transformationOrder transformation numberOf transformationProduct transformationCells transformationRefusal transformationSays transformationCellsAfter orElse flatMap
+one-cells : sameList (transformationCellsAfter 1 (replicate 20 7)) (1 ∷ 7 ∷ 7 ∷ 7 ∷ 7 ∷ 7 ∷ 7 ∷ 7 ∷ 7 ∷ 7 ∷ 7 ∷ 7 ∷ 7 ∷ 7 ∷ 7 ∷ 7 ∷ 7 ∷ 7 ∷ 7 ∷ 7 ∷ []) ≡ true
+unfolding sameSaid sameList at range elements lists sum count earlier grid isElement firstOf after transformations transformationOrder transformation numberOf transformationProduct transformationCells transformationRefusal transformationSays transformationCellsAfter orElse flatMap
 one-cells = refl
 
 two-said : sameSaid (answerSaid (transformationSays 2 20)) (record { number = 0; first = 4; second = 0; third = 0 }) ≡ true
-unfolding sameSaid sameBytes at range elements lists sum count earlier grid isElement firstOf after transformations transformationOrder transformation numberOf transformationProduct transformationCells transformationRefusal transformationSays transformationCellsAfter orElse flatMap
+unfolding sameSaid sameList at range elements lists sum count earlier grid isElement firstOf after transformations transformationOrder transformation numberOf transformationProduct transformationCells transformationRefusal transformationSays transformationCellsAfter orElse flatMap
 two-said = refl
 
-two-cells : sameBytes (transformationCellsAfter 2 (replicate 20 7)) (1 ∷ 1 ∷ 4 ∷ 4 ∷ 1 ∷ 2 ∷ 3 ∷ 4 ∷ 1 ∷ 3 ∷ 2 ∷ 4 ∷ 1 ∷ 4 ∷ 1 ∷ 4 ∷ 7 ∷ 7 ∷ 7 ∷ 7 ∷ []) ≡ true
-unfolding sameSaid sameBytes at range elements lists sum count earlier grid isElement firstOf after transformations transformationOrder transformation numberOf transformationProduct transformationCells transformationRefusal transformationSays transformationCellsAfter orElse flatMap
+two-cells : sameList (transformationCellsAfter 2 (replicate 20 7)) (1 ∷ 1 ∷ 4 ∷ 4 ∷ 1 ∷ 2 ∷ 3 ∷ 4 ∷ 1 ∷ 3 ∷ 2 ∷ 4 ∷ 1 ∷ 4 ∷ 1 ∷ 4 ∷ 7 ∷ 7 ∷ 7 ∷ 7 ∷ []) ≡ true
+unfolding sameSaid sameList at range elements lists sum count earlier grid isElement firstOf after transformations transformationOrder transformation numberOf transformationProduct transformationCells transformationRefusal transformationSays transformationCellsAfter orElse flatMap
 two-cells = refl
 
 three-said : sameSaid (answerSaid (transformationSays 3 20)) (record { number = 9; first = 0; second = 0; third = 0 }) ≡ true
-unfolding sameSaid sameBytes at range elements lists sum count earlier grid isElement firstOf after transformations transformationOrder transformation numberOf transformationProduct transformationCells transformationRefusal transformationSays transformationCellsAfter orElse flatMap
+unfolding sameSaid sameList at range elements lists sum count earlier grid isElement firstOf after transformations transformationOrder transformation numberOf transformationProduct transformationCells transformationRefusal transformationSays transformationCellsAfter orElse flatMap
 three-said = refl
 
-three-cells : sameBytes (transformationCellsAfter 3 (replicate 20 7)) (7 ∷ 7 ∷ 7 ∷ 7 ∷ 7 ∷ 7 ∷ 7 ∷ 7 ∷ 7 ∷ 7 ∷ 7 ∷ 7 ∷ 7 ∷ 7 ∷ 7 ∷ 7 ∷ 7 ∷ 7 ∷ 7 ∷ 7 ∷ []) ≡ true
-unfolding sameSaid sameBytes at range elements lists sum count earlier grid isElement firstOf after transformations transformationOrder transformation numberOf transformationProduct transformationCells transformationRefusal transformationSays transformationCellsAfter orElse flatMap
+three-cells : sameList (transformationCellsAfter 3 (replicate 20 7)) (7 ∷ 7 ∷ 7 ∷ 7 ∷ 7 ∷ 7 ∷ 7 ∷ 7 ∷ 7 ∷ 7 ∷ 7 ∷ 7 ∷ 7 ∷ 7 ∷ 7 ∷ 7 ∷ 7 ∷ 7 ∷ 7 ∷ 7 ∷ []) ≡ true
+unfolding sameSaid sameList at range elements lists sum count earlier grid isElement firstOf after transformations transformationOrder transformation numberOf transformationProduct transformationCells transformationRefusal transformationSays transformationCellsAfter orElse flatMap
 three-cells = refl
 
 four-said : sameSaid (answerSaid (transformationSays 4 20)) (record { number = 8; first = 0; second = 0; third = 0 }) ≡ true
-unfolding sameSaid sameBytes at range elements lists sum count earlier grid isElement firstOf after transformations transformationOrder transformation numberOf transformationProduct transformationCells transformationRefusal transformationSays transformationCellsAfter orElse flatMap
+unfolding sameSaid sameList at range elements lists sum count earlier grid isElement firstOf after transformations transformationOrder transformation numberOf transformationProduct transformationCells transformationRefusal transformationSays transformationCellsAfter orElse flatMap
 four-said = refl
 
-four-cells : sameBytes (transformationCellsAfter 4 (replicate 20 7)) (7 ∷ 7 ∷ 7 ∷ 7 ∷ 7 ∷ 7 ∷ 7 ∷ 7 ∷ 7 ∷ 7 ∷ 7 ∷ 7 ∷ 7 ∷ 7 ∷ 7 ∷ 7 ∷ 7 ∷ 7 ∷ 7 ∷ 7 ∷ []) ≡ true
-unfolding sameSaid sameBytes at range elements lists sum count earlier grid isElement firstOf after transformations transformationOrder transformation numberOf transformationProduct transformationCells transformationRefusal transformationSays transformationCellsAfter orElse flatMap
+four-cells : sameList (transformationCellsAfter 4 (replicate 20 7)) (7 ∷ 7 ∷ 7 ∷ 7 ∷ 7 ∷ 7 ∷ 7 ∷ 7 ∷ 7 ∷ 7 ∷ 7 ∷ 7 ∷ 7 ∷ 7 ∷ 7 ∷ 7 ∷ 7 ∷ 7 ∷ 7 ∷ 7 ∷ []) ≡ true
+unfolding sameSaid sameList at range elements lists sum count earlier grid isElement firstOf after transformations transformationOrder transformation numberOf transformationProduct transformationCells transformationRefusal transformationSays transformationCellsAfter orElse flatMap
 four-cells = refl
 
 failed-requires : tie.Need-failed-requires

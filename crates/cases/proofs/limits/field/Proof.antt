@@ -4,7 +4,8 @@ use mathlib.Core.Path.{ap, ap₂, _∙_}
 use mathlib.Core.List.{List, [], _∷_}
 use Rattle.plain.specs.declared.Said.{Said}
 use Rattle.judging.specs.Said.{sameSaid}
-use Rattle.cases.specs.Answering.{answerSaid, sameBytes}
+use Rattle.semigroups.specs.Copies.{sameList}
+use Rattle.cases.specs.Answering.{answerSaid}
 use Rattle.judging.specs.Tally.{counted}
 use borrow.Author.Needs.{needs}
 use Rattle.cases.proofs.limits.field.Statement.{statement}
@@ -16,8 +17,8 @@ slice-aggregate-load c = search needs
 load-requires : tie.Need-load-requires
 load-requires c κs = search needs
 
-loaded-said-requires : tie.Need-loaded-said-requires
-loaded-said-requires c κs = search needs
+numbered-said-requires : tie.Need-numbered-said-requires
+numbered-said-requires c κs = search needs
 
 same-said-requires : tie.Need-same-said-requires
 same-said-requires c κs = search needs
@@ -41,9 +42,9 @@ returns : tie.Need-returns
 returns c =
     let loaded = c .before .before .before .before .before .before .before .before in
     let a = loaded .before .before .before .args in
-    let says = c .before .before .before .before .before .before .loaded-said .ensures ∙ ap answerSaid (loaded .load .ensures .0) in
+    let says = c .before .before .before .before .before .before .numbered-said .ensures ∙ ap answerSaid (loaded .load .ensures .0) in
     let one = c .before .before .before .before .counted .ensures ∙ ap (counted (a .tally)) (c .before .before .before .before .before .same-said .ensures ∙ ap (λ (x : Said). sameSaid x (a .said)) says) in
-    let bytes = c .before .same-bytes .ensures ∙ ap (λ (l : List ℕ). sameBytes l (a .cell ∷ 7 ∷ [])) (loaded .load .ensures .1) in
+    let bytes = c .before .same-bytes .ensures ∙ ap (λ (l : List ℕ). sameList l (a .cell ∷ 7 ∷ [])) (loaded .load .ensures .1) in
     c .counted2 .ensures ∙ ap₂ counted one bytes
 
 pub field-spec : {M : Type 1} → statement M
@@ -52,7 +53,7 @@ field-spec =
     (tie.spec
     slice-aggregate-load
     load-requires
-    loaded-said-requires
+    numbered-said-requires
     same-said-requires
     counted-requires
     slice-aggregate-same-bytes

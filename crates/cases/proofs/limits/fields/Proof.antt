@@ -13,7 +13,8 @@ use Rattle.csv.specs.Questions.{breakAt, inBreak, isAllowed, firstOther, bytesR
 use Rattle.csv.specs.Calls.{loadAnswer, cellsAfter}
 use Rattle.plain.specs.declared.Said.{Said}
 use Rattle.judging.specs.Said.{sameSaid}
-use Rattle.cases.specs.Answering.{answerSaid, sameBytes}
+use Rattle.semigroups.specs.Copies.{sameList}
+use Rattle.cases.specs.Answering.{answerSaid}
 use Rattle.judging.specs.Tally.{empty, agreed}
 use Rattle.judging.proofs.Counting.{two-more}
 use borrow.Author.Needs.{needs}
@@ -24,35 +25,35 @@ said : (text : List ℕ) {r s : Said} → r ≡ s → sameSaid (answerSaid (load
 said text e h = ap (sameSaid (answerSaid (loadAnswer text (7 ∷ 7 ∷ [])))) e ∙ h
 
 a-said : sameSaid (answerSaid (loadAnswer (49 ∷ 50 ∷ 48 ∷ 13 ∷ 10 ∷ []) (7 ∷ 7 ∷ []))) (record { number = 0; first = 1; second = 0; third = 0 }) ≡ true
-unfolding sameSaid sameBytes at range all find isElement firstOf isDigit value valueFrom isBreak onto records fields rows fieldsOf orderOf cellsOf breakAt inBreak isAllowed firstOther bytesRefusal fieldRefusal fieldsRefusal isSquare fieldsQuestions loadRefusal loadAnswer cellsAfter orElse flatMap flatten
+unfolding sameSaid sameList at range all find isElement firstOf isDigit value valueFrom isBreak onto records fields rows fieldsOf orderOf cellsOf breakAt inBreak isAllowed firstOther bytesRefusal fieldRefusal fieldsRefusal isSquare fieldsQuestions loadRefusal loadAnswer cellsAfter orElse flatMap flatten
 a-said = refl
 
-a-cell : sameBytes (cellsAfter (49 ∷ 50 ∷ 48 ∷ 13 ∷ 10 ∷ []) (7 ∷ 7 ∷ [])) (120 ∷ 7 ∷ []) ≡ true
-unfolding sameSaid sameBytes at range all find isElement firstOf isDigit value valueFrom isBreak onto records fields rows fieldsOf orderOf cellsOf breakAt inBreak isAllowed firstOther bytesRefusal fieldRefusal fieldsRefusal isSquare fieldsQuestions loadRefusal loadAnswer cellsAfter orElse flatMap flatten
+a-cell : sameList (cellsAfter (49 ∷ 50 ∷ 48 ∷ 13 ∷ 10 ∷ []) (7 ∷ 7 ∷ [])) (120 ∷ 7 ∷ []) ≡ true
+unfolding sameSaid sameList at range all find isElement firstOf isDigit value valueFrom isBreak onto records fields rows fieldsOf orderOf cellsOf breakAt inBreak isAllowed firstOther bytesRefusal fieldRefusal fieldsRefusal isSquare fieldsQuestions loadRefusal loadAnswer cellsAfter orElse flatMap flatten
 a-cell = refl
 
 b-said : sameSaid (answerSaid (loadAnswer (49 ∷ 50 ∷ 49 ∷ 13 ∷ 10 ∷ []) (7 ∷ 7 ∷ []))) (record { number = 25; first = 0; second = 0; third = 0 }) ≡ true
-unfolding sameSaid sameBytes at range all find isElement firstOf isDigit value valueFrom isBreak onto records fields rows fieldsOf orderOf cellsOf breakAt inBreak isAllowed firstOther bytesRefusal fieldRefusal fieldsRefusal isSquare fieldsQuestions loadRefusal loadAnswer cellsAfter orElse flatMap flatten
+unfolding sameSaid sameList at range all find isElement firstOf isDigit value valueFrom isBreak onto records fields rows fieldsOf orderOf cellsOf breakAt inBreak isAllowed firstOther bytesRefusal fieldRefusal fieldsRefusal isSquare fieldsQuestions loadRefusal loadAnswer cellsAfter orElse flatMap flatten
 b-said = refl
 
-b-cell : sameBytes (cellsAfter (49 ∷ 50 ∷ 49 ∷ 13 ∷ 10 ∷ []) (7 ∷ 7 ∷ [])) (7 ∷ 7 ∷ []) ≡ true
-unfolding sameSaid sameBytes at range all find isElement firstOf isDigit value valueFrom isBreak onto records fields rows fieldsOf orderOf cellsOf breakAt inBreak isAllowed firstOther bytesRefusal fieldRefusal fieldsRefusal isSquare fieldsQuestions loadRefusal loadAnswer cellsAfter orElse flatMap flatten
+b-cell : sameList (cellsAfter (49 ∷ 50 ∷ 49 ∷ 13 ∷ 10 ∷ []) (7 ∷ 7 ∷ [])) (7 ∷ 7 ∷ []) ≡ true
+unfolding sameSaid sameList at range all find isElement firstOf isDigit value valueFrom isBreak onto records fields rows fieldsOf orderOf cellsOf breakAt inBreak isAllowed firstOther bytesRefusal fieldRefusal fieldsRefusal isSquare fieldsQuestions loadRefusal loadAnswer cellsAfter orElse flatMap flatten
 b-cell = refl
 
 c-said : sameSaid (answerSaid (loadAnswer (48 ∷ 13 ∷ 10 ∷ []) (7 ∷ 7 ∷ []))) (record { number = 24; first = 0; second = 0; third = 0 }) ≡ true
-unfolding sameSaid sameBytes at range all find isElement firstOf isDigit value valueFrom isBreak onto records fields rows fieldsOf orderOf cellsOf breakAt inBreak isAllowed firstOther bytesRefusal fieldRefusal fieldsRefusal isSquare fieldsQuestions loadRefusal loadAnswer cellsAfter orElse flatMap flatten
+unfolding sameSaid sameList at range all find isElement firstOf isDigit value valueFrom isBreak onto records fields rows fieldsOf orderOf cellsOf breakAt inBreak isAllowed firstOther bytesRefusal fieldRefusal fieldsRefusal isSquare fieldsQuestions loadRefusal loadAnswer cellsAfter orElse flatMap flatten
 c-said = refl
 
-c-cell : sameBytes (cellsAfter (48 ∷ 13 ∷ 10 ∷ []) (7 ∷ 7 ∷ [])) (7 ∷ 7 ∷ []) ≡ true
-unfolding sameSaid sameBytes at range all find isElement firstOf isDigit value valueFrom isBreak onto records fields rows fieldsOf orderOf cellsOf breakAt inBreak isAllowed firstOther bytesRefusal fieldRefusal fieldsRefusal isSquare fieldsQuestions loadRefusal loadAnswer cellsAfter orElse flatMap flatten
+c-cell : sameList (cellsAfter (48 ∷ 13 ∷ 10 ∷ []) (7 ∷ 7 ∷ [])) (7 ∷ 7 ∷ []) ≡ true
+unfolding sameSaid sameList at range all find isElement firstOf isDigit value valueFrom isBreak onto records fields rows fieldsOf orderOf cellsOf breakAt inBreak isAllowed firstOther bytesRefusal fieldRefusal fieldsRefusal isSquare fieldsQuestions loadRefusal loadAnswer cellsAfter orElse flatMap flatten
 c-cell = refl
 
 d-said : sameSaid (answerSaid (loadAnswer (48 ∷ 48 ∷ 48 ∷ 49 ∷ 13 ∷ 10 ∷ []) (7 ∷ 7 ∷ []))) (record { number = 24; first = 0; second = 0; third = 0 }) ≡ true
-unfolding sameSaid sameBytes at range all find isElement firstOf isDigit value valueFrom isBreak onto records fields rows fieldsOf orderOf cellsOf breakAt inBreak isAllowed firstOther bytesRefusal fieldRefusal fieldsRefusal isSquare fieldsQuestions loadRefusal loadAnswer cellsAfter orElse flatMap flatten
+unfolding sameSaid sameList at range all find isElement firstOf isDigit value valueFrom isBreak onto records fields rows fieldsOf orderOf cellsOf breakAt inBreak isAllowed firstOther bytesRefusal fieldRefusal fieldsRefusal isSquare fieldsQuestions loadRefusal loadAnswer cellsAfter orElse flatMap flatten
 d-said = refl
 
-d-cell : sameBytes (cellsAfter (48 ∷ 48 ∷ 48 ∷ 49 ∷ 13 ∷ 10 ∷ []) (7 ∷ 7 ∷ [])) (7 ∷ 7 ∷ []) ≡ true
-unfolding sameSaid sameBytes at range all find isElement firstOf isDigit value valueFrom isBreak onto records fields rows fieldsOf orderOf cellsOf breakAt inBreak isAllowed firstOther bytesRefusal fieldRefusal fieldsRefusal isSquare fieldsQuestions loadRefusal loadAnswer cellsAfter orElse flatMap flatten
+d-cell : sameList (cellsAfter (48 ∷ 48 ∷ 48 ∷ 49 ∷ 13 ∷ 10 ∷ []) (7 ∷ 7 ∷ [])) (7 ∷ 7 ∷ []) ≡ true
+unfolding sameSaid sameList at range all find isElement firstOf isDigit value valueFrom isBreak onto records fields rows fieldsOf orderOf cellsOf breakAt inBreak isAllowed firstOther bytesRefusal fieldRefusal fieldsRefusal isSquare fieldsQuestions loadRefusal loadAnswer cellsAfter orElse flatMap flatten
 d-cell = refl
 
 slice-aggregate-field : tie.Need-slice-aggregate-field

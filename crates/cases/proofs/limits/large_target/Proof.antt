@@ -52,8 +52,8 @@ slice-aggregate-fill c = search needs
 fill-requires : tie.Need-fill-requires
 fill-requires c κs = search needs
 
-transformations-said-requires : tie.Need-transformations-said-requires
-transformations-said-requires c κs = search needs
+numbered-said-requires : tie.Need-numbered-said-requires
+numbered-said-requires c κs = search needs
 
 start-requires : tie.Need-start-requires
 start-requires c κs = search needs
@@ -81,7 +81,7 @@ walk-requires c κs =
 returns : tie.Need-returns
 returns c =
     let filling = c .before .before .before .before .before .before .before .before .before in
-    let says = c .before .before .before .before .before .before .before .transformations-said .ensures ∙ ap answerSaid (filling .fill .ensures .0) in
+    let says = c .before .before .before .before .before .before .before .numbered-said .ensures ∙ ap answerSaid (filling .fill .ensures .0) in
     let same = c .before .before .before .before .same-said .ensures ∙ ap (λ (x : Said). sameSaid x (c .before .before .before .before .before .failed .result)) says ∙ ap (sameSaid (answerSaid (transformationSays 3 729))) (c .before .before .before .before .before .failed .ensures) ∙ order-said in
     let one = c .before .before .before .counted .ensures ∙ ap (λ (t : Tally). counted t (c .before .before .before .before .same-said .result)) (c .before .before .before .before .before .before .start .ensures) ∙ ap (counted empty) same in
     c .walk .ensures ∙ ap (λ (l : List ℕ). agreed (walkCalls false mat5Cells 5 l 27 (replicate 5 0)) (c .before .before .before .counted .result)) (filling .fill .ensures .1 ∙ filled)
@@ -93,7 +93,7 @@ large-target-spec =
     (tie.spec
     slice-aggregate-fill
     fill-requires
-    transformations-said-requires
+    numbered-said-requires
     start-requires
     failed-requires
     same-said-requires

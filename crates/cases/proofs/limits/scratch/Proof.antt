@@ -11,7 +11,7 @@ use Rattle.semigroups.specs.Invariants.{power, periodFrom, index, period, index
 use Rattle.semigroups.specs.Candidates.{candidate}
 use Rattle.semigroups.specs.Maps.{isHomomorphism, isEmbedding, maps, earliest}
 use Rattle.search.specs.Calls.{call}
-use Rattle.cases.specs.Answering.{sameBytes}
+use Rattle.semigroups.specs.Copies.{sameList}
 use Rattle.cases.specs.Embedded.{embeddedTally}
 use Rattle.judging.specs.Tally.{empty, agreed}
 use borrow.Author.Needs.{needs}
@@ -19,7 +19,7 @@ use Rattle.cases.proofs.limits.scratch.Statement.{statement}
 use Rattle.cases.proofs.limits.scratch.Tie as tie
 
 both : embeddedTally 1 100 (2 ∷ 3 ∷ []) (75 ∷ 255 ∷ 255 ∷ []) (embeddedTally 0 6 (0 ∷ 0 ∷ []) (255 ∷ 255 ∷ 255 ∷ []) empty) ≡ agreed 6 empty
-unfolding agreed range elements at find keep all member distinct sum count least lists packedByte pairMarks marks product grid isElement associates badCell badTriple firstOf cellsRefusal tableRefusal tablesRefusal checkRefusal searchRefusal scratchSize scratchAfter power periodFrom index period indexPeriod sameIndexPeriod candidate isHomomorphism isEmbedding maps earliest call sameBytes orElse flatMap
+unfolding agreed range elements at find keep all member distinct sum count least lists packedByte pairMarks marks product grid isElement associates badCell badTriple firstOf cellsRefusal tableRefusal tablesRefusal checkRefusal searchRefusal scratchSize scratchAfter power periodFrom index period indexPeriod sameIndexPeriod candidate isHomomorphism isEmbedding maps earliest call sameList orElse flatMap
 both = refl
 
 start-requires : tie.Need-start-requires

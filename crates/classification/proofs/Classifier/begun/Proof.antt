@@ -4,8 +4,10 @@ use native.Mathlib.Omega.{arith}
 use denote.Ref.{now}
 use Rattle.semigroups.specs.Calls.{gives}
 use Rattle.files.specs.Files.{fileAnswer}
-use Rattle.files.specs.Answers.{verdictAnswer, numberOf}
+use Rattle.tables.specs.Answers.{numberedSays}
+use Rattle.files.specs.Answers.{numberOf}
 use Rattle.files.proofs.Files.{Holds, not-accepted, holds}
+use Rattle.files.proofs.Numbers.{failed-small}
 use Rattle.classification.proofs.Steps.{begun-refused, begun-accepted}
 use borrow.Author.Needs.{needs}
 use Rattle.classification.proofs.Classifier.begun.Statement.{statement}
@@ -20,7 +22,7 @@ module _ (c : tie.After-verdict) where
   start-of = loaded .before .before .before .before
 
   file-given : fileAnswer (now (start-of .args .text)) (now (start-of .args .cells)) ≡ gives (c .verdict .given .0 .0)
-  file-given = sym (loaded .load-then-check .ensures .0) ∙ ap verdictAnswer (c .verdict .given .1)
+  file-given = sym (loaded .load-then-check .ensures .0) ∙ ap numberedSays (c .verdict .given .1)
 
   file-holds : Holds (now (start-of .args .text)) (loaded .load-then-check .last .1 .0) (c .verdict .given .0 .0)
   file-holds = holds _ _ _ file-given (loaded .load-then-check .ensures .1) (loaded .load-then-check .kept .1 .0)
@@ -31,23 +33,30 @@ load-then-check-requires c κs = search needs
 enum-known-verdict : tie.Need-enum-known-verdict
 enum-known-verdict c = search needs
 
+enum-told : tie.Need-enum-told
+enum-told c = search needs
+
 failed-question-requires : tie.Need-failed-question-requires
 failed-question-requires c κs = search needs
 
 noted-requires : tie.Need-noted-requires
-noted-requires c κs = search needs
+noted-requires c κs =
+    let loaded = c .before .before .before .before .before in
+    let z = loaded .before .before .before .before in
+    let small = failed-small _ _ (loaded .load-then-check .result) (loaded .load-then-check .ensures .0) (c .failed-question .ensures) in
+    (z .pre .0, omega arith, omega arith)
 
 same-length : tie.Need-same-length
 same-length c = search needs
 
 returns : tie.Need-returns
 returns c =
-    let m = c .before .before in
+    let m = c .before .before .before in
     let loaded = m .before .before .before in
     let z = loaded .before .before .before .before in
     let no = not-accepted (loaded .load-then-check .result) (m .match .keys2) in (
       c .noted .ensures _
-          ∙ begun-refused _ _ (z .pre .1) _ (no .by) (sym (loaded .load-then-check .ensures .0) ∙ no .says) _ (c .before .failed-question .ensures .0 ∙ ap numberOf (no .says)),
+          ∙ begun-refused _ _ (z .pre .1) _ (no .by) (sym (loaded .load-then-check .ensures .0) ∙ no .says) _ (c .before .failed-question .ensures ∙ ap numberOf (no .says)),
       loaded .load-then-check .ensures .1,
     )
 
@@ -72,6 +81,7 @@ begun-spec =
     (tie.spec
     load-then-check-requires
     enum-known-verdict
+    enum-told
     failed-question-requires
     noted-requires
     same-length

@@ -3,7 +3,7 @@ use mathlib.Core.Path.{sym, ap, _∙_}
 use borrow.Author.Needs.{needs}
 use Rattle.tables.specs.Answers.{verdictRefusal}
 use Rattle.tables.specs.declared.Verdict.{Verdict}
-use Rattle.plain.specs.Said.{saidOf}
+use Rattle.plain.specs.Said.{refusalSaid, saidOf}
 use Rattle.plain.specs.declared.Said.{Said}
 use Rattle.judging.proofs.said.said_of.Statement.{statement}
 use Rattle.judging.proofs.said.said_of.Tie as tie
@@ -17,14 +17,19 @@ failed-requires c κs = search needs
 enum-known-verdict : tie.Need-enum-known-verdict
 enum-known-verdict c = search needs
 
-said-of-fault-requires : tie.Need-said-of-fault-requires
-said-of-fault-requires c κs = search needs
+no-requires : tie.Need-no-requires
+no-requires c κs = search needs
+
+said-of-no-requires : tie.Need-said-of-no-requires
+said-of-no-requires c κs = search needs
 
 returns : tie.Need-returns
 returns c = c .failed .ensures ∙ sym (ap {B = Said} (λ (v : Verdict). saidOf (verdictRefusal v)) (c .before .enum-told .given .1))
 
 returns-2 : tie.Need-returns-2
-returns-2 c = c .said-of-fault .ensures ∙ sym (ap {B = Said} (λ (v : Verdict). saidOf (verdictRefusal v)) (c .before .before .verdict .given .1))
+returns-2 c =
+    c .said-of-no .ensures ∙ ap {B = Said} refusalSaid (c .before .no .ensures)
+    ∙ sym (ap {B = Said} (λ (v : Verdict). saidOf (verdictRefusal v)) (c .before .before .before .verdict .given .1))
 
 pub said-of-spec : {M : Type 1} → statement M
 said-of-spec =
@@ -33,6 +38,7 @@ said-of-spec =
     enum-told
     failed-requires
     enum-known-verdict
-    said-of-fault-requires
+    no-requires
+    said-of-no-requires
     returns
     returns-2)
