@@ -101,6 +101,16 @@ static void embeddings(void)
     EXPECT(said.outcome == TICKDRIZZLE_FOUND && said.trials == 4);
     said = tickdrizzle_table_first_embedding_within(swap, all, map, 2, scratch, sizeof scratch, 3);
     EXPECT(said.outcome == TICKDRIZZLE_STOPPED && said.trials == 0);
+    /* 1 may go to 2 alone, and 2 to anything; then 1 to 1 alone. */
+    const uint8_t fits[] = {0xF2}, misfits[] = {0xF1};
+    said = tickdrizzle_table_first_embedding_among(swap, all, fits, 1, map, 2, scratch, sizeof scratch);
+    EXPECT(said.outcome == TICKDRIZZLE_FOUND && same(map, "\2\3", 2) && scratch[0] == 0x42);
+    said = tickdrizzle_table_next_embedding_among(swap, all, fits, 1, map, 2, scratch, sizeof scratch);
+    EXPECT(said.outcome == TICKDRIZZLE_NONE && same(map, "\2\3", 2));
+    said = tickdrizzle_table_first_embedding_among(swap, all, misfits, 1, map, 2, scratch, sizeof scratch);
+    EXPECT(said.outcome == TICKDRIZZLE_NONE && scratch[0] == 0x41);
+    said = tickdrizzle_table_first_embedding_among(swap, all, fits, 0, map, 2, scratch, sizeof scratch);
+    EXPECT(said.refusal.question == TICKDRIZZLE_NO_PAIRS_LENGTH);
     said = tickdrizzle_table_first_embedding(swap, none, map, 2, scratch, sizeof scratch);
     EXPECT(said.refusal.question == TICKDRIZZLE_NO_ORDER && said.refusal.side == TICKDRIZZLE_TARGET);
 }

@@ -78,6 +78,8 @@ extern "C" {
     QUESTION(TICKDRIZZLE_NO_CHOSEN, 60, "is the list not empty and every entry 1 to n?") \
     QUESTION(TICKDRIZZLE_NO_PART_ROOM, 61, "has the buffer room for the cells of the part?") \
     QUESTION(TICKDRIZZLE_NO_ELEMENTS_ROOM, 62, "has the buffer room for the elements of the part?") \
+    QUESTION(TICKDRIZZLE_NO_PAIRS_LENGTH, 70, \
+             "have the pairs at least a bit for each pair, source order * target order / 8 bytes rounded up?") \
     QUESTION(TICKDRIZZLE_NO_POSITION_ROOM, 80, "has the buffer room for three positions of each element?")
 
 #define TICKDRIZZLE_ENUMERATOR(name, number, text) name = number,
@@ -248,6 +250,31 @@ void tickdrizzle_first_reversed_isomorphism_within(const uint8_t *source, size_t
                                                    uint8_t *TICKDRIZZLE_RESTRICT map, size_t map_length,
                                                    uint8_t *TICKDRIZZLE_RESTRICT scratch, size_t scratch_length, uint32_t limit,
                                                    uint64_t *TICKDRIZZLE_RESTRICT answer);
+
+/*
+ * The searches for embeddings among given pairs. pairs is laid out as scratch is: with k = (i - 1) * target order + (j - 1),
+ * pairs[k / 8] >> k % 8 & 1 is 1 where source element i may go to target element j. An embedding is allowed if that holds for each
+ * element and its image. They say TICKDRIZZLE_FOUND or TICKDRIZZLE_NONE. After both, scratch has a 1 exactly where it has one after
+ * tickdrizzle_first_embedding and pairs has one. Unused bits and later bytes of pairs are not looked at, and pairs is not written.
+ * With all pairs marked, the two say and leave what tickdrizzle_first_embedding and tickdrizzle_next_embedding do.
+ */
+
+/* The earliest embedding that the pairs allow (questions 1 to 4 of the source, of the target, 5, 6, 70).
+   Writes map (only where found) and scratch. */
+void tickdrizzle_first_embedding_among(const uint8_t *source, size_t source_length, size_t source_order, const uint8_t *target,
+                                       size_t target_length, size_t target_order, const uint8_t *pairs, size_t pairs_length,
+                                       uint8_t *TICKDRIZZLE_RESTRICT map, size_t map_length,
+                                       uint8_t *TICKDRIZZLE_RESTRICT scratch, size_t scratch_length,
+                                       uint64_t *TICKDRIZZLE_RESTRICT answer);
+
+/* The earliest embedding that the pairs allow and that is later than the bytes in map, whatever they are
+   (questions 1 to 4 of the source, of the target, 5, 6, 70).
+   Writes map (only where found) and scratch. */
+void tickdrizzle_next_embedding_among(const uint8_t *source, size_t source_length, size_t source_order, const uint8_t *target,
+                                      size_t target_length, size_t target_order, const uint8_t *pairs, size_t pairs_length,
+                                      uint8_t *TICKDRIZZLE_RESTRICT map, size_t map_length,
+                                      uint8_t *TICKDRIZZLE_RESTRICT scratch, size_t scratch_length,
+                                      uint64_t *TICKDRIZZLE_RESTRICT answer);
 
 /* The fewest rest positions: the least degree d from 1 to 3 whose table of transformations holds an embedding of the table, and for each
    element in turn the d positions, each 1 to d, where its image under the first embedding takes the points 1 to d. As transformations
@@ -480,6 +507,21 @@ TICKDRIZZLE_LIMITED_SEARCH(first_embedding_within)
 TICKDRIZZLE_LIMITED_SEARCH(first_isomorphism_within)
 TICKDRIZZLE_LIMITED_SEARCH(first_reversed_isomorphism_within)
 #undef TICKDRIZZLE_LIMITED_SEARCH
+
+/* tickdrizzle_table_first_embedding_among(source, target, pairs, pairs_length, map, map_length, scratch, scratch_length), and so on. */
+#define TICKDRIZZLE_SEARCH_AMONG(name) \
+    static inline struct tickdrizzle_search_answer tickdrizzle_table_##name( \
+        struct tickdrizzle_table source, struct tickdrizzle_table target, const uint8_t *pairs, size_t pairs_length, uint8_t *map, \
+        size_t map_length, uint8_t *scratch, size_t scratch_length) \
+    { \
+        uint64_t answer[TICKDRIZZLE_ANSWERS]; \
+        tickdrizzle_##name(source.cells, source.length, source.order, target.cells, target.length, target.order, pairs, pairs_length, map, \
+                           map_length, scratch, scratch_length, answer); \
+        return tickdrizzle_search_of(answer); \
+    }
+TICKDRIZZLE_SEARCH_AMONG(first_embedding_among)
+TICKDRIZZLE_SEARCH_AMONG(next_embedding_among)
+#undef TICKDRIZZLE_SEARCH_AMONG
 
 static inline struct tickdrizzle_size_answer tickdrizzle_table_transformations(size_t degree, uint8_t *cells, size_t cells_length)
 {

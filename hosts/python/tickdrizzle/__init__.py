@@ -29,7 +29,7 @@ import operator
 import os
 from dataclasses import dataclass
 from pathlib import Path
-from typing import TYPE_CHECKING, Any, Iterable, Iterator, NamedTuple, Sequence, SupportsIndex, Union, overload
+from typing import TYPE_CHECKING, Any, Callable, Iterable, Iterator, NamedTuple, Sequence, SupportsIndex, Union, overload
 
 if TYPE_CHECKING:
     import numpy
@@ -130,6 +130,11 @@ class Question(enum.IntEnum):
     CHOSEN = 60, "is the list not empty and every entry 1 to n?", "the list is empty, or an entry is no element of the table"
     PART_ROOM = 61, "has the buffer room for the cells of the part?", "the buffer has no room for the cells of the part"
     ELEMENTS_ROOM = 62, "has the buffer room for the elements of the part?", "the buffer has no room for the elements of the part"
+    PAIRS_LENGTH = (
+        70,
+        "have the pairs at least a bit for each pair, source order * target order / 8 bytes rounded up?",
+        "the pairs have no bit for each pair of elements",
+    )
     POSITION_ROOM = 80, "has the buffer room for three positions of each element?", "the buffer has no room for three positions of each element"
 
 
@@ -203,6 +208,8 @@ _CALLS = {
     "first_embedding_within": _SEARCH + "l",
     "first_isomorphism_within": _SEARCH + "l",
     "first_reversed_isomorphism_within": _SEARCH + "l",
+    "first_embedding_among": "rnrnrww",
+    "next_embedding_among": "rnrnrww",
     "least_degree": "rnw",
     "load_names": "rww",
     "save_names": "rrw",
@@ -587,6 +594,20 @@ class Table:
         """Every embedding of this table in the target, earliest first."""
         return self._maps(target, "embedding")
 
+    def embeddings_among(self, target: Table, allowed: Callable[[int, int], bool]) -> Iterator[tuple[int, ...]]:
+        """Every embedding of this table in the target for which `allowed` holds of each element and its image, earliest first.
+
+        >>> left = Table([[1, 1], [2, 2]])
+        >>> list(left.embeddings_among(left, lambda i, j: i != 1 or j == 2))
+        [(2, 1)]
+        """
+        pairs = bytearray(scratch_size(self._order, target._order))
+        for i in range(self._order):
+            for j in range(target._order):
+                place, bit = divmod(i * target._order + j, 8)
+                pairs[place] |= bool(allowed(i + 1, j + 1)) << bit
+        return self._maps(target, "embedding", bytes(pairs))
+
     def isomorphisms(self, target: Table) -> Iterator[tuple[int, ...]]:
         """Every isomorphism of this table onto the target, earliest first.
 
@@ -631,11 +652,12 @@ class Table:
     def _scratch(self, target: Table) -> bytearray:
         return bytearray(scratch_size(self._order, target._order))
 
-    def _maps(self, target: Table, kind: str) -> Iterator[tuple[int, ...]]:
-        images, search = bytearray(self._order), f"first_{kind}"
-        while _asked(search, *self._lent(target), images, self._scratch(target))[0] == Outcome.FOUND:
+    def _maps(self, target: Table, kind: str, *pairs: bytes) -> Iterator[tuple[int, ...]]:
+        """All maps of a kind; with pairs, among them."""
+        images, search, among = bytearray(self._order), "first", "_among" * len(pairs)
+        while _asked(f"{search}_{kind}{among}", *self._lent(target), *pairs, images, self._scratch(target))[0] == Outcome.FOUND:
             yield tuple(images)
-            search = f"next_{kind}"
+            search = "next"
 
     def _within(self, target: Table, kind: str, limit: SupportsIndex) -> LimitedSearch:
         images = bytearray(self._order)

@@ -60,6 +60,8 @@ calls! {
     first_embedding_within(source: &[u8], source_order: usize, target: &[u8], target_order: usize, map: &mut [u8], scratch: &mut [u8], limit: u32);
     first_isomorphism_within(source: &[u8], source_order: usize, target: &[u8], target_order: usize, map: &mut [u8], scratch: &mut [u8], limit: u32);
     first_reversed_isomorphism_within(source: &[u8], source_order: usize, target: &[u8], target_order: usize, map: &mut [u8], scratch: &mut [u8], limit: u32);
+    first_embedding_among(source: &[u8], source_order: usize, target: &[u8], target_order: usize, pairs: &[u8], map: &mut [u8], scratch: &mut [u8]);
+    next_embedding_among(source: &[u8], source_order: usize, target: &[u8], target_order: usize, pairs: &[u8], map: &mut [u8], scratch: &mut [u8]);
     least_degree(cells: &[u8], order: usize, positions: &mut [u8]);
     load_names(text: &[u8], names: &mut [u8], lengths: &mut [u8]);
     save_names(names: &[u8], lengths: &[u8], text: &mut [u8]);

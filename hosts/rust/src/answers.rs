@@ -91,6 +91,8 @@ pub enum Question {
     PartRoom,
     /// 62: has the buffer room for the elements of the part?
     ElementsRoom,
+    /// 70: have the pairs at least a bit for each pair, source order × target order / 8 bytes rounded up?
+    PairsLength,
     /// 80: has the buffer room for three positions of each element?
     PositionRoom,
 }
@@ -125,6 +127,7 @@ impl Question {
             Question::Chosen => 60,
             Question::PartRoom => 61,
             Question::ElementsRoom => 62,
+            Question::PairsLength => 70,
             Question::PositionRoom => 80,
         }
     }
@@ -156,6 +159,7 @@ impl Question {
             60 => Question::Chosen,
             61 => Question::PartRoom,
             62 => Question::ElementsRoom,
+            70 => Question::PairsLength,
             80 => Question::PositionRoom,
             other => panic!("no question has the number {other}"),
         }
@@ -229,6 +233,7 @@ impl fmt::Display for Question {
             Question::Chosen => write!(formatter, "the list is empty, or an entry is no element of the table"),
             Question::PartRoom => write!(formatter, "the buffer has no room for the cells of the part"),
             Question::ElementsRoom => write!(formatter, "the buffer has no room for the elements of the part"),
+            Question::PairsLength => write!(formatter, "the pairs have no bit for each pair of elements"),
             Question::PositionRoom => write!(formatter, "the buffer has no room for three positions of each element"),
         }
     }

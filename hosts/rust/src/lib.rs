@@ -193,6 +193,42 @@ searches! {
     next_reversed_isomorphism;
 }
 
+/// The searches for embeddings among given pairs.
+macro_rules! searches_among {
+    ($($(#[$says:meta])* $name:ident;)*) => {$(
+        $(#[$says])*
+        ///
+        /// `pairs` has a bit for each pair, laid out as those of `scratch` are after [`first_embedding`]: 1 where source element i
+        /// may go to target element j. An embedding is allowed if that holds for each element and its image. Unused bits and
+        /// later bytes are not looked at. After found and none, `scratch` has a 1 exactly where it has one after
+        /// [`first_embedding`] and `pairs` has one.
+        ///
+        /// # Errors
+        /// The earliest of the questions 1 to 4 of the source, of the target, 5, 6 and 70 that fails.
+        pub fn $name(
+            source: &[u8],
+            source_order: usize,
+            target: &[u8],
+            target_order: usize,
+            pairs: &[u8],
+            map: &mut [u8],
+            scratch: &mut [u8],
+        ) -> Result<Search, Refusal> {
+            answered(
+                |answer| abi::$name(source, source_order, target, target_order, pairs, map, scratch, answer),
+                Search::decode,
+            )
+        }
+    )*};
+}
+
+searches_among! {
+    /// The earliest embedding of the source in the target that the pairs allow.
+    first_embedding_among;
+    /// The earliest embedding that the pairs allow and that is later than the bytes in `map`, whatever they are.
+    next_embedding_among;
+}
+
 /// The searches with a limit, which differ in the map they are after.
 macro_rules! limited_searches {
     ($($(#[$says:meta])* $name:ident;)*) => {$(

@@ -1,11 +1,11 @@
 //! A table that is checked once, what is asked of it, and the walks through its maps.
 
 use crate::{
-    check_generated, check_map, check_table, copies, first_embedding, first_embedding_within, first_isomorphism,
-    first_isomorphism_within, first_reversed_isomorphism, first_reversed_isomorphism_within, index_period,
-    least_degree, load, next_embedding, next_isomorphism, next_reversed_isomorphism, profile, save, scratch_size,
-    subsemigroup, transformations, Copies, IndexPeriod, LimitedSearch, MapCheck, Profile, Refusal, Search,
-    GREATEST_DEGREE, GREATEST_ORDER, LONGEST_TEXT, MOST_CELLS,
+    check_generated, check_map, check_table, copies, first_embedding, first_embedding_among, first_embedding_within,
+    first_isomorphism, first_isomorphism_within, first_reversed_isomorphism, first_reversed_isomorphism_within,
+    index_period, least_degree, load, next_embedding, next_embedding_among, next_isomorphism,
+    next_reversed_isomorphism, profile, save, scratch_size, subsemigroup, transformations, Copies, IndexPeriod,
+    LimitedSearch, MapCheck, Profile, Refusal, Search, GREATEST_DEGREE, GREATEST_ORDER, LONGEST_TEXT, MOST_CELLS,
 };
 
 /// The cells and the order of an accepted table.
@@ -171,18 +171,41 @@ impl Table {
 
     /// Every embedding of this table in the target, earliest first.
     pub fn embeddings<'a>(&'a self, target: &'a Table) -> Maps<'a> {
-        Maps::new(self, target, first_embedding, next_embedding)
+        Maps::new(self, target, Searches::All([first_embedding, next_embedding]))
+    }
+
+    /// Every embedding of this table in the target for which `allowed` holds of each element and its image, earliest first.
+    ///
+    /// ```
+    /// let left = tickdrizzle::Table::new(vec![1, 1, 2, 2], 2)?;
+    /// assert_eq!(left.embeddings(&left).collect::<Vec<_>>(), [[1, 2], [2, 1]]);
+    /// assert_eq!(left.embeddings_among(&left, |i, j| i != 1 || j == 2).collect::<Vec<_>>(), [[2, 1]]);
+    /// # Ok::<(), tickdrizzle::Refusal>(())
+    /// ```
+    pub fn embeddings_among<'a>(
+        &'a self,
+        target: &'a Table,
+        mut allowed: impl FnMut(usize, usize) -> bool,
+    ) -> Maps<'a> {
+        let mut pairs = vec![0; scratch_size(self.order, target.order)];
+        for i in 1..=self.order {
+            for j in 1..=target.order {
+                let k = (i - 1) * target.order + (j - 1);
+                pairs[k / 8] |= u8::from(allowed(i, j)) << (k % 8);
+            }
+        }
+        Maps::new(self, target, Searches::Among([first_embedding_among, next_embedding_among], pairs))
     }
 
     /// Every isomorphism of this table onto the target, earliest first.
     pub fn isomorphisms<'a>(&'a self, target: &'a Table) -> Maps<'a> {
-        Maps::new(self, target, first_isomorphism, next_isomorphism)
+        Maps::new(self, target, Searches::All([first_isomorphism, next_isomorphism]))
     }
 
     /// Every reversed isomorphism of this table onto the target, earliest first: one to one, onto, and the image of i·j is the
     /// image of j times the image of i.
     pub fn reversed_isomorphisms<'a>(&'a self, target: &'a Table) -> Maps<'a> {
-        Maps::new(self, target, first_reversed_isomorphism, next_reversed_isomorphism)
+        Maps::new(self, target, Searches::All([first_reversed_isomorphism, next_reversed_isomorphism]))
     }
 
     /// The earliest embedding of this table in the target within so many trials: what the search says, and the map where it
@@ -221,23 +244,38 @@ type LimitedSearching = fn(&[u8], usize, &[u8], usize, &mut [u8], &mut [u8], u32
 
 type Searching = fn(&[u8], usize, &[u8], usize, &mut [u8], &mut [u8]) -> Result<Search, Refusal>;
 
+type SearchingAmong = fn(&[u8], usize, &[u8], usize, &[u8], &mut [u8], &mut [u8]) -> Result<Search, Refusal>;
+
+/// The search for the map that comes now, and the one for those behind it.
+#[derive(Clone, Debug)]
+enum Searches {
+    All([Searching; 2]),
+    Among([SearchingAmong; 2], Vec<u8>),
+}
+
+/// The search that comes now; from then on the other.
+fn step<T: Copy>(searches: &mut [T; 2]) -> T {
+    let now = searches[0];
+    searches[0] = searches[1];
+    now
+}
+
 /// A walk through all maps of one kind between two tables, earliest first. Each map has one byte for each source element.
 #[derive(Clone, Debug)]
 #[must_use = "a walk does nothing until it is asked for its maps"]
 pub struct Maps<'a> {
     source: &'a Table,
     target: &'a Table,
-    /// The search for the map that comes now, and the one for those behind it.
-    searches: [Searching; 2],
+    searches: Searches,
     map: Vec<u8>,
     scratch: Vec<u8>,
     ended: bool,
 }
 
 impl<'a> Maps<'a> {
-    fn new(source: &'a Table, target: &'a Table, first: Searching, next: Searching) -> Maps<'a> {
+    fn new(source: &'a Table, target: &'a Table, searches: Searches) -> Maps<'a> {
         let scratch = vec![0; scratch_size(source.order, target.order)];
-        Maps { source, target, searches: [first, next], map: vec![0; source.order], scratch, ended: false }
+        Maps { source, target, searches, map: vec![0; source.order], scratch, ended: false }
     }
 }
 
@@ -248,11 +286,16 @@ impl Iterator for Maps<'_> {
         if self.ended {
             return None;
         }
-        let [now, then] = self.searches;
-        self.searches = [then, then];
-        let (source, target) = (self.source, self.target);
-        let search = now(&source.cells, source.order, &target.cells, target.order, &mut self.map, &mut self.scratch);
-        self.ended = search.expect(ACCEPTED) == Search::None;
+        let Maps { source, target, map, scratch, .. } = self;
+        let said = match &mut self.searches {
+            Searches::All(searches) => {
+                step(searches)(&source.cells, source.order, &target.cells, target.order, map, scratch)
+            }
+            Searches::Among(searches, pairs) => {
+                step(searches)(&source.cells, source.order, &target.cells, target.order, pairs, map, scratch)
+            }
+        };
+        self.ended = said.expect(ACCEPTED) == Search::None;
         (!self.ended).then(|| self.map.clone())
     }
 }

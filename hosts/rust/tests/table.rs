@@ -54,6 +54,8 @@ fn maps_are_checked_and_found() {
     assert_eq!(swap().check_map(&all, &[2, 2]), Ok(MapCheck::EqualImages { i: 1, j: 2 }));
     assert_eq!(question(swap().check_map(&all, &[2])), Question::MapLength);
     assert_eq!(swap().embeddings(&all).collect::<Vec<_>>(), [[2, 3]]);
+    assert_eq!(swap().embeddings_among(&all, |i, j| i != 1 || j == 2).collect::<Vec<_>>(), [[2, 3]]);
+    assert_eq!(swap().embeddings_among(&all, |i, j| i != 1 || j == 1).count(), 0);
     assert_eq!(left().isomorphisms(&left()).collect::<Vec<_>>(), [[1, 2], [2, 1]]);
     assert_eq!(left().isomorphisms(&right()).count(), 0);
     assert_eq!(left().reversed_isomorphisms(&right()).collect::<Vec<_>>(), [[1, 2], [2, 1]]);

@@ -72,6 +72,7 @@ pub enum Call {
     Subsemigroup { table: LentTable, chosen: Lent, part: Lent, elements: Lent },
     Search { kind: Kind, ask: Ask, source: LentTable, target: LentTable, map: Lent, scratch: Lent },
     LimitedSearch { kind: Kind, source: LentTable, target: LentTable, map: Lent, scratch: Lent, limit: u32 },
+    SearchAmong { ask: Ask, source: LentTable, target: LentTable, pairs: Lent, map: Lent, scratch: Lent },
     Transformations { degree: usize, cells: Lent },
     Load { text: Lent, cells: Lent },
     Save { table: LentTable, text: Lent },
@@ -82,7 +83,7 @@ pub enum Call {
 }
 
 /// The functions' names, in the order of the header.
-pub const FUNCTIONS: [&str; 22] = [
+pub const FUNCTIONS: [&str; 24] = [
     "check_table",
     "index_period",
     "profile",
@@ -98,6 +99,8 @@ pub const FUNCTIONS: [&str; 22] = [
     "first_embedding_within",
     "first_isomorphism_within",
     "first_reversed_isomorphism_within",
+    "first_embedding_among",
+    "next_embedding_among",
     "transformations",
     "load",
     "save",
@@ -140,6 +143,9 @@ impl Call {
             Call::LimitedSearch { source, target, map, scratch, limit, .. } => {
                 tables(source, target).chain([Written(map), Written(scratch), Number(*limit as usize)]).collect()
             }
+            Call::SearchAmong { source, target, pairs, map, scratch, .. } => {
+                tables(source, target).chain([Read(pairs), Written(map), Written(scratch)]).collect()
+            }
             Call::Transformations { degree, cells } => vec![Number(*degree), Written(cells)],
             Call::Load { text, cells } => vec![Read(text), Written(cells)],
             Call::Save { table: lent, text } => table(lent).into_iter().chain([Written(text)]).collect(),
@@ -169,6 +175,8 @@ impl Call {
             Call::LimitedSearch { kind: Kind::Embedding, .. } => "first_embedding_within",
             Call::LimitedSearch { kind: Kind::Isomorphism, .. } => "first_isomorphism_within",
             Call::LimitedSearch { kind: Kind::Reversed, .. } => "first_reversed_isomorphism_within",
+            Call::SearchAmong { ask: Ask::First, .. } => "first_embedding_among",
+            Call::SearchAmong { ask: Ask::Next, .. } => "next_embedding_among",
             Call::Transformations { .. } => "transformations",
             Call::Load { .. } => "load",
             Call::Save { .. } => "save",
@@ -215,6 +223,13 @@ impl Call {
                     Kind::Reversed => abi::first_reversed_isomorphism_within,
                 };
                 search(&source.cells, source.order, &target.cells, target.order, map, scratch, *limit, &mut answer);
+            }
+            Call::SearchAmong { ask, source, target, pairs, map, scratch } => {
+                let search = match ask {
+                    Ask::First => abi::first_embedding_among,
+                    Ask::Next => abi::next_embedding_among,
+                };
+                search(&source.cells, source.order, &target.cells, target.order, pairs, map, scratch, &mut answer);
             }
             Call::Transformations { degree, cells } => abi::transformations(*degree, cells, &mut answer),
             Call::Load { text, cells } => abi::load(text, cells, &mut answer),
@@ -277,6 +292,14 @@ impl Call {
                 let answer = search(&source.cells, source.order, &target.cells, target.order, map, scratch, *limit);
                 encoded(answer, limited_values)
             }
+            Call::SearchAmong { ask, source, target, pairs, map, scratch } => {
+                let search = match ask {
+                    Ask::First => tickdrizzle::first_embedding_among,
+                    Ask::Next => tickdrizzle::next_embedding_among,
+                };
+                let answer = search(&source.cells, source.order, &target.cells, target.order, pairs, map, scratch);
+                encoded(answer, |answer| vec![usize::from(answer == Search::Found)])
+            }
             Call::Transformations { degree, cells } => {
                 encoded(tickdrizzle::transformations(*degree, cells), |order| vec![order])
             }
@@ -324,6 +347,9 @@ impl Call {
             }
             Call::LimitedSearch { kind, source, target, map, scratch, limit } => {
                 reference::limited_search(*kind, source.parts(), target.parts(), map, scratch, *limit)
+            }
+            Call::SearchAmong { ask, source, target, pairs, map, scratch } => {
+                reference::search_among(*ask, source.parts(), target.parts(), pairs, map, scratch)
             }
             Call::Transformations { degree, cells } => reference::transformations(*degree, cells),
             Call::Load { text, cells } => reference::load(text, cells),

@@ -139,6 +139,27 @@ pub fn map(random: &mut Random, source_order: usize, target_order: usize) -> Len
 }
 
 /// The elements of a table in any order; for no elements a 0.
+/// Pairs for two orders, of a length around the one that is asked for: all marked, any, all but a few, or some elements with one
+/// image each; the unused bits are random.
+pub fn pairs(random: &mut Random, source_order: usize, target_order: usize) -> Lent {
+    let (m, n) = (source_order.clamp(1, 120), target_order.clamp(1, 120));
+    let size = length(random, (m * n).div_ceil(8));
+    let mut pairs = Lent::random(random, size);
+    let how = random.below(4);
+    let pinned: Vec<Option<usize>> = (0..m).map(|_| random.one_in(3).then(|| random.below(n))).collect();
+    for k in (0..m * n).take_while(|k| k / 8 < size) {
+        let marked = match how {
+            0 => true,
+            1 => random.one_in(2),
+            2 => !random.one_in(8),
+            _ => pinned[k / n].is_none_or(|image| image == k % n),
+        };
+        let bit = 1 << (k % 8);
+        pairs[k / 8] = if marked { pairs[k / 8] | bit } else { pairs[k / 8] & !bit };
+    }
+    pairs
+}
+
 fn permutation(random: &mut Random, order: usize) -> Vec<u8> {
     let mut elements: Vec<u8> = (1..=order.max(1) as u8).collect();
     random.shuffle(&mut elements);

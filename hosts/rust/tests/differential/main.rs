@@ -122,6 +122,7 @@ impl Comparison {
             self.least_degrees(source, SMALL);
             for target in &accepted {
                 self.small_maps(source, target);
+                self.small_among(source, target);
                 self.around_trials(source, target, SMALL);
                 let length = scratch_size(source.order, target.order);
                 self.copies(source, target, length, SMALL);
@@ -196,6 +197,34 @@ impl Comparison {
         }
     }
 
+    /// The first embedding among pairs of each kind, and the one after a list.
+    fn small_among(&mut self, source: &LentTable, target: &LentTable) {
+        for ask in [Ask::First, Ask::Next] {
+            let map = inputs::map(&mut self.random, source.order, target.order);
+            self.among(ask, source.clone(), target.clone(), map, SMALL);
+        }
+    }
+
+    /// A search among given pairs; the call after it.
+    fn among(&mut self, ask: Ask, source: LentTable, target: LentTable, map: Lent, family: &'static str) -> Call {
+        let pairs = inputs::pairs(&mut self.random, source.order, target.order);
+        let scratch = self.scratch(source.order, target.order);
+        let mut call = Call::SearchAmong { ask, source, target, pairs, map, scratch };
+        self.compare(&mut call, family);
+        call
+    }
+
+    /// Some searches among given pairs between two tables, on one map buffer.
+    fn searches_among(&mut self) {
+        let (source, target) = if self.random.one_in(8) { self.small_in_large() } else { self.pair(8) };
+        let mut map = inputs::map(&mut self.random, source.table.order, target.table.order);
+        for _ in 0..self.random.within(1, 4) {
+            let ask = self.random.pick(&[Ask::First, Ask::Next]);
+            let call = self.among(ask, source.table.clone(), target.table.clone(), map, source.family);
+            map = map_of(call);
+        }
+    }
+
     /// Searches with 1, 7, 8, 9 and 14,400 pairs over scratch bytes of 255: a byte too few, exactly enough, and more.
     fn scratch_lengths(&mut self) {
         for (m, n) in [(1, 1), (1, 7), (7, 1), (2, 4), (4, 2), (3, 3), (120, 120)] {
@@ -251,7 +280,7 @@ impl Comparison {
 
     /// Calls of one kind.
     fn some_calls(&mut self) {
-        match self.random.below(53) {
+        match self.random.below(56) {
             0..=10 => self.one_table(),
             11..=13 => self.lists(),
             14..=15 => self.map_check(),
@@ -266,6 +295,7 @@ impl Comparison {
             43..=44 => self.least_degree(),
             45..=48 => self.load_names(),
             49..=51 => self.save_names(),
+            52..=54 => self.searches_among(),
             _ => self.name_rounds(),
         }
     }
@@ -551,7 +581,7 @@ fn lengths(limit: usize) -> [usize; 3] {
 /// The map buffer of a search.
 fn map_of(call: Call) -> Lent {
     match call {
-        Call::Search { map, .. } => map,
+        Call::Search { map, .. } | Call::SearchAmong { map, .. } => map,
         _ => unreachable!("only searches are asked for their map"),
     }
 }

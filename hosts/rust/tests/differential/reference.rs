@@ -342,12 +342,19 @@ impl<'a> Pair<'a> {
         if m > n || (kind != Kind::Embedding && m != n) {
             return None;
         }
-        self.extended(kind, &mut Vec::new(), after)
+        self.extended(kind, &mut Vec::new(), after, &|_, _| true)
     }
 
     /// The earliest map of a kind that starts with these images. A start is given up where two of its images are equal, where
-    /// it breaks a product of its own elements, or where it is earlier than the start of the list to come after.
-    fn extended(&self, kind: Kind, start: &mut Vec<u8>, after: Option<&[u8]>) -> Option<Vec<u8>> {
+    /// it breaks a product of its own elements, where an element may not go to its image, or where it is earlier than the start
+    /// of the list to come after.
+    fn extended(
+        &self,
+        kind: Kind,
+        start: &mut Vec<u8>,
+        after: Option<&[u8]>,
+        allowed: &dyn Fn(usize, usize) -> bool,
+    ) -> Option<Vec<u8>> {
         let placed = start.len();
         if after.is_some_and(|list| *start.as_slice() < list[..placed]) {
             return None;
@@ -357,12 +364,12 @@ impl<'a> Pair<'a> {
         }
         for image in self.target.elements() {
             let image = image as u8;
-            if start.contains(&image) {
+            if start.contains(&image) || !allowed(placed + 1, usize::from(image)) {
                 continue;
             }
             start.push(image);
             if self.keeps_last(kind, start) {
-                if let Some(map) = self.extended(kind, start, after) {
+                if let Some(map) = self.extended(kind, start, after, allowed) {
                     return Some(map);
                 }
             }
@@ -494,6 +501,35 @@ pub fn search(
             write_front(map, found);
         }
         vec![u64::from(found.is_some())]
+    }))
+}
+
+/// A search for the first or the next embedding among given pairs.
+pub fn search_among(
+    asked: Ask,
+    source: (&[u8], usize),
+    target: (&[u8], usize),
+    pairs: &[u8],
+    map: &mut [u8],
+    scratch: &mut [u8],
+) -> Answer {
+    answer(Pair::accepted(source.0, source.1, target.0, target.1).and_then(|pair| {
+        ask(map.len() == source.1, 5)?;
+        ask(8 * scratch.len() >= source.1 * target.1, 6)?;
+        ask(8 * pairs.len() >= source.1 * target.1, 70)?;
+        let kept: Vec<u8> =
+            pair.candidates(Kind::Embedding).iter().zip(pairs).map(|(mark, pair)| mark & pair).collect();
+        write_front(scratch, &kept);
+        let allowed = |i: usize, j: usize| {
+            let place = (i - 1) * target.1 + (j - 1);
+            pairs[place / 8] & (1 << (place % 8)) != 0
+        };
+        let after = (asked == Ask::Next).then_some(&*map);
+        let found = pair.extended(Kind::Embedding, &mut Vec::new(), after, &allowed);
+        if let Some(found) = &found {
+            write_front(map, found);
+        }
+        Ok(vec![u64::from(found.is_some())])
     }))
 }
 

@@ -5,8 +5,8 @@ use std::collections::{BTreeMap, BTreeSet};
 use tickdrizzle::abi::Answer;
 
 /// The numbers of the questions.
-const QUESTIONS: [u64; 26] =
-    [1, 2, 3, 4, 5, 6, 7, 8, 9, 20, 21, 23, 24, 25, 26, 27, 28, 40, 41, 42, 50, 51, 60, 61, 62, 80];
+const QUESTIONS: [u64; 27] =
+    [1, 2, 3, 4, 5, 6, 7, 8, 9, 20, 21, 23, 24, 25, 26, 27, 28, 40, 41, 42, 50, 51, 60, 61, 62, 70, 80];
 
 #[derive(Clone, Copy, PartialEq, Eq, PartialOrd, Ord)]
 enum Outcome {
@@ -27,9 +27,10 @@ pub struct Tally {
 impl Tally {
     pub fn count(&mut self, call: &Call, family: &'static str, answer: &Answer) {
         let outcome = match (answer[0], call) {
-            (0, Call::Search { .. } | Call::LimitedSearch { .. } | Call::LeastDegree { .. }) if answer[2] == 0 => {
-                Outcome::Nothing
-            }
+            (
+                0,
+                Call::Search { .. } | Call::SearchAmong { .. } | Call::LimitedSearch { .. } | Call::LeastDegree { .. },
+            ) if answer[2] == 0 => Outcome::Nothing,
             (0, Call::LimitedSearch { .. }) if answer[2] == 2 => Outcome::Stopped,
             (0, _) => Outcome::Answered,
             (number, _) => Outcome::Refused(number),
