@@ -597,7 +597,7 @@ class Table:
     def embeddings_among(self, target: Table, allowed: Callable[[int, int], bool]) -> Iterator[tuple[int, ...]]:
         """Every embedding of this table in the target for which `allowed` holds of each element and its image, earliest first.
 
-        >>> left = Table([1, 1, 2, 2], 2)
+        >>> left = Table([[1, 1], [2, 2]])
         >>> list(left.embeddings_among(left, lambda i, j: i != 1 or j == 2))
         [(2, 1)]
         """
