@@ -49,7 +49,7 @@ pub fn opened(source: &Source, bytes: &[u8], role: Role, strict: bool, names: Ve
             loaded.ok()
         }
         Err(unread) => {
-            about.refusal = Some(unreadable(unread, bytes));
+            about.refusal = Some(unreadable(unread, bytes, strict));
             None
         }
     };
@@ -58,12 +58,13 @@ pub fn opened(source: &Source, bytes: &[u8], role: Role, strict: bool, names: Ve
     Opened { about, table, hints: Vec::new() }
 }
 
-/// A file that has no cells to ask about, or cells with two readings. The library's question is named where the file is text.
-fn unreadable(unread: Unread, bytes: &[u8]) -> Refusal {
+/// A file that has no cells to ask about, or cells with two readings. The library's question is named where the file is text, and
+/// where the library alone decides.
+fn unreadable(unread: Unread, bytes: &[u8], strict: bool) -> Refusal {
     let is_text = !crate::reader::is_workbook(bytes) && std::str::from_utf8(bytes).is_ok();
     let question = Table::load(bytes).err().map(|refusal| refusal.question.number() as usize);
     Refusal {
-        question: question.filter(|_| is_text),
+        question: question.filter(|_| is_text || strict),
         faults: vec![Fault { place: unread.place, cells: Vec::new(), there: unread.there }],
         more: 0,
         expected: unread.expected,
