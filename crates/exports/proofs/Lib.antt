@@ -1,3 +1,3 @@
-pub mod Layout
+pub mod Sixteen
 pub mod Values
 pub mod Refusals

@@ -7,7 +7,7 @@ use lib.ListN.{length, take}
 use lib.Seq.{take-all}
 use borrow.Author.Needs.{needs}
 use Rattle.exports.specs.Words.{words}
-use Rattle.exports.proofs.Layout.{put-value}
+use Rattle.exports.proofs.Sixteen.{put-value}
 use Rattle.exports.proofs.words.Statement.{statement}
 use Rattle.exports.proofs.words.Tie as tie
 
