@@ -66,6 +66,9 @@ check-requires c κs = search needs
 enum-known-verdict : tie.Need-enum-known-verdict
 enum-known-verdict c = search needs
 
+no-requires : tie.Need-no-requires
+no-requires c κs = search needs
+
 enum-told-2 : tie.Need-enum-told-2
 enum-told-2 c = search needs
 
@@ -74,9 +77,11 @@ same-length-2 c = search needs
 
 returns-2 : tie.Need-returns-2
 returns-2 c =
-    let told = c .before .before .before .before .before in
+    let known = c .before in
+    let told = known .before .before .before .before .before in
     let loading = loading-of told in (
-      judged-table _ _ _ (given-order told) (loading .load .ensures .1) (sym (ap verdictRefusal (c .before .verdict .given .1)) ∙ c .before .before .before .check .ensures),
+      ap {B = Answer ℕ} refused (c .no .ensures)
+      ∙ judged-table _ _ _ (given-order told) (loading .load .ensures .1) (sym (ap verdictRefusal (known .before .verdict .given .1)) ∙ known .before .before .before .check .ensures),
       loading .load .ensures .1,
     )
 
@@ -105,6 +110,7 @@ load-then-check-spec =
     slice-aggregate-check
     check-requires
     enum-known-verdict
+    no-requires
     enum-told-2
     same-length-2
     returns-2
