@@ -146,7 +146,13 @@ fn marks_byte(source: &[u64; ORDER], m: usize, target: &[u64; ORDER], n: usize, 
 }
 
 // Writes the marks of the pairs of elements with equal keys.
-pub fn fill_equal(source: &[u64; ORDER], m: usize, target: &[u64; ORDER], n: usize, scratch: &mut [u8])
+pub fn fill_equal(
+    source: &[u64; ORDER],
+    m: usize,
+    target: &[u64; ORDER],
+    n: usize,
+    scratch: &mut [u8],
+)
     requires { ⌜ (m ≤ 120) × (n ≤ 120) ⌝ }
     requires { ⌜ scratchSize m n ≤ length (now scratch) ⌝ }
     ensures scratch { λ _. ⌜ now (scratch .exit) ≡ scratchAfter m n (sameKey (now (source .entry)) (now (target .entry))) (now (scratch .entry)) ⌝ }

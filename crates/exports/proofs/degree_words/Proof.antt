@@ -1,5 +1,6 @@
 -- `degree_words` meets its contract: the degree, 0 for none of these, or the failed question.
 -- Assumes nothing.
+use Rattle.tables.specs.Answers.{noRefusal}
 use Rattle.tables.proofs.Refusals.{no-brief}
 use Rattle.exports.proofs.Values.{refusal-said}
 use borrow.Author.Needs.{needs}
@@ -42,7 +43,7 @@ returns-2 c = rw (c .before .before .enum-told .given .1) (c .words2 .ensures)
 returns-3 : tie.Need-returns-3
 returns-3 c =
     let m = c .before .before .before .said2 .given in
-    rw (m .1) (refusal-said (no-brief (m .0 .0)) (c .before .refusal .ensures) (c .refusal-words .ensures))
+    rw (m .1) (refusal-said (noRefusal (m .0 .0)) (no-brief (m .0 .0)) (c .before .refusal .ensures) (c .refusal-words .ensures))
 
 pub degree-words-spec : {M : Type 1} → statement M
 degree-words-spec =

@@ -1,5 +1,6 @@
 -- `generators_words` meets its contract: zeros for an accepted table, else the fault of the table or of the list.
 -- Assumes nothing.
+use Rattle.generated.specs.Answers.{generatorsFaultRefusal}
 use Rattle.generated.proofs.Refusals.{generators-fault-brief}
 use Rattle.exports.proofs.Values.{refusal-said}
 use borrow.Author.Needs.{needs}
@@ -24,7 +25,7 @@ returns c = rw (c .enum-told .given .1)
 returns-2 : tie.Need-returns-2
 returns-2 c =
     let m = c .before .before .before .verdict .given in
-    rw (m .1) (refusal-said (generators-fault-brief (m .0 .0)) (c .before .refusal .ensures) (c .refusal-words .ensures))
+    rw (m .1) (refusal-said (generatorsFaultRefusal (m .0 .0)) (generators-fault-brief (m .0 .0)) (c .before .refusal .ensures) (c .refusal-words .ensures))
 
 pub generators-words-spec : {M : Type 1} → statement M
 generators-words-spec =

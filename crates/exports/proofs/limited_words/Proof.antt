@@ -1,4 +1,5 @@
 -- `limited_words` meets its contract: 1 for found and 0 for nothing, with the trials, 2 for stopped, or the failed question. Assumes nothing.
+use Rattle.search.specs.Answers.{searchFaultRefusal}
 use Rattle.search.proofs.Refusals.{search-fault-brief}
 use Rattle.exports.proofs.Values.{refusal-said}
 use borrow.Author.Needs.{needs}
@@ -59,7 +60,7 @@ returns-3 c = rw (c .before .before .enum-told .given .1) (c .words3 .ensures)
 returns-4 : tie.Need-returns-4
 returns-4 c =
     let m = c .before .before .before .said3 .given in
-    rw (m .1) (refusal-said (search-fault-brief (m .0 .0)) (c .before .refusal .ensures) (c .refusal-words .ensures))
+    rw (m .1) (refusal-said (searchFaultRefusal (m .0 .0)) (search-fault-brief (m .0 .0)) (c .before .refusal .ensures) (c .refusal-words .ensures))
 
 pub limited-words-spec : {M : Type 1} → statement M
 limited-words-spec =

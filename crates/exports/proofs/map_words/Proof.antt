@@ -1,7 +1,7 @@
 -- `map_words` meets its contract: each fault of a map has its code with the element or the pair.
 -- Assumes nothing.
 use mathlib.Core.Path.{ap, _∙_}
-use Rattle.tables.specs.Answers.{sideNumber}
+use Rattle.tables.specs.Answers.{faultRefusal, sideNumber}
 use Rattle.tables.proofs.Refusals.{fault-brief}
 use Rattle.exports.specs.Words.{numbersWords}
 use Rattle.exports.proofs.Values.{side-said}
@@ -69,7 +69,7 @@ words-requires-4 c κs = search needs
 returns : tie.Need-returns
 returns c =
     let m = c .before .before .before .before .said .given in
-    rw (m .1) (side-said (fault-brief (m .0 .1 .0)) (c .before .before .refusal .ensures) (sideNumber (m .0 .0)) (c .before .naming .ensures) (c .refusal-words .ensures))
+    rw (m .1) (side-said (faultRefusal (m .0 .1 .0)) (fault-brief (m .0 .1 .0)) (c .before .before .refusal .ensures) (sideNumber (m .0 .0)) (c .before .naming .ensures) (c .refusal-words .ensures))
 
 returns-2 : tie.Need-returns-2
 returns-2 c = rw (c .before .before .enum-told .given .1) (c .refusal-words2 .ensures ∙ ap numbersWords (c .before .by .ensures))

@@ -1,5 +1,6 @@
 -- `numbered_words` meets its contract: the number, or the failed question.
 -- Assumes nothing.
+use Rattle.tables.specs.Answers.{noRefusal}
 use Rattle.tables.proofs.Refusals.{no-brief}
 use Rattle.exports.proofs.Values.{refusal-said}
 use borrow.Author.Needs.{needs}
@@ -30,7 +31,7 @@ returns c = rw (c .before .before .before .said .given .1) (c .words .ensures)
 returns-2 : tie.Need-returns-2
 returns-2 c =
     let m = c .before .before .before .said2 .given in
-    rw (m .1) (refusal-said (no-brief (m .0 .0)) (c .before .refusal .ensures) (c .refusal-words .ensures))
+    rw (m .1) (refusal-said (noRefusal (m .0 .0)) (no-brief (m .0 .0)) (c .before .refusal .ensures) (c .refusal-words .ensures))
 
 pub numbered-words-spec : {M : Type 1} → statement M
 numbered-words-spec =

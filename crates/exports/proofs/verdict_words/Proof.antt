@@ -1,5 +1,6 @@
 -- `verdict_words` meets its contract: zeros for an accepted table, else its fault.
 -- Assumes nothing.
+use Rattle.tables.specs.Answers.{faultRefusal}
 use Rattle.tables.proofs.Refusals.{fault-brief}
 use Rattle.exports.proofs.Values.{refusal-said}
 use borrow.Author.Needs.{needs}
@@ -24,7 +25,7 @@ returns c = rw (c .enum-told .given .1)
 returns-2 : tie.Need-returns-2
 returns-2 c =
     let m = c .before .before .before .verdict .given in
-    rw (m .1) (refusal-said (fault-brief (m .0 .0)) (c .before .refusal .ensures) (c .refusal-words .ensures))
+    rw (m .1) (refusal-said (faultRefusal (m .0 .0)) (fault-brief (m .0 .0)) (c .before .refusal .ensures) (c .refusal-words .ensures))
 
 pub verdict-words-spec : {M : Type 1} → statement M
 verdict-words-spec =

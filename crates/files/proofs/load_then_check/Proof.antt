@@ -81,7 +81,7 @@ returns-2 c =
     let told = known .before .before .before .before .before in
     let loading = loading-of told in (
       ap {B = Answer ℕ} refused (c .no .ensures)
-      ∙ judged-table _ _ _ (given-order told) (loading .load .ensures .1) (sym (ap verdictRefusal (known .before .verdict .given .1)) ∙ known .before .before .before .check .ensures),
+          ∙ judged-table _ _ _ (given-order told) (loading .load .ensures .1) (sym (ap verdictRefusal (known .before .verdict .given .1)) ∙ known .before .before .before .check .ensures),
       loading .load .ensures .1,
     )
 
