@@ -194,7 +194,7 @@ module _ (pairs : List ℕ) (l : Lent) (h : AllMarked pairs l) where
       go (inl a) (inr b) = let e : l .n ≡ 0 = omega arith in subst (λ (x : ℕ). (l .m * x + 7) / 8 ≤ length pairs) (sym e) (omega (arith, mul-zero (l .m)))
       go (inl a) (inl b) =
           let k = cellPlace (l .n) (l .m) (l .n) in
-          let last : k + 1 ≡ l .m * l .n = let z : l .m ≡ suc (l .m - 1) = omega arith in ap (λ (x : ℕ). x) (omega (arith, suc-mul (l .m - 1) (l .n), ap (λ (x : ℕ). x * l .n) z)) in
+          let last : k + 1 ≡ l .m * l .n = let z : l .m ≡ suc (l .m - 1) = omega arith in omega (arith, suc-mul (l .m - 1) (l .n), ap (λ (x : ℕ). x * l .n) z) in
           let one = eqb-true (bit (getD pairs (k / 8) 0) (k % 8)) 1 (h (l .m) (l .n) (omega arith, omega arith) (omega arith, omega arith)) in
           ⊎-elim (λ (u : length pairs ≤ k / 8).
           let e = ap (λ (x : ℕ). bit x (k % 8)) (List·getD-eq-default pairs 0 u) ∙ bit-none (k % 8) in

@@ -1,7 +1,7 @@
 -- The marks of candidates, masked by pairs, are the marks of the candidates that the pairs allow. Assumes nothing.
-use mathlib.Core.Path.{_≡_, refl, sym, ap, ap₂, _∙_, subst}
+use mathlib.Core.Path.{_≡_, sym, ap, ap₂, _∙_}
 use mathlib.Core.Bool.{Bool, false, _&&_}
-use mathlib.Core.List.{List, _∷_, _++_, map}
+use mathlib.Core.List.{List, _∷_, _++_}
 use Prim.Native.Nat.{ℕ, suc, _+_, _*_, _/_, _%_, _≤_, _<_}
 use native.Mathlib.Omega.{arith}
 use borrow.Author.Tests.{eqb-false}
@@ -11,7 +11,7 @@ use lib.ListN.{length, take, drop, getD, set, length-map, List·getD-append}
 use lib.Seq.{length-take-le, drop-cons, drop-append-seam, getD-append-seam}
 use Rattle.semigroups.specs.Lists.{range}
 use Rattle.semigroups.specs.Tables.{Element, cellPlace}
-use Rattle.semigroups.specs.Scratch.{bit, scratchSize, marks, marked, AreMarks}
+use Rattle.semigroups.specs.Scratch.{bit, scratchSize, marks, marked}
 use Rattle.semigroups.specs.Calls.{overwritten, scratchAfter}
 use Rattle.semigroups.proofs.Lists.{length-range, getD-range, getD-map}
 use Rattle.semigroups.proofs.Writing.{written, written-none, written-all, length-written, write-next}
@@ -69,7 +69,7 @@ module _ (m n : ℕ) (p : ℕ → ℕ → Bool) (pairs before : List ℕ) where
       ∙ and-bits (getD filled (k / 8) 0) (getD pairs (k / 8) 0) (k % 8)
       ∙ ap (λ (b : Bool). b && eqb (bit (getD pairs (k / 8) 0) (k % 8)) 1) (marked-candidate m n p before i j hi hj)
 
-  -- A bit that the marks have not, the masked bytes have not.
+  -- A bit that is not 1 is 0.
   not-one : (x r : ℕ) → eqb (bit x r) 1 ≡ false → bit x r ≡ 0
   not-one x r e = let h = eqb-false (bit x r) 1 e in let s = bit-small x r in omega arith
 

@@ -1,5 +1,5 @@
 -- `find_among` meets its contract: scratch holds the allowed candidates, and the search over them finds the allowed embedding asked for. Assumes nothing.
-use mathlib.Core.Path.{_≡_, refl}
+use mathlib.Core.Path.{refl}
 use mathlib.Core.Bool.{false}
 use mathlib.Core.Option.{none}
 use Rattle.semigroups.specs.Tables.{product}

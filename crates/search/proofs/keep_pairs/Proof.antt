@@ -1,4 +1,4 @@
--- `keep_pairs` meets its contract. Assumes nothing.
+-- `keep_pairs` meets its contract: the bytes before the place are masked, and the others are as they were. Assumes nothing.
 use Prim.Native.Nat.{_-_}
 use native.Mathlib.Omega.{arith}
 use Rattle.search.proofs.Masks.{Masking, mask-begin, mask-length, mask-next, mask-end}

@@ -1,5 +1,5 @@
 -- `mark_among` meets its contract: the marks of the candidates, masked by the pairs, are those of the allowed candidates. Assumes nothing.
-use mathlib.Core.Path.{_≡_, ap₂, _∙_}
+use mathlib.Core.Path.{ap₂, _∙_}
 use mathlib.Core.List.{List}
 use Prim.Native.Nat.{ℕ}
 use Rattle.semigroups.specs.Tables.{product}
