@@ -11,10 +11,9 @@ ghost use Rattle.semigroups.specs.Questions.{no, cellsRefusal, tableRefusal, ta
 ghost use Rattle.semigroups.specs.Calls.{overwritten};
 ghost use Rattle.tables.specs.Answers.{noRefusal, faultRefusal, verdictRefusal, sideNumber, placeOption, pairRefusal, refusalNumbers, numbersNaming};
 
-pub mod limits;
-
 pub mod counts;
 pub mod generators;
+pub mod limits;
 
 // Why a table is refused: questions 1 to 4, with the first cell, counted from 1, or the first triple.
 pub enum Fault {
