@@ -1,4 +1,4 @@
--- What the library's other answers are as numbers, and when they are those that 01 gives (01, "Marks of an element" and "The questions").
+-- What the library's other answers are as numbers, and when they are those that the rules give (RULES 4 and 7).
 -- Assumes nothing.
 use mathlib.Core.Bool.{Bool, true, false, _&&_}
 use Prim.Native.Nat.{ℕ}

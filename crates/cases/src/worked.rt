@@ -1,4 +1,4 @@
-// The thirteen worked cases of 01 again, through the compiled functions.
+// The thirteen worked cases (RULES 23.2) again, through the compiled functions.
 ghost use mathlib.Core.Path.{_≡_};
 ghost use Rattle.invariants.specs.Answers.{indexPeriodValue, indexPeriodSays, profileValue, profileSays};
 ghost use Rattle.cases.specs.Answering.{sameGivenPowers, sameGivenProfile};

@@ -1,4 +1,4 @@
--- The example of 02, (xi), an empty file, a gap, fifty files and more, and names of files, computed at the definitions. Assumes nothing.
+-- The example of RULES 22.6, an empty file, a gap, fifty files and more, and names of files, computed at the definitions. Assumes nothing.
 use mathlib.Core.Path.{_≡_, refl}
 use mathlib.Core.List.{[], _∷_, flatMap, flatten}
 use mathlib.Core.Option.{orElse}

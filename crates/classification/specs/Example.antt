@@ -1,4 +1,4 @@
--- The example of 02, (xi): swap, null3 and swap again in three files, and the whole output, as bytes; an empty file; folders that end the reading.
+-- The example of RULES 22.6: swap, null3 and swap again in three files, and the whole output, as bytes; an empty file; folders that end the reading.
 -- Assumes nothing.
 use mathlib.Core.Bool.{cond}
 use mathlib.Core.List.{List, [], _∷_}

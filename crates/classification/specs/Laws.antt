@@ -1,4 +1,4 @@
--- What 02, (xi) says of the classes and the totals, for any files.
+-- What RULES 22 says of the classes and the totals, for any files.
 -- Assumes nothing.
 use mathlib.Core.Path.{_≡_}
 use mathlib.Core.Bool.{true, _&&_}

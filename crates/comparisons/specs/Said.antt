@@ -1,4 +1,4 @@
--- What a search says as a number (01, "The questions"). Assumes nothing.
+-- What a search says as a number (RULES 7). Assumes nothing.
 use Prim.Native.Nat.{ℕ}
 use Rattle.semigroups.specs.Calls.{Answer, refused, gives}
 use Rattle.semigroups.specs.Maps.{Sought, found, nothing}

@@ -1,4 +1,4 @@
--- A text loads exactly as if its last line break were there (02, (ii)): the bytes that 21 names, and the rows, are the same.
+-- A text loads exactly as if its last line break were there (RULES 19.2): the bytes that 21 names, and the rows, are the same.
 -- Assumes nothing.
 use mathlib.Core.Path.{_≡_, refl, ap, _∙_}
 use mathlib.Core.Bool.{Bool, true, false, _&&_, not, cond, and-false}

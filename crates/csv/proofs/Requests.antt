@@ -1,4 +1,4 @@
--- The requests (ii) and (iv) of 02 hold. Shown here: what becomes of a text that only its last line break makes too long, which numbers never come, and the
+-- RULES 19.2 and 19.6 hold. Shown here: what becomes of a text that only its last line break makes too long, which numbers never come, and the
 -- field behind a last comma. Assumes nothing.
 use mathlib.Core.Path.{_≡_, refl, sym, ap, _∙_}
 use mathlib.Core.Bool.{Bool, true, false, cond, and-false}

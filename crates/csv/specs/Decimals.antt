@@ -1,4 +1,4 @@
--- Decimal numbers as bytes: digits are the bytes 48 to 57, the first digit counts most (01, "Text": decimal cells).
+-- Decimal numbers as bytes: digits are the bytes 48 to 57, the first digit counts most (RULES 19.1: decimal cells).
 -- Assumes nothing.
 use mathlib.Core.Bool.{Bool, _&&_, cond}
 use mathlib.Core.List.{List, [], _∷_, _++_}

@@ -1,4 +1,4 @@
--- What passes the questions about loading and saving a text, in plain words (01, "The questions"): a call is not refused exactly there.
+-- What passes the questions about loading and saving a text, in plain words (RULES 7.3): a call is not refused exactly there.
 -- Assumes nothing.
 use mathlib.Core.Path.{_≡_}
 use mathlib.Core.List.{List, List·Memᴰ}

@@ -1,5 +1,5 @@
--- The questions about loading and saving a text, in the order of 01, "The questions", with 24 before 23 (02, (iv)) and without 22 (02, (ii)).
--- Stricter than RFC 4180 by 01, "About loading a text": a length limit (20); digits, commas and line breaks alone, so no header, no quoted field
+-- The questions about loading and saving a text, in the order of RULES 7.3.
+-- Stricter than RFC 4180 by RULES 7.2: a length limit (20); digits, commas and line breaks alone, so no header, no quoted field
 -- and no space (21); decimal fields of 1 to 120 with no leading 0 (23 to 25); a square (26) of order 120 at most (1).
 -- Assumes nothing.
 use mathlib.Core.Bool.{Bool, _&&_, _||_, not}

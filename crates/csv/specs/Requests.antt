@@ -1,4 +1,4 @@
--- The requests (ii) and (iv) of 02, as sentences about the definitions. Assumes nothing.
+-- RULES 19.2 and 19.6, as sentences about the definitions. Assumes nothing.
 use mathlib.Core.Path.{_≡_}
 use mathlib.Core.List.{List, [], _∷_, _++_}
 use mathlib.Core.Option.{some}
@@ -23,7 +23,7 @@ pub record TooLongClosed (t cells : List ℕ) : Type 0 where
   pub closed-kept : cellsAfter (closed t) cells ≡ cells
 
 pub record TextRequests : Type 0 where
-  -- (ii) "Such a text now loads exactly as if CR LF followed": a text of at most 57,720 bytes with its last line break, and any text that loads.
+  -- RULES 19.2: "Such a text now loads exactly as if CR LF followed": a text of at most 57,720 bytes with its last line break, and any text that loads.
   pub as-closed : (t cells : List ℕ) → length (closed t) ≤ longest → LoadsClosed t cells
   pub loaded-as-closed : (t cells : List ℕ) → LoadPasses t (length cells) → LoadsClosed t cells
   -- "20 and 21 speak of the text as it came": so a text of 57,719 or 57,720 bytes without its last line break is refused by another question than
@@ -40,6 +40,6 @@ pub record TextRequests : Type 0 where
       → length (closed (textHeld b)) ≤ length (b .text) → (r : ℕ) → Closed (textHeld b) b (rounds (suc r) b)
   -- "22 is no longer asked and never occurs."
   pub never-22 : (t : List ℕ) (room : ℕ) (r : Refusal) → loadRefusal t room ≡ some r → r .number ≡ 22 → ⊥
-  -- (iv) "24 is asked before 23. An empty field has no first byte, so it passes 24 and gets 23."
+  -- RULES 19.6: "24 is asked before 23. An empty field has no first byte, so it passes 24 and gets 23."
   pub leading-zero : (f : List ℕ) → getD f 0 0 ≡ 48 → fieldRefusal f ≡ some (no 24 [])
   pub empty-field : fieldRefusal [] ≡ some (no 23 [])

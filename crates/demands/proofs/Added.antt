@@ -1,4 +1,4 @@
--- Demand 1 holds of the calls that 02 added and of the search among given pairs. Assumes nothing.
+-- Demand 1 holds of the calls that RULES 9, 11 and 15 to 20 add. Assumes nothing.
 use mathlib.Core.Path.{_≡_, ap}
 use mathlib.Core.List.{[], _∷_}
 use lib.ListN.{length, replicate}

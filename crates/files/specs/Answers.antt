@@ -1,4 +1,4 @@
--- What programs say of a file that is refused (01, "Program `recue`"). Assumes nothing.
+-- What programs say of a file that is refused (RULES 21.1). Assumes nothing.
 use mathlib.Core.List.{List, [], _∷_}
 use Prim.Native.Nat.{ℕ}
 use Rattle.semigroups.specs.Calls.{Answer, refused, gives}

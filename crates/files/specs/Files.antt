@@ -1,4 +1,4 @@
--- What a file with a table says (01, "Program `recue`"): its bytes are loaded as text, and questions 3 and 4 are asked of the table.
+-- What a file with a table says (RULES 21.1): its bytes are loaded as text, and questions 3 and 4 are asked of the table.
 -- Assumes nothing.
 use mathlib.Core.List.{List, [], _∷_, _++_}
 use mathlib.Core.Option.{Option}

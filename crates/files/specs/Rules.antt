@@ -1,4 +1,4 @@
--- What 01, "Program `recue`", says of a file, and what follows: as sentences about the definitions. Assumes nothing.
+-- What RULES 21, says of a file, and what follows: as sentences about the definitions. Assumes nothing.
 use mathlib.Core.Path.{_≡_}
 use mathlib.Core.Bool.{true}
 use mathlib.Core.Logic.{_↔_}

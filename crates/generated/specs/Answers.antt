@@ -16,7 +16,7 @@ use Rattle.generated.specs.declared.GeneratorsFault.the-variants.{Table,
 use Rattle.generated.specs.declared.GeneratorsVerdict.{GeneratorsVerdict}
 use Rattle.generated.specs.declared.GeneratorsVerdict.the-variants.{Accepted, Refused}
 
--- ---- the shorter check (02, viii)
+-- ---- the shorter check (RULES 15)
 
 -- The table's fault as it is; 50 and 51 carry nothing.
 abbrev pub generatorsFaultRefusal : GeneratorsFault → Refusal
@@ -29,7 +29,7 @@ abbrev pub generatorsVerdictRefusal : GeneratorsVerdict → Option Refusal
 generatorsVerdictRefusal Accepted = none
 generatorsVerdictRefusal (Refused fault) = some (generatorsFaultRefusal fault)
 
--- ---- the subsemigroup as a table of its own (02, xii)
+-- ---- the subsemigroup as a table of its own (RULES 16)
 
 -- What a call says for a table, a list of chosen elements, and buffers of these lengths for cells and elements: the part's order is given.
 unfoldable pub subsemigroupSays : ℕ → List ℕ → List ℕ → ℕ → ℕ → Answer ℕ

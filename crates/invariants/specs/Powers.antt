@@ -1,4 +1,4 @@
--- What a walk through the powers of an element finds (01, "Marks of an element"; 02, i), whether the table is associative or not. Assumes nothing.
+-- What a walk through the powers of an element finds (RULES 4), whether the table is associative or not. Assumes nothing.
 use Prim.Native.Nat.{ℕ, _+_, _-_, _*_, _/_}
 use Rattle.semigroups.specs.Tables.{Product}
 use Rattle.semigroups.specs.Invariants as marks

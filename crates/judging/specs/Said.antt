@@ -1,4 +1,4 @@
--- When what is said of a table is the same (01, "The questions"). Assumes nothing.
+-- When what is said of a table is the same (RULES 7). Assumes nothing.
 use mathlib.Core.Bool.{Bool, _&&_}
 use lib.Dec.{eqb}
 use Rattle.plain.specs.declared.Said.{Said}

@@ -20,7 +20,7 @@ pub fn compared(cells: &[u8], n: usize, tally: Tally) -> Tally
     counted(tally, same_said(said, judge(cells, n)))
 }
 
-// The four questions, compared with what 01 says of the table, and with the second search.
+// The four questions, compared with what RULES 23.2 says of the table, and with the second search.
 pub fn judged(cells: &[u8], n: usize, said: Said, tally: Tally) -> Tally
     ensures answer { λ r. ⌜ r ≡ counted (counted tally (sameSaid (saidOf (tableRefusal n (now (cells .entry)))) said)) true ⌝ }
 {

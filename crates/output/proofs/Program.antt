@@ -1,4 +1,4 @@
--- What the definition of the whole output says: which file speaks, how much of a file decides, which numbers can come, and 01's example.
+-- What the definition of the whole output says: which file speaks, how much of a file decides, which numbers can come, and the example of RULES 21.4.
 -- Assumes nothing.
 use mathlib.Core.Path.{_≡_, refl, ap, ap₂, sym, _∙_}
 use mathlib.Core.List.{List, [], flatMap, flatten}
@@ -78,7 +78,7 @@ first-bytes-decide source target = by-source (cut source)
     by-source (whole e) = ap (λ (s : List ℕ). recueOutput s (take 57721 target)) e ∙ by-target source (cut target)
     by-source (too-much e f) = source-refused (take 57721 source) (take 57721 target) (no 20 []) e ∙ sym (source-refused source target (no 20 []) f)
 
--- ---- 01's example
+-- ---- the example of RULES 21.4
 
 pub example : recueOutput sourceFile targetFile ≡ printed
 unfolding recueOutput recueRecords answerRecords sourceFile targetFile printed fileRefusal firstRecord pairRecord pairRecords foundRecords noneRecords refusedRecord refusedRecords isDigit value valueFrom numeralWithin numeral isBreak onto records fields rows recordText lineText rowsText fieldsOf orderOf cellsOf breakAt inBreak isAllowed firstOther fieldsQuestions isSquare range elements at all find keep member distinct lists product isElement associates badCell badTriple firstOf isHomomorphism isEmbedding maps earliest orElse flatMap flatten

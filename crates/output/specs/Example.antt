@@ -1,4 +1,4 @@
--- The example of 01, "Program `recue`": two files and the whole output, as bytes.
+-- The example of RULES 21.4: two files and the whole output, as bytes.
 -- Assumes nothing.
 use mathlib.Core.List.{List, [], _∷_}
 use Prim.Native.Nat.{ℕ}

@@ -1,4 +1,4 @@
--- What the second search speaks of: lists by their number, and the test of a pair of elements (01, "Maps").
+-- What the second search speaks of: lists by their number, and the test of a pair of elements (RULES 5).
 -- Assumes nothing.
 use mathlib.Core.Bool.{Bool, true, false, _&&_, _||_, not}
 use mathlib.Core.List.{List, []}

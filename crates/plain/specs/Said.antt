@@ -1,4 +1,4 @@
--- What is said of a table, as numbers (01, "The questions").
+-- What is said of a table, as numbers (RULES 7).
 -- Assumes nothing.
 use mathlib.Core.Option.{Option, none, some}
 use Rattle.semigroups.specs.Lists.{at}

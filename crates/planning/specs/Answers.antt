@@ -1,5 +1,5 @@
 -- What a call about the least degree says and leaves in the position buffer, and what its answers mean: for each case the number of the question and the
--- values said with it (02, xiii). Assumes nothing.
+-- values said with it (RULES 17). Assumes nothing.
 use mathlib.Core.Path.{_≡_}
 use mathlib.Core.List.{List}
 use mathlib.Core.Option.{Option, none, some}

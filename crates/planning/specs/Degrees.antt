@@ -1,4 +1,4 @@
--- The fewest rest positions of a table (02, xiii): the least degree from 1 to 3 whose table of all transformations holds an embedding, and the landing
+-- The fewest rest positions of a table (RULES 17): the least degree from 1 to 3 whose table of all transformations holds an embedding, and the landing
 -- positions of each element there. Statements are for a table of order m with product s.
 -- Assumes nothing.
 use mathlib.Core.Path.{_≡_}

@@ -1,4 +1,4 @@
--- Worked examples of the least degree (02, xiii), computed from the definitions. Assumes nothing.
+-- Worked examples of the least degree (RULES 17), computed from the definitions. Assumes nothing.
 use mathlib.Core.Path.{_≡_}
 use mathlib.Core.List.{List, [], _∷_}
 use mathlib.Core.Option.{Option, none, some}

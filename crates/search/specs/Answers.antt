@@ -1,4 +1,4 @@
--- What the answers of a search mean (01, "The questions"; 02, (vi)): what is said, and for each refusal the number, the side and the values.
+-- What the answers of a search mean (RULES 7 and 9.4): what is said, and for each refusal the number, the side and the values.
 -- Assumes nothing.
 use mathlib.Core.Bool.{Bool, true, false}
 use mathlib.Core.List.{[]}

@@ -1,4 +1,4 @@
--- The kinds of maps (01, "Maps"; 02, (ix)), and which orders they fit. Assumes nothing.
+-- The kinds of maps (RULES 5; RULES 10), and which orders they fit. Assumes nothing.
 use mathlib.Core.Bool.{Bool, true, false}
 use Prim.Native.Nat.{ℕ}
 use lib.Dec.{eqb, leb}
@@ -16,7 +16,7 @@ abbrev pub straight : Bool → maps.Kind
 straight false = maps.embeddings
 straight true = maps.isomorphisms
 
--- Whether tables of orders m and n can have a map of the kind: m is at most n for embeddings, and equal for isomorphisms and reversed ones (01, "Maps").
+-- Whether tables of orders m and n can have a map of the kind: m is at most n for embeddings, and equal for isomorphisms and reversed ones (RULES 5).
 abbrev pub orderFits : maps.Kind → ℕ → ℕ → Bool
 orderFits maps.embeddings m n = leb m n
 orderFits maps.isomorphisms m n = eqb m n

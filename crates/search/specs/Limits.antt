@@ -1,4 +1,4 @@
--- What is claimed of every limit (02, (vi)), at the call that the contracts cite, for any kind.
+-- What is claimed of every limit (RULES 9), at the call that the contracts cite, for any kind.
 -- Assumes nothing.
 use mathlib.Core.Path.{_≡_}
 use mathlib.Core.Logic.{_↔_}

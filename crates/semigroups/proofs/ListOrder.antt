@@ -68,7 +68,7 @@ place-earlier (x ∷ a) (y ∷ b) (suc p) h g s l =
     ap (λ (v : ℕ). earlier (v ∷ a) (y ∷ b)) (s 0 (omega arith)) ∙ earlier-tail y a b
     ∙ place-earlier a b p (omega arith) (omega arith) (λ k u. s (suc k) (omega arith)) l
 
--- The test says what 01 words.
+-- The test says what RULES 6.1 words.
 pub earlier-exactly : (a b : List ℕ) → (earlier a b ≡ true) ↔ Earlier a b
 earlier-exactly a b = (earlier-place a b, λ w. place-earlier a b (w .place) (w .in-first) (w .in-second) (w .same-before) (w .smaller))
 

@@ -104,7 +104,7 @@ module _ (k : ℕ) (r : Product) (m : ℕ) (s : Product) (n : ℕ) (t : Product)
         embedding = after-embeds k r m s n (turned t) closed g f (reversed-isomorphism m s n t g G .embedding) (F .embedding);
       })
 
--- ---- what 02 says
+-- ---- what RULES 10 says
 
 pub reversed-theorem : ReversedTheorem
 reversed-theorem =

@@ -1,4 +1,4 @@
--- The rules of 01 hold for any tables and any degree: each field is a law of its subject. Shown here are that the profile counts what it says, and that no
+-- The rules hold for any tables and any degree: each field is a law of its subject. Shown here are that the profile counts what it says, and that no
 -- kind of candidates loses a map. Assumes nothing.
 use mathlib.Core.Path.{_≡_, refl, sym, ap, _∙_, subst}
 use mathlib.Core.Bool.{Bool, true}

@@ -1,4 +1,4 @@
--- What a call says behind its questions, and what it leaves in a buffer that it writes (01, "The questions": the first "no" ends the call, with
+-- What a call says behind its questions, and what it leaves in a buffer that it writes (RULES 7.1: the first "no" ends the call, with
 -- every lent byte unchanged). Assumes nothing.
 use mathlib.Core.Path.{_≡_}
 use mathlib.Core.Bool.{Bool, true, false}

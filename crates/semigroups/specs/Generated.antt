@@ -1,5 +1,5 @@
--- What a list of elements generates (02, viii and xii): the smallest set that holds the list and every product of the set's own members. The product
--- need not be associative. Where it is, this set is the subsemigroup that the list generates (source document 000, section 2).
+-- What a list of elements generates (RULES 15.1 and 16.1): the smallest set that holds the list and every product of the set's own members. The product
+-- need not be associative. Where it is, this set is the subsemigroup that the list generates (East, Egri-Nagy and Mitchell, arXiv 1403.0274, section 2).
 -- Assumes nothing.
 use mathlib.Core.Path.{_≡_}
 use mathlib.Core.Bool.{true}

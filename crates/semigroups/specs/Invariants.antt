@@ -1,4 +1,4 @@
--- Invariants of an element (arXiv 1603.06204, sections 3 and 4), which 01 calls its marks: powers, index and period, idempotent power, profile.
+-- Invariants of an element (arXiv 1603.06204, sections 3 and 4; RULES 4): powers, index and period, idempotent power, profile.
 -- Assumes nothing.
 use mathlib.Core.Path.{_≡_}
 use mathlib.Core.Bool.{Bool, false, _&&_}
@@ -39,7 +39,7 @@ pub record IsIndexPeriod (s : Product) (a p r : ℕ) : Type 0 where
 
 -- ---- the idempotent power
 
--- The first of the powers 1 to n of a that is its own square: the cue that a repeat settles on (02, i).
+-- The first of the powers 1 to n of a that is its own square: the cue that a repeat settles on (RULES 4.3).
 unfoldable pub idempotentPower : ℕ → Product → ℕ → ℕ
 idempotentPower n s a = power s a (least n (λ k. eqb (s (power s a k) (power s a k)) (power s a k)))
 
@@ -87,7 +87,7 @@ rowFrequency n s a = count (λ j. eqb (s a j) a) (elements n)
 unfoldable pub columnFrequency : ℕ → Product → ℕ → ℕ
 columnFrequency n s a = count (λ i. eqb (s i a) a) (elements n)
 
--- How many elements b have a·b = b·a (02, x).
+-- How many elements b have a·b = b·a (RULES 4.5).
 unfoldable pub commuting : ℕ → Product → ℕ → ℕ
 commuting n s a = count (λ b. eqb (s a b) (s b a)) (elements n)
 
@@ -112,7 +112,7 @@ profile n s a =
       commuting = commuting n s a;
     }
 
--- The profile with row and column counts exchanged (02, ix).
+-- The profile with row and column counts exchanged (RULES 10.3).
 abbrev pub exchanged : Profile → Profile
 exchanged v = record { powers = v .powers; frequency = v .frequency; diagonal = v .diagonal; row = v .column; column = v .row; commuting = v .commuting }
 
@@ -142,7 +142,7 @@ pub record IsProfile (n : ℕ) (cells : List ℕ) (a : ℕ) (v : Profile) : Type
 -- ---- examples
 
 -- The two tables of order 3 in which 3 is its own square alone, `1,1,1/1,1,1/1,1,3` and `1,1,1/1,1,1/1,2,3`: their elements 3 have index, period and all
--- four frequencies equal, and only the count of commuting elements tells them apart (02, x).
+-- four frequencies equal, and only the count of commuting elements tells them apart (RULES 4.5).
 abbrev pub CommutingExamples : Type 0
 CommutingExamples =
     let s = product 3 (1 ∷ 1 ∷ 1 ∷ 1 ∷ 1 ∷ 1 ∷ 1 ∷ 1 ∷ 3 ∷ []) in

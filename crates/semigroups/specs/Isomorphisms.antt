@@ -13,7 +13,7 @@ pub record IsGroup (n : ℕ) (own : List (List ℕ)) : Type 0 where
   pub has-identity : List·Memᴰ (identity n) own
   pub has-composites : (a b : List ℕ) → List·Memᴰ a own → List·Memᴰ b own → List·Memᴰ (after a b) own
   pub has-inverses : (a : List ℕ) → List·Memᴰ a own → List·Memᴰ (inverse n a) own
-  -- The inverse is as 01 has it: the byte at the place that a's byte i names is i.
+  -- The inverse is as RULES 5.8 has it: the byte at the place that a's byte i names is i.
   pub inverse-at : (a : List ℕ) → List·Memᴰ a own → (i : ℕ) → Element n i → at (inverse n a) (at a i) ≡ i
 
 -- f done after each entry of `own` gives each entry of `every` exactly once and nothing else: every map made stands in `every`,

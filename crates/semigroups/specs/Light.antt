@@ -1,4 +1,4 @@
--- The shorter check of a table whose generators are known (02, viii), which is Light's associativity test: only triples whose middle is on the list
+-- The shorter check of a table whose generators are known (RULES 15), which is Light's associativity test: only triples whose middle is on the list
 -- are looked at. Assumes nothing.
 use mathlib.Core.Path.{_≡_}
 use mathlib.Core.Bool.{true, _&&_, not}

@@ -17,7 +17,7 @@ unfoldable pub range : ℕ → ℕ → List ℕ
 range i zero = []
 range i (suc k) = i ∷ range (suc i) k
 
--- The numbers 1 to n: the elements of a table of order n (01, "Tables and elements").
+-- The numbers 1 to n: the elements of a table of order n (RULES 3.2).
 unfoldable pub elements : ℕ → List ℕ
 elements n = range 1 n
 
@@ -73,7 +73,7 @@ distinct (x ∷ l) = let r = distinct l in not (member x l) && r
 
 -- ---- list order
 
--- List a is earlier than list b when, at the first entry where they differ, a's is smaller (01, "Maps").
+-- List a is earlier than list b when, at the first entry where they differ, a's is smaller (RULES 6.1).
 unfoldable pub earlier : List ℕ → List ℕ → Bool
 earlier [] b = false
 earlier (x ∷ a) [] = false

@@ -1,4 +1,4 @@
--- The map check (01, "Maps"): "holds", or the earliest fault of m bytes as an embedding.
+-- The map check (RULES 12): "holds", or the earliest fault of m bytes as an embedding.
 -- Assumes nothing.
 use mathlib.Core.Path.{_≡_}
 use mathlib.Core.Bool.{_&&_, not}

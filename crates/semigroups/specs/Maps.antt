@@ -1,4 +1,4 @@
--- Maps from a table of order m with product s to one of order n with product t (arXiv 1603.06204, section 2; 01, "Maps").
+-- Maps from a table of order m with product s to one of order n with product t (arXiv 1603.06204, section 2; RULES 5).
 -- A map is the list of its m images. The full lists come from the products alone, and from nothing that a search found.
 -- Assumes nothing.
 use mathlib.Core.Path.{_≡_}
@@ -30,7 +30,7 @@ module _ (m : ℕ) (s : Product) (n : ℕ) (t : Product) where
     pub same-order : m ≡ n
     pub embedding : Embedding f
 
-  -- A reversed isomorphism: one to one, onto, and the image of i·j is the image of j times the image of i (02, ix).
+  -- A reversed isomorphism: one to one, onto, and the image of i·j is the image of j times the image of i (RULES 5.5).
   pub record ReversedIsomorphism (f : List ℕ) : Type 0 where
     pub size : length f ≡ m
     pub within : (i : ℕ) → Element m i → Element n (at f i)
@@ -98,7 +98,7 @@ abbrev pub sought : Option (List ℕ) → Sought
 sought (some f) = found
 sought none = nothing
 
--- ---- identity, composite, inverse (01, "Walks")
+-- ---- identity, composite, inverse (RULES 5.8)
 
 -- Byte i is i.
 unfoldable pub identity : ℕ → List ℕ
@@ -108,6 +108,6 @@ identity n = elements n
 unfoldable pub after : List ℕ → List ℕ → List ℕ
 after a b = map (at a) b
 
--- The inverse, which 01 calls the reverse, of a map of n elements onto themselves: the byte at the place that a's byte i names is i.
+-- The inverse, in RULES 5.8 the reverse, of a map of n elements onto themselves: the byte at the place that a's byte i names is i.
 unfoldable pub inverse : ℕ → List ℕ → List ℕ
 inverse n a = map (λ j. least n (λ i. eqb (at a i) j)) (elements n)

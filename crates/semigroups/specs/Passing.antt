@@ -1,4 +1,4 @@
--- What passes the questions of each call, in plain words (01, "The questions"): a call is not refused exactly there. For a table it is `Accepted`,
+-- What passes the questions of each call, in plain words (RULES 7.3): a call is not refused exactly there. For a table it is `Accepted`,
 -- and for cells that are saved `Filled` (Tables).
 -- Assumes nothing.
 use mathlib.Core.Path.{_≡_}

@@ -1,4 +1,4 @@
--- What is said of reversed isomorphisms (02, ix), for accepted tables and at the full lists that the contracts cite. Assumes nothing.
+-- What is said of reversed isomorphisms (RULES 10), for accepted tables and at the full lists that the contracts cite. Assumes nothing.
 use mathlib.Core.Path.{_≡_}
 use mathlib.Core.Logic.{_⊎_, _↔_}
 use mathlib.Core.List.{List, [], _∷_, List·Memᴰ}

@@ -1,4 +1,4 @@
--- The layout of the scratch buffer (01, "Maps"; 02, (v)): one bit for each pair of a source and a target element. The one place that knows where the
+-- The layout of the scratch buffer (RULES 8.2): one bit for each pair of a source and a target element. The one place that knows where the
 -- mark of a pair stands and how many bytes the marks take.
 -- Assumes nothing.
 use mathlib.Core.Path.{_≡_}

@@ -1,5 +1,5 @@
--- The part of an accepted table that a list of chosen elements generates, as a table of its own (02, xii). It is the subsemigroup that the list generates
--- (source document 000, section 2); its elements are renumbered in rising order. Assumes nothing.
+-- The part of an accepted table that a list of chosen elements generates, as a table of its own (RULES 16). It is the subsemigroup that the list generates
+-- (East, Egri-Nagy and Mitchell, arXiv 1403.0274, section 2); its elements are renumbered in rising order. Assumes nothing.
 use mathlib.Core.Path.{_≡_}
 use mathlib.Core.Bool.{_&&_}
 use mathlib.Core.Logic.{_↔_}

@@ -26,7 +26,7 @@ product n cells i j = getD cells (cellPlace n i j) 0
 unfoldable pub grid : ℕ → ℕ → (ℕ → ℕ → ℕ) → List ℕ
 grid m n f = flatMap (λ i. map (f i) (elements n)) (elements m)
 
--- The product with its factors exchanged, and the table of it: rows stand as columns (02, ix: a table that gives the column's element first).
+-- The product with its factors exchanged, and the table of it: rows stand as columns (RULES 10.1: a table that gives the column's element first).
 abbrev pub turned : Product → Product
 turned s = λ i j. s j i
 
@@ -67,7 +67,7 @@ pub record Filled (n : ℕ) (cells : List ℕ) : Type 0 where
   pub size : length cells ≡ n * n
   pub in-range : (k : ℕ) → k < length cells → Element n (getD cells k 0)
 
--- A table is accepted (01, "Tables and elements").
+-- A table is accepted (RULES 3.4).
 pub record Accepted (n : ℕ) (cells : List ℕ) : Type 0 where
   pub filled : Filled n cells
   pub associative : Associative n (product n cells)

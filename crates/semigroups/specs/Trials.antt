@@ -1,4 +1,4 @@
--- How much work a search takes (02, (vi)): the search of arXiv 1603.06204, section 3, with its trials counted. It takes any candidates and either asking.
+-- How much work a search takes (RULES 9): the search of arXiv 1603.06204, section 3, with its trials counted. It takes any candidates and either asking.
 -- Assumes nothing.
 use mathlib.Core.Path.{_≡_}
 use mathlib.Core.Bool.{Bool, _&&_, not, cond}

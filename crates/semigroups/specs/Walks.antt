@@ -1,4 +1,4 @@
--- Walks (01, "Walks"): lists of calls on one map buffer, each of which is refused or asks for the next entry of a list.
+-- Walks (RULES 13): lists of calls on one map buffer, each of which is refused or asks for the next entry of a list.
 -- C is a call with all that it lends apart from the map buffer.
 -- Assumes nothing.
 use mathlib.Core.Bool.{cond}

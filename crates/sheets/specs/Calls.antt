@@ -1,4 +1,4 @@
--- What a call that loads or saves a name sheet says, and the bytes that it leaves, from all that is lent (02, (iii)). Loading is said by any reading
+-- What a call that loads or saves a name sheet says, and the bytes that it leaves, from all that is lent (RULES 20). Loading is said by any reading
 -- of the text: every text has one, and all say the same (`Readable` and `SameReading` in Readings).
 -- Assumes nothing.
 use mathlib.Core.Path.{_≡_}

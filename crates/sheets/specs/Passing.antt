@@ -1,4 +1,4 @@
--- What passes the questions about loading and saving a name sheet, in plain words (02, (iii)): a call is not refused exactly there.
+-- What passes the questions about loading and saving a name sheet, in plain words (RULES 20): a call is not refused exactly there.
 -- Assumes nothing.
 use mathlib.Core.Path.{_≡_}
 use mathlib.Core.List.{List, map, flatten, List·Memᴰ}

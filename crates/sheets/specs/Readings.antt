@@ -1,4 +1,4 @@
--- What is so of a text by question 40 (02, (iii)): it passes, or it does not and has an offending place.
+-- What is so of a text by question 40 (RULES 20.8): it passes, or it does not and has an offending place.
 -- Assumes nothing.
 use mathlib.Core.Path.{_≡_}
 use mathlib.Core.List.{List, [], _∷_, _++_, map}

@@ -1,4 +1,4 @@
--- What 02, (iii) asks to be so of name sheets, as sentences about the definitions. Assumes nothing.
+-- What RULES 20 asks to be so of name sheets, as sentences about the definitions. Assumes nothing.
 use mathlib.Core.Path.{_≡_}
 use mathlib.Core.Bool.{true}
 use mathlib.Core.Logic.{_⊎_, _↔_}
@@ -35,5 +35,5 @@ pub record NameRequests : Type 0 where
   -- "Loading and saving a second time changes no byte": of a sheet that was saved, and of any that loads, however often.
   pub saved-stays : SavedSheetStays
   pub loaded-stays : LoadedSheetStays
-  -- "Record ends follow the rule of (ii)."
+  -- "Record ends follow 19.2."
   pub last-break : LastBreakMayLack

@@ -1,4 +1,4 @@
--- The round trips of a name sheet (02, (iii)); and rounds: a sheet is loaded and what was loaded is saved, again and again, on the same buffers.
+-- The round trips of a name sheet (RULES 20.5); and rounds: a sheet is loaded and what was loaded is saved, again and again, on the same buffers.
 -- Assumes nothing.
 use mathlib.Core.Path.{_≡_}
 use mathlib.Core.Bool.{false}
@@ -32,7 +32,7 @@ pub record SavedNamesLoad (names lengths text namesBuffer lengthsBuffer : List �
   pub up-to-last : length bytes ≡ sum (λ (n : ℕ). n) lengths
   pub loaded : LoadsAs (take size (sheetAfter names lengths text)) bytes lengths namesBuffer lengthsBuffer
 
--- A sheet without its last line break loads exactly as if CR LF followed (02, (ii)).
+-- A sheet without its last line break loads exactly as if CR LF followed (RULES 20.4).
 pub record LoadsClosed (t names lengths : List ℕ) : Type 0 where
   pub count : (v : Reading t) (w : Reading (t ++ 13 ∷ 10 ∷ [])) → loadNamesAnswer v names lengths ≡ loadNamesAnswer w names lengths
   pub names-same : (v : Reading t) (w : Reading (t ++ 13 ∷ 10 ∷ [])) → namesAfter v names lengths ≡ namesAfter w names lengths

@@ -1,4 +1,4 @@
--- What the answers about a table mean (01, "The questions"): for each case the number of the question and the values said with it.
+-- What the answers about a table mean (RULES 7): for each case the number of the question and the values said with it.
 -- Assumes nothing.
 use mathlib.Core.List.{[], _∷_}
 use mathlib.Core.Option.{Option, none, some}

@@ -1,5 +1,4 @@
--- What a call that writes the table of all transformations says and leaves in the buffer (01, "Tables of all
--- transformations" and "The questions"). Assumes nothing.
+-- What a call that writes the table of all transformations says and leaves in the buffer (RULES 14 and 7). Assumes nothing.
 use mathlib.Core.List.{List, [], _∷_}
 use mathlib.Core.Option.{Option}
 use Prim.Native.Nat.{ℕ}

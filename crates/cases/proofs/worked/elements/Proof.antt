@@ -1,4 +1,4 @@
--- `elements` meets its contract: the numbers of 01 are those of the definitions. Assumes nothing.
+-- `elements` meets its contract: the numbers of RULES 23.2 are those of the definitions. Assumes nothing.
 use mathlib.Core.Path.{_≡_, refl, ap, _∙_}
 use mathlib.Core.Bool.{true}
 use mathlib.Core.List.{flatMap}

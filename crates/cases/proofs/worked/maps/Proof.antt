@@ -1,4 +1,4 @@
--- `maps` meets its contract: the tables are accepted, every call agrees, and the full lists have as many maps as 01 gives. Assumes nothing.
+-- `maps` meets its contract: the tables are accepted, every call agrees, and the full lists have as many maps as RULES 23.2 gives. Assumes nothing.
 use mathlib.Core.Path.{_≡_, refl}
 use mathlib.Core.Bool.{true, false}
 use mathlib.Core.List.{List, [], _∷_, flatMap}

@@ -1,4 +1,4 @@
--- `tables` meets its contract: what 01 says of the three tables is what the definition says. Assumes nothing.
+-- `tables` meets its contract: what RULES 23.2 says of the three tables is what the definition says. Assumes nothing.
 use mathlib.Core.Path.{_≡_, refl, ap, _∙_}
 use mathlib.Core.Bool.{true}
 use mathlib.Core.List.{[], _∷_, flatMap}
