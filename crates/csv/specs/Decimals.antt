@@ -9,11 +9,6 @@ use lib.Dec.{leb, ltb}
 unfoldable pub isDigit : ℕ → Bool
 isDigit b = leb 48 b && leb b 57
 
--- The digits that a list of bytes begins with.
-unfoldable pub digits : List ℕ → List ℕ
-digits [] = []
-digits (b ∷ t) = let r = digits t in cond (isDigit b) (b ∷ r) []
-
 -- The number that v and the digits behind it make.
 unfoldable pub valueFrom : ℕ → List ℕ → ℕ
 valueFrom v [] = v

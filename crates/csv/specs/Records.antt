@@ -5,9 +5,8 @@
 -- Assumes nothing.
 use mathlib.Core.Bool.{Bool, _&&_, cond}
 use mathlib.Core.List.{List, [], _∷_, _++_, map, flatMap}
-use Prim.Native.Nat.{ℕ, _-_}
+use Prim.Native.Nat.{ℕ}
 use lib.Dec.{eqb}
-use lib.ListN.{length, getD}
 
 -- Whether two bytes in a row are a line break.
 unfoldable pub isBreak : ℕ → ℕ → Bool
@@ -28,15 +27,6 @@ records (b ∷ c ∷ t) =
     let closed = records t in
     let open-record = records (c ∷ t) in
     cond (isBreak b c) ([] ∷ closed) (onto b open-record)
-
--- Whether the last two bytes of a text are a line break.
-unfoldable pub endsInBreak : List ℕ → Bool
-endsInBreak t = isBreak (getD t (length t - 2) 0) (getD t (length t - 1) 0)
-
--- The text with the line break added that its last record lacks (RULES 19.2). A text with no byte has no record.
-unfoldable pub closed : List ℕ → List ℕ
-closed [] = []
-closed (b ∷ t) = cond (endsInBreak (b ∷ t)) (b ∷ t) ((b ∷ t) ++ 13 ∷ 10 ∷ [])
 
 -- The fields of a record. A record with no byte is one field with no byte.
 unfoldable pub fields : List ℕ → List (List ℕ)

@@ -7,8 +7,10 @@ use mathlib.Core.Option.{none, some}
 use Prim.Native.Nat.{ℕ, _<_}
 use lib.ListN.{length, take}
 use Rattle.semigroups.specs.Lists.{member}
-use Rattle.semigroups.specs.Questions.{Refusal, no}
-use Rattle.files.specs.Files.{fileRefusal, FilePasses, room}
+use Rattle.semigroups.specs.Questions.{Refusal}
+use Rattle.semigroups.specs.QuestionsLaws.{no}
+use Rattle.files.specs.Files.{fileRefusal, room}
+use Rattle.files.specs.FilesLaws.{FilePasses}
 
 -- The numbers that a refused file can get where there is room for every table: not 2, since a text that loads has a cell for each pair; not 22, which is
 -- never asked; not 27, since there is room.

@@ -7,10 +7,10 @@ ghost use Rattle.semigroups.specs.Tables.{product, Element, Filled, Associative
 ghost use Rattle.semigroups.specs.Questions.{elementRefusal};
 ghost use Rattle.semigroups.specs.Invariants.{indexPeriod, rowFrequency, columnFrequency, commuting, profile};
 ghost use Rattle.semigroups.specs.Calls.{givenUnless};
-ghost use Rattle.tables.specs.Counting.{occurrences, InRange};
+ghost use Rattle.tables.specs.InnerCounting.{occurrences, InRange};
 ghost use Rattle.invariants.specs.Answers.{elementVerdictRefusal, indexPeriodValue, indexPeriodSays, profileValue, profileSays};
-ghost use Rattle.invariants.specs.PerElement.{AllIndexPeriodKeys, AllLineCounts, AllCounts};
-ghost use Rattle.invariants.specs.Powers.{settled};
+ghost use Rattle.invariants.specs.InnerPerElement.{AllIndexPeriodKeys, AllLineCounts, AllCounts};
+ghost use Rattle.invariants.specs.InnerPowers.{settled};
 use tables::No;
 use tables::Verdict;
 use tables::counts::frequencies;

@@ -2,9 +2,9 @@
 ghost use mathlib.Core.Path.{_≡_};
 ghost use mathlib.Core.Bool.{true};
 ghost use Rattle.semigroups.specs.Questions.{tableRefusal};
-ghost use Rattle.plain.specs.Said.{saidOf};
-ghost use Rattle.judging.specs.Said.{sameSaid};
-ghost use Rattle.judging.specs.Tally.{counted};
+ghost use Rattle.plain.specs.InnerSaid.{saidOf};
+ghost use Rattle.judging.specs.InnerSaid.{sameSaid};
+ghost use Rattle.judging.specs.InnerTally.{counted};
 use crate::said::said_of;
 use crate::said::same_said;
 use crate::tally::Tally;

@@ -9,14 +9,16 @@ use Prim.Native.Nat.{ℕ}
 use lib.Dec.{eqb}
 use Rattle.semigroups.specs.Tables.{Product, product, Element, Accepted}
 use Rattle.semigroups.specs.Questions.{Refusal}
-use Rattle.semigroups.specs.Invariants.{index, period, idempotentPower, TheIdempotentPower, commuting}
+use Rattle.semigroups.specs.Invariants.{index, period, idempotentPower, commuting}
+use Rattle.semigroups.specs.InvariantsLaws.{TheIdempotentPower}
 use Rattle.semigroups.specs.Maps.{embeddings, isomorphisms, reversed}
 use Rattle.semigroups.specs.Candidates.{candidate}
-use Rattle.semigroups.specs.Generated.{GeneratedTheorem}
-use Rattle.semigroups.specs.Light.{LightsLaw, LightsTheorem, generatorsRefusal, GeneratorsPass, GeneratorsRefused}
-use Rattle.semigroups.specs.Reversed.{ReversedTheorem}
-use Rattle.semigroups.specs.Subsemigroups.{SubsemigroupTheorem}
-use Rattle.semigroups.specs.Copies.{CopiesTheorem}
+use Rattle.semigroups.specs.GeneratedLaws.{GeneratedTheorem}
+use Rattle.semigroups.specs.LightLaws.{LightsLaw, LightsTheorem, GeneratorsPass, GeneratorsRefused}
+use Rattle.semigroups.specs.Light.{generatorsRefusal}
+use Rattle.semigroups.specs.ReversedLaws.{ReversedTheorem}
+use Rattle.semigroups.specs.SubsemigroupsLaws.{SubsemigroupTheorem}
+use Rattle.semigroups.specs.CopiesLaws.{CopiesTheorem}
 
 pub record TableRequests : Type 1 where
   -- RULES 4.3: "The one power e of the element with e·e = e", whatever the exponents of the others.

@@ -7,15 +7,21 @@ use mathlib.Core.List.{List, [], List·Memᴰ}
 use mathlib.Core.Option.{some}
 use Prim.Native.Nat.{ℕ, suc, _+_, _*_, _^_, _≤_, _<_}
 use lib.ListN.{length}
-use Rattle.semigroups.specs.Lists.{elements, at, sum, Increasing, Earliest}
-use Rattle.semigroups.specs.Tables.{product, Element, IsList, Accepted}
-use Rattle.semigroups.specs.Questions.{Refusal, tableRefusal, Refused}
-use Rattle.semigroups.specs.Invariants.{power, index, period, idempotentPower, TheIdempotentPower, frequency, diagonalFrequency, Profile, profile, IsProfile}
-use Rattle.semigroups.specs.Maps.{Embedding, Isomorphism, Kind, IsMap, maps, Ask, beyond, earliest}
-use Rattle.semigroups.specs.MapCheck.{Checked, checkMap, IsChecked}
+use Rattle.semigroups.specs.Lists.{elements, at, sum}
+use Rattle.semigroups.specs.ListsLaws.{Increasing, Earliest}
+use Rattle.semigroups.specs.Tables.{product, Element, Accepted}
+use Rattle.semigroups.specs.TablesLaws.{IsList}
+use Rattle.semigroups.specs.Questions.{Refusal, tableRefusal}
+use Rattle.semigroups.specs.QuestionsLaws.{Refused}
+use Rattle.semigroups.specs.Invariants.{power, index, period, idempotentPower, frequency, diagonalFrequency, Profile, profile}
+use Rattle.semigroups.specs.InvariantsLaws.{TheIdempotentPower, IsProfile}
+use Rattle.semigroups.specs.MapsLaws.{Embedding, Isomorphism, IsMap, Among}
+use Rattle.semigroups.specs.Maps.{Kind, maps, Ask, beyond, earliest}
+use Rattle.semigroups.specs.MapCheck.{Checked, checkMap}
+use Rattle.semigroups.specs.MapCheckLaws.{IsChecked}
 use Rattle.semigroups.specs.Candidates.{candidate}
-use Rattle.semigroups.specs.Scratch.{marks, AreMarks}
-use Rattle.semigroups.specs.Search.{Among}
+use Rattle.semigroups.specs.Scratch.{marks}
+use Rattle.semigroups.specs.ScratchLaws.{AreMarks}
 use Rattle.semigroups.specs.Transformations.{transformations, transformationOrder, transformation, numberOf, transformationProduct, transformationCells}
 
 -- "Marks of an element", of an accepted table of order n with these cells.

@@ -8,7 +8,7 @@ use borrow.Author.Tests.{eq-eqb, eqb-true}
 use lib.Dec.{eqb}
 use Rattle.semigroups.proofs.Booleans.{impossible, or-holds}
 use Rattle.sheets.specs.Names.{isNumber, needsQuotes}
-use Rattle.sheets.specs.Automaton.{run, accepting, accepts, placeFrom, place}
+use Rattle.sheets.specs.InnerAutomaton.{run, accepting, accepts, placeFrom, place}
 use Rattle.sheets.specs.Requests.{NameRequests}
 use Rattle.sheets.proofs.Numbers.{name-exactly, number-is, is-number}
 use Rattle.sheets.proofs.Readings.{read, same-reading, refused-reading}

@@ -6,12 +6,13 @@ use mathlib.Core.List.{List, [], _∷_, List·Memᴰ}
 use mathlib.Core.Option.{none, some}
 use Prim.Native.Nat.{ℕ, _≤_}
 use Rattle.csv.specs.Decimals.{numeral}
-use Rattle.sheets.specs.Readings.{Reading, offence, Readable, SameReading}
+use Rattle.sheets.specs.Readings.{Reading, offence}
+use Rattle.sheets.specs.ReadingsLaws.{Readable, SameReading}
 use Rattle.sheets.specs.Names.{isName, isNumber, needsQuotes}
 use Rattle.sheets.specs.Questions.{loadNamesRefusal, saveNamesRefusal}
-use Rattle.sheets.specs.Passing.{Name, LoadNamesPass, SaveNamesPass}
-use Rattle.sheets.specs.Calls.{LoadKeeps, SaveKeeps}
-use Rattle.sheets.specs.Rounds.{SavedNamesAreLoaded, LastBreakMayLack, SavedSheetStays, LoadedSheetStays}
+use Rattle.sheets.specs.PassingLaws.{Name, LoadNamesPass, SaveNamesPass}
+use Rattle.sheets.specs.CallsLaws.{LoadKeeps, SaveKeeps}
+use Rattle.sheets.specs.RoundsLaws.{SavedNamesAreLoaded, LastBreakMayLack, SavedSheetStays, LoadedSheetStays}
 
 pub record NameRequests : Type 0 where
   -- "A name is 1 to 40 bytes from hexadecimal 20 to 7E."

@@ -8,12 +8,13 @@ use native.Mathlib.Omega.{arith}
 use lib.ListN.{replicate}
 use Rattle.semigroups.specs.Lists.{range, elements, at, all, find, keep, sum, count, member, distinct, earlier, lists, firstOf}
 use Rattle.semigroups.specs.Tables.{Accepted, product, isElement, associates, badCell, badTriple}
-use Rattle.semigroups.specs.Questions.{cellsRefusal, tableRefusal}
+use Rattle.semigroups.specs.QuestionsLaws.{cellsRefusal}
+use Rattle.semigroups.specs.Questions.{tableRefusal}
 use Rattle.semigroups.specs.Maps.{isHomomorphism, isEmbedding, isIsomorphism, maps}
 use Rattle.semigroups.proofs.Tables.{accepted}
-use Rattle.cases.specs.Embedded.{mat5Cells}
-use Rattle.judging.specs.Tally.{empty, agreed}
-use Rattle.comparisons.specs.Walking.{laterMaps, walkCalls}
+use Rattle.cases.specs.InnerEmbedded.{mat5Cells}
+use Rattle.judging.specs.InnerTally.{empty, agreed}
+use Rattle.comparisons.specs.InnerWalking.{laterMaps, walkCalls}
 use Rattle.judging.proofs.Counting.{calls-more}
 use borrow.Author.Needs.{needs}
 use Rattle.cases.proofs.worked.maps.Statement.{statement}
