@@ -9,7 +9,7 @@ use Rattle.csv.specs.Questions.{loadRefusal, saveRefusal}
 
 -- ---- loading a text into a cell buffer
 
--- The order is given.
+-- What a call that loads answers: the order.
 unfoldable pub loadAnswer : List ℕ → List ℕ → Answer ℕ
 loadAnswer t cells = givenUnless (loadRefusal t (length cells)) (orderOf t)
 
@@ -18,7 +18,7 @@ cellsAfter t cells = writtenUnless (loadRefusal t (length cells)) (cellsOf t) ce
 
 -- ---- saving the table of order n with these cells into a text buffer
 
--- The length is given.
+-- What a call that saves answers: the length of the text.
 unfoldable pub saveAnswer : ℕ → List ℕ → List ℕ → Answer ℕ
 saveAnswer n cells text = givenUnless (saveRefusal n cells (length text)) (length (tableText n cells))
 

@@ -1,5 +1,4 @@
--- What the answers of a search mean (RULES 7 and 9.4): what is said, and for each refusal the number, the side and the values.
--- Assumes nothing.
+-- What the answers of a search mean (RULES 7 and 9.4): the answer, and for each refusal the number, the side and the values. Assumes nothing.
 use mathlib.Core.Bool.{Bool, true, false}
 use mathlib.Core.List.{[]}
 use mathlib.Core.Option.{Option, none, some}
@@ -25,7 +24,7 @@ kindOf Embeddings = maps.embeddings
 kindOf Isomorphisms = maps.isomorphisms
 kindOf Reversed = maps.reversed
 
--- 1 to 4 name their side and carry the cell or the triple; 5, 6 and 70 name none and carry nothing.
+-- The refusal of each fault. Questions 1 to 4 name their side and carry the cell or the triple; 5, 6 and 70 name no side and carry nothing.
 abbrev pub searchFaultRefusal : SearchFault → Refusal
 searchFaultRefusal (Table side fault) = naming (sideNumber side) (faultRefusal fault)
 searchFaultRefusal MapLength = no 5 []

@@ -38,7 +38,7 @@ null3 = record { order = 3; cells = replicate 9 1 }
 unfoldable pub two : Table
 two = record { order = transformationOrder 2; cells = transformationCells 2 }
 
--- 1603.06204, example 5.2.
+-- The table of arXiv 1603.06204, example 5.2.
 abbrev pub mat5 : Table
 mat5 = record { order = 5; cells = 1 ∷ 1 ∷ 1 ∷ 1 ∷ 1 ∷ 1 ∷ 2 ∷ 3 ∷ 2 ∷ 3 ∷ 1 ∷ 1 ∷ 1 ∷ 2 ∷ 3 ∷ 1 ∷ 4 ∷ 5 ∷ 4 ∷ 5 ∷ 1 ∷ 1 ∷ 1 ∷ 4 ∷ 5 ∷ [] }
 
@@ -93,11 +93,11 @@ cases =
 
 pub record Worked : Type 0 where
   pub thirteen : length cases ≡ 13
-  -- By the definitions each query's result is the one that stands beside it.
+  -- By the definitions, each query's result is the one that is given beside it.
   pub results : (c : Case) → List·Memᴰ c cases → result (c .asks) ≡ c .says
-  -- Each table that is named is accepted.
+  -- Each named table is accepted.
   pub accepted : (t : Table) → List·Memᴰ t tables → Accepted (t .order) (t .cells)
   -- The degree 2 table has the cells that RULES 23.1 prints.
   pub two-printed : two ≡ record { order = 4; cells = 1 ∷ 1 ∷ 4 ∷ 4 ∷ 1 ∷ 2 ∷ 3 ∷ 4 ∷ 1 ∷ 3 ∷ 2 ∷ 4 ∷ 1 ∷ 4 ∷ 1 ∷ 4 ∷ [] }
-  -- The tables of transformations (RULES 14.3): orders 1, 4, 27; cells 1, 16, 729.
+  -- The tables of transformations (RULES 14.3) have orders 1, 4 and 27, and 1, 16 and 729 cells.
   pub degrees-printed : map (λ d. transformationOrder d ∷ length (transformationCells d) ∷ []) (elements 3) ≡ (1 ∷ 1 ∷ []) ∷ (4 ∷ 16 ∷ []) ∷ (27 ∷ 729 ∷ []) ∷ []

@@ -30,13 +30,13 @@ pub data Kind : Type 0 where
   isomorphisms : Kind
   reversed : Kind
 
--- A reversed isomorphism is an isomorphism onto the turned product.
+-- Whether a list is a map of the kind. A reversed isomorphism is an isomorphism onto the turned product.
 abbrev pub isMap : Kind → ℕ → Product → ℕ → Product → List ℕ → Bool
 isMap embeddings = isEmbedding
 isMap isomorphisms = isIsomorphism
 isMap reversed = λ m s n t. isIsomorphism m s n (turned t)
 
--- The full list of a kind: every map of that kind once, each earlier than the one behind it.
+-- The full list of a kind: every map of that kind once, each earlier than the one that follows it.
 unfoldable pub maps : Kind → ℕ → Product → ℕ → Product → List (List ℕ)
 maps kind m s n t = keep (isMap kind m s n t) (lists m n)
 
@@ -47,7 +47,7 @@ pub data Ask : Type 0 where
   first : Ask
   next : List ℕ → Ask
 
--- Whether a list is late enough.
+-- Whether a list is late enough for what is asked.
 abbrev pub beyond : Ask → List ℕ → Bool
 beyond first f = true
 beyond (next b) f = earlier b f
@@ -66,6 +66,6 @@ sought none = nothing
 
 -- ---- identity, composite, inverse (RULES 5.8)
 
--- a done after b, their composite: byte i is a's byte at the place that b's byte i names.
+-- The composite of a and b, which is a done after b: byte i is a's byte at the place that b's byte i names.
 unfoldable pub after : List ℕ → List ℕ → List ℕ
 after a b = map (at a) b

@@ -1,5 +1,5 @@
--- Sheets of two fields a record, as RFC 4180, section 2, writes them: which texts there are, and the values of their fields. The names of the
--- constructors are those of the RFC's grammar. Stricter than it by RULES 20.1: every record has two fields, and no record is a header.
+-- Sheets of records with two fields, as RFC 4180, section 2, writes them: which texts there are, and the values of their fields. The names of the
+-- constructors are those of the RFC's grammar. It is stricter than the RFC by RULES 20.1: every record has two fields, and no record is a header.
 -- Assumes nothing.
 use mathlib.Core.Path.{_≡_}
 use mathlib.Core.Bool.{Bool, true, _&&_, _||_, not, cond}
@@ -14,7 +14,7 @@ use Rattle.csv.specs.Every.{Every}
 unfoldable pub isPrintable : ℕ → Bool
 isPrintable b = leb 32 b && leb b 126
 
--- TEXTDATA: those but a comma, byte 44, and a quote mark, byte 34.
+-- TEXTDATA: any of those bytes but a comma, byte 44, and a quote mark, byte 34.
 unfoldable pub isTextData : ℕ → Bool
 isTextData b = isPrintable b && (not (eqb b 44) && not (eqb b 34))
 
@@ -24,7 +24,7 @@ isQuotable b = (isPrintable b && not (eqb b 34)) || (eqb b 13 || eqb b 10)
 
 -- ---- a sheet as it is written
 
--- Between quote marks: a byte, or 2DQUOTE.
+-- An item between quote marks: a byte, or 2DQUOTE.
 pub data Item : Type 0 where
   single : ℕ → Item
   twice : Item
@@ -38,7 +38,7 @@ pub record Entry : Type 0 where
   pub number : Field
   pub name : Field
 
--- One or more records; whether CR LF stands behind the last (RULES 20.4).
+-- One or more records, and whether CR LF stands after the last (RULES 20.4).
 pub record Sheet : Type 0 where
   pub first : Entry
   pub others : List Entry
@@ -73,7 +73,7 @@ fieldText (escaped i) = 34 ∷ flatMap itemText i ++ 34 ∷ []
 unfoldable pub entryText : Entry → List ℕ
 entryText e = fieldText (e .number) ++ 44 ∷ fieldText (e .name)
 
--- CR LF between two records.
+-- The text of the records, with CR LF between two.
 unfoldable pub entriesText : Entry → List Entry → List ℕ
 entriesText e [] = entryText e
 entriesText e (f ∷ fs) = entryText e ++ 13 ∷ 10 ∷ entriesText f fs

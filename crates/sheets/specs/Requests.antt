@@ -1,4 +1,4 @@
--- What RULES 20 asks to be so of name sheets, as sentences about the definitions. Assumes nothing.
+-- What RULES 20 says of name sheets, as sentences about the definitions. Assumes nothing.
 use mathlib.Core.Path.{_≡_}
 use mathlib.Core.Bool.{true}
 use mathlib.Core.Logic.{_⊎_, _↔_}
@@ -25,7 +25,7 @@ pub record NameRequests : Type 0 where
   pub readable : Readable
   pub same-reading : SameReading
   pub empty-offends : (w : Reading []) → offence w ≡ some (0 ∷ [])
-  -- What passes the questions, in plain words, both ways.
+  -- What passes the questions, in plain words and in both directions.
   pub load-passes : (t : List ℕ) (w : Reading t) (nameRoom lengthRoom : ℕ) → (loadNamesRefusal w nameRoom lengthRoom ≡ none) ↔ LoadNamesPass t nameRoom lengthRoom
   pub save-passes : (bytes lengths : List ℕ) (room : ℕ) → (saveNamesRefusal bytes lengths room ≡ none) ↔ SaveNamesPass bytes lengths room
   -- A refusal changes no byte.
