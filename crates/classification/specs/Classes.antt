@@ -38,10 +38,12 @@ filesOf folder = filesFrom folder 1 mostFiles
 
 -- ---- two files
 
+-- Whether there is no value.
 abbrev pub isNone : {A : Type 0} → Option A → Bool
 isNone none = true
 isNone (some x) = false
 
+-- Whether there is a value.
 abbrev pub isSome : {A : Type 0} → Option A → Bool
 isSome none = false
 isSome (some x) = true
@@ -69,6 +71,7 @@ pub data Note : Type 0 where
   refusedBy : ℕ → Note
   inClass : ℕ → ℕ → Note
 
+-- The note of a file, from its refusal if it has one, else from its order and the lowest file of its class.
 abbrev pub noteBy : Option Refusal → ℕ → ℕ → Note
 noteBy none order lowest = inClass order lowest
 noteBy (some r) order lowest = refusedBy (r .number)
@@ -82,8 +85,10 @@ module _ (files : List (List ℕ)) where
   unfoldable pub lowest : ℕ → ℕ
   lowest k = least k (λ j. alike (file j) (file k))
 
+  -- The note of file k.
   unfoldable pub noteOf : ℕ → Note
   noteOf k = noteBy (fileRefusal (file k) room) (orderOf (file k)) (lowest k)
 
+  -- The notes of all files, in file order.
   unfoldable pub notesOf : List Note
   notesOf = map noteOf (elements (length files))

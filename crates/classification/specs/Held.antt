@@ -19,17 +19,21 @@ abbrev pub noteFrom : ℕ → ℕ → Note
 noteFrom zero number = refusedBy number
 noteFrom (suc n) number = inClass (suc n) number
 
+-- The notes of the first `count` files, from the two arrays of bytes.
 unfoldable pub notesFrom : List ℕ → List ℕ → ℕ → List Note
 notesFrom orders numbers count = map (λ k. noteFrom (at orders k) (at numbers k)) (elements count)
 
+-- The notes that the classifier holds.
 abbrev pub notesIn : Classifier → List Note
 notesIn c = notesFrom (c .orders) (c .numbers) (c .count)
 
+-- The phase that a task and the buffer of cells stand for.
 abbrev pub phaseOf : Task → List ℕ → Phase
 phaseOf Read cells = reading
 phaseOf (Compare n j) cells = comparing n (take (n * n) cells) j
 phaseOf Stop cells = over
 
+-- The progress that the classifier and the buffer of cells stand for.
 abbrev pub progressOf : Classifier → List ℕ → Progress
 progressOf c cells = progress (notesIn c) (phaseOf (c .task) cells)
 

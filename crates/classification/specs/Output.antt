@@ -55,15 +55,19 @@ module _ (notes : List Note) where
   unfoldable pub members : ℕ → ℕ
   members a = count (isIn a) notes
 
+  -- The record of the class that file a names.
   unfoldable pub totalRecord : ℕ → List (List ℕ)
   totalRecord a = totalLine a (members a)
 
+  -- The records of the files, in file order.
   unfoldable pub noteRecords : List (List (List ℕ))
   noteRecords = map (λ k. noteRecord k (note k)) (elements (length notes))
 
+  -- The records of the classes.
   unfoldable pub totalRecords : List (List (List ℕ))
   totalRecords = map totalRecord lowestFiles
 
+  -- The text of all records.
   unfoldable pub notesText : List ℕ
   notesText = rowsText (noteRecords ++ totalRecords)
 

@@ -31,9 +31,11 @@ pub record Progress : Type 0 where
   pub notes : List Note
   pub phase : Phase
 
+-- The progress with these notes and this phase.
 abbrev pub progress : List Note → Phase → Progress
 progress notes phase = record { notes = notes; phase = phase }
 
+-- The progress before any file is read.
 abbrev pub start : Progress
 start = progress [] reading
 
@@ -43,6 +45,7 @@ wantedIn notes reading = cond (ltb (length notes) mostFiles) (suc (length notes)
 wantedIn notes (comparing n cells j) = j
 wantedIn notes over = 0
 
+-- The number of the file that is asked for, or 0 if none is.
 abbrev pub wanted : Progress → ℕ
 wanted s = wantedIn (s .notes) (s .phase)
 
@@ -77,6 +80,7 @@ stepIn notes (comparing n cells j) none = compared notes n cells j false
 stepIn notes (comparing n cells j) (some t) = compared notes n cells j (holdsLike t n cells)
 stepIn notes over answer = progress notes over
 
+-- The progress after the file asked for was read, or could not be opened.
 abbrev pub step : Progress → Option (List ℕ) → Progress
 step s answer = stepIn (s .notes) (s .phase) answer
 
@@ -88,6 +92,7 @@ SoundIn notes reading = length notes ≤ mostFiles
 SoundIn notes (comparing n cells j) = (length notes < mostFiles) × Accepted n cells × Element (length notes) j
 SoundIn notes over = length notes ≤ mostFiles
 
+-- What always holds of the progress.
 abbrev pub Sound : Progress → Type 0
 Sound s = SoundIn (s .notes) (s .phase)
 

@@ -13,6 +13,7 @@ use Rattle.csv.specs.Questions.{loadRefusal, saveRefusal}
 unfoldable pub loadAnswer : List ℕ → List ℕ → Answer ℕ
 loadAnswer t cells = givenUnless (loadRefusal t (length cells)) (orderOf t)
 
+-- The cell buffer after the call: the cells of the text; later bytes are untouched, and a refusal changes no byte.
 unfoldable pub cellsAfter : List ℕ → List ℕ → List ℕ
 cellsAfter t cells = writtenUnless (loadRefusal t (length cells)) (cellsOf t) cells
 
@@ -22,5 +23,6 @@ cellsAfter t cells = writtenUnless (loadRefusal t (length cells)) (cellsOf t) ce
 unfoldable pub saveAnswer : ℕ → List ℕ → List ℕ → Answer ℕ
 saveAnswer n cells text = givenUnless (saveRefusal n cells (length text)) (length (tableText n cells))
 
+-- The text buffer after the call: the text of the table; later bytes are untouched, and a refusal changes no byte.
 unfoldable pub textAfter : ℕ → List ℕ → List ℕ → List ℕ
 textAfter n cells text = writtenUnless (saveRefusal n cells (length text)) (tableText n cells) text

@@ -76,6 +76,7 @@ sizeQuestions t room = ask 1 (leb (orderOf t) 120) ∷ ask 27 (leb (orderOf t * 
 abbrev pub loadQuestions : List ℕ → ℕ → List Question
 loadQuestions t room = ask 20 (isElement longest (length t)) ∷ bytesQuestion t ∷ (gridQuestions (orderOf t) t ++ sizeQuestions t room)
 
+-- The refusal of a call that loads, if a question fails.
 unfoldable pub loadRefusal : List ℕ → ℕ → Option Refusal
 loadRefusal t room = firstNo (loadQuestions t room)
 
@@ -83,5 +84,6 @@ loadRefusal t room = firstNo (loadQuestions t room)
 abbrev pub saveQuestions : ℕ → List ℕ → ℕ → List Question
 saveQuestions n cells room = cellsQuestions n cells ++ ask 28 (leb (length (tableText n cells)) room) ∷ []
 
+-- The refusal of a call that saves, if a question fails.
 unfoldable pub saveRefusal : ℕ → List ℕ → ℕ → Option Refusal
 saveRefusal n cells room = firstNo (saveQuestions n cells room)

@@ -24,6 +24,7 @@ pub record TooLongClosed (t cells : List ℕ) : Type 0 where
   pub kept : cellsAfter t cells ≡ cells
   pub closed-kept : cellsAfter (closed t) cells ≡ cells
 
+-- What RULES 19.2 and 19.6 ask to be shown.
 pub record TextRequests : Type 0 where
   -- RULES 19.2: "Such a text now loads exactly as if CR LF followed": a text of at most 57,720 bytes with its last line break, and any text that loads.
   pub as-closed : (t cells : List ℕ) → length (closed t) ≤ longest → LoadsClosed t cells

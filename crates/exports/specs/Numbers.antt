@@ -41,9 +41,11 @@ pub record Returned : Type 0 where
   pub mapBytes : List ℕ
   pub scratch : List ℕ
 
+-- The record of these sixteen numbers and two buffers.
 abbrev pub returned : List ℕ → List ℕ → List ℕ → Returned
 returned answer mapBytes scratch = record { answer = answer; mapBytes = mapBytes; scratch = scratch }
 
+-- What a search returns to another language, from what it says and leaves.
 abbrev pub wordsOf : {A : Type 0} → (A → List ℕ) → Called A → Returned
 wordsOf values c = returned (answerWords values (c .says)) (c .mapBytes) (c .scratch)
 

@@ -14,6 +14,7 @@ loadedQuestions t = cellQuestion (orderOf t) (cellsOf t) ∷ tripleQuestion (ord
 abbrev pub fileQuestions : List ℕ → ℕ → List Question
 fileQuestions t room = loadQuestions t room ++ loadedQuestions t
 
+-- The refusal of a file, if a question fails.
 unfoldable pub fileRefusal : List ℕ → ℕ → Option Refusal
 fileRefusal t room = firstNo (fileQuestions t room)
 

@@ -17,6 +17,7 @@ use Rattle.files.specs.FilesLaws.{FilePasses}
 abbrev pub fileNumbers : List ℕ
 fileNumbers = 1 ∷ 3 ∷ 4 ∷ 20 ∷ 21 ∷ 23 ∷ 24 ∷ 25 ∷ 26 ∷ []
 
+-- What RULES 21 says of any file.
 pub record FileRules : Type 0 where
   -- No question fails exactly if the file loads and its table is accepted.
   pub passes : (t : List ℕ) (room : ℕ) → (fileRefusal t room ≡ none) ↔ FilePasses t room

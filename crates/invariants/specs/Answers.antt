@@ -27,6 +27,7 @@ elementVerdictRefusal (verdict.Refused r) = some (noRefusal r)
 abbrev pub indexPeriodValue : IndexPeriod → marks.IndexPeriod
 indexPeriodValue r = record { index = r .index; period = r .period; idempotent = r .idempotent }
 
+-- What an answer of the code says.
 abbrev pub indexPeriodSays : IndexPeriodAnswer → Answer marks.IndexPeriod
 indexPeriodSays (index-period.Value r) = gives (indexPeriodValue r)
 indexPeriodSays (index-period.Refused r) = refused (noRefusal r)
@@ -43,6 +44,7 @@ profileValue r =
       commuting = r .commuting;
     }
 
+-- What an answer of the code says.
 abbrev pub profileSays : ProfileAnswer → Answer marks.Profile
 profileSays (profile.Value r) = gives (profileValue r)
 profileSays (profile.Refused r) = refused (noRefusal r)

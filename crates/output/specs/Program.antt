@@ -11,6 +11,7 @@ use Rattle.csv.specs.Tables.{orderOf, cellsOf}
 use Rattle.output.specs.Records.{foundRecords, noneRecords, refusedRecords}
 use Rattle.files.specs.Files.{fileRefusal, room}
 
+-- The records of a map that is found, or of none.
 abbrev pub mapRecords : ℕ → ℕ → Option (List ℕ) → List (List (List ℕ))
 mapRecords m n (some f) = foundRecords m n f
 mapRecords m n none = noneRecords m n
@@ -31,5 +32,6 @@ recueRecords source target =
     let second = refusedUnless 2 (fileRefusal target room) answer in
     refusedUnless 1 (fileRefusal source room) second
 
+-- The whole output of the program, as text.
 unfoldable pub recueOutput : List ℕ → List ℕ → List ℕ
 recueOutput source target = rowsText (recueRecords source target)

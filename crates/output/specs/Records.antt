@@ -41,8 +41,10 @@ pairRecords m f = map (pairRecord f) (elements m)
 unfoldable pub foundRecords : ℕ → ℕ → List ℕ → List (List (List ℕ))
 foundRecords m n f = firstRecord foundWord m n ∷ pairRecords m f
 
+-- The records where there is no embedding: the first record alone.
 unfoldable pub noneRecords : ℕ → ℕ → List (List (List ℕ))
 noneRecords m n = firstRecord noneWord m n ∷ []
 
+-- The records of a refusal: one.
 unfoldable pub refusedRecords : ℕ → Refusal → List (List (List ℕ))
 refusedRecords side r = refusedRecord side r ∷ []

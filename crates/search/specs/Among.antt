@@ -18,6 +18,7 @@ use Rattle.search.specs.Allowed.{allowed, allowedCandidate}
 abbrev pub amongQuestions : ℕ → List ℕ → ℕ → List ℕ → ℕ → ℕ → ℕ → List Question
 amongQuestions m source n target mapLength scratchLength pairsLength = searchQuestions m source n target mapLength scratchLength ++ ask 70 (leb (scratchSize m n) pairsLength) ∷ []
 
+-- The refusal of a call with tables, map, scratch and pairs of these lengths, if a question fails.
 unfoldable pub amongRefusal : ℕ → List ℕ → ℕ → List ℕ → ℕ → ℕ → ℕ → Option Refusal
 amongRefusal m source n target mapLength scratchLength pairsLength = firstNo (amongQuestions m source n target mapLength scratchLength pairsLength)
 

@@ -19,6 +19,7 @@ use Rattle.search.specs.declared.SearchAnswer.the-variants as answer
 use Rattle.search.specs.declared.LimitedAnswer.{LimitedAnswer}
 use Rattle.search.specs.declared.LimitedAnswer.the-variants as limited
 
+-- The kind of maps that a value of the code stands for.
 abbrev pub kindOf : Kind → maps.Kind
 kindOf Embeddings = maps.embeddings
 kindOf Isomorphisms = maps.isomorphisms
@@ -31,19 +32,23 @@ searchFaultRefusal MapLength = no 5 []
 searchFaultRefusal ScratchLength = no 6 []
 searchFaultRefusal PairsLength = no 70 []
 
+-- The refusal, if the questions did not pass.
 abbrev pub questionsRefusal : Questions → Option Refusal
 questionsRefusal questions.Passed = none
 questionsRefusal (questions.Failed fault) = some (searchFaultRefusal fault)
 
+-- Found for true, none for false.
 abbrev pub soughtIf : Bool → maps.Sought
 soughtIf true = maps.found
 soughtIf false = maps.nothing
 
+-- What an answer of the code says.
 abbrev pub searchAnswerSays : SearchAnswer → Answer maps.Sought
 searchAnswerSays answer.Found = gives maps.found
 searchAnswerSays answer.Nothing = gives maps.nothing
 searchAnswerSays (answer.Refused fault) = refused (searchFaultRefusal fault)
 
+-- What an answer of the code says.
 abbrev pub limitedAnswerSays : LimitedAnswer → Answer Limited
 limitedAnswerSays (limited.Found trials) = gives (ended maps.found trials)
 limitedAnswerSays (limited.Nothing trials) = gives (ended maps.nothing trials)

@@ -15,10 +15,12 @@ use Rattle.semigroups.specs.Transformations.{transformationOrder, transf
 
 -- ---- the tables
 
+-- A table: its order and its cells.
 pub record Table : Type 0 where
   pub order : ℕ
   pub cells : List ℕ
 
+-- The tables of RULES 23.1: one, swap, left, right, null3, two and mat5.
 abbrev pub one : Table
 one = record { order = 1; cells = 1 ∷ [] }
 
@@ -42,11 +44,13 @@ two = record { order = transformationOrder 2; cells = transformationCells 2 }
 abbrev pub mat5 : Table
 mat5 = record { order = 5; cells = 1 ∷ 1 ∷ 1 ∷ 1 ∷ 1 ∷ 1 ∷ 2 ∷ 3 ∷ 2 ∷ 3 ∷ 1 ∷ 1 ∷ 1 ∷ 2 ∷ 3 ∷ 1 ∷ 4 ∷ 5 ∷ 4 ∷ 5 ∷ 1 ∷ 1 ∷ 1 ∷ 4 ∷ 5 ∷ [] }
 
+-- All of these tables.
 abbrev pub tables : List Table
 tables = one ∷ swap ∷ left ∷ right ∷ null3 ∷ two ∷ mat5 ∷ []
 
 -- ---- the queries
 
+-- What a case asks.
 pub data Query : Type 0 where
   isAccepted : Table → Query
   indexPeriodOf : Table → ℕ → Query
@@ -54,12 +58,14 @@ pub data Query : Type 0 where
   -- the maps of a kind from one table to another, asked for in turn
   mapsOf : Kind → Table → Table → List Ask → Query
 
+-- What a case says.
 pub data Result : Type 0 where
   aRefusal : Option Refusal → Result
   anIndexPeriod : IndexPeriod → Result
   aProfile : Profile → Result
   mapsInTurn : List (Option (List ℕ)) → Result
 
+-- The result of a query, by the definitions that contracts cite.
 unfoldable pub result : Query → Result
 result (isAccepted t) = aRefusal (tableRefusal (t .order) (t .cells))
 result (indexPeriodOf t a) = anIndexPeriod (indexPeriod (t .order) (product (t .order) (t .cells)) a)
@@ -68,10 +74,12 @@ result (mapsOf kind s t asks) =
     let l = maps kind (s .order) (product (s .order) (s .cells)) (t .order) (product (t .order) (t .cells)) in
     mapsInTurn (map (λ ask. earliest ask l) asks)
 
+-- A case: its query, and the result that RULES 23.2 gives.
 pub record Case : Type 0 where
   pub asks : Query
   pub says : Result
 
+-- The thirteen cases of RULES 23.2.
 unfoldable pub cases : List Case
 cases =
     record { asks = isAccepted (record { order = 2; cells = 2 ∷ 1 ∷ 1 ∷ 1 ∷ [] }); says = aRefusal (some (no 4 (1 ∷ 1 ∷ 2 ∷ []))) }
@@ -91,6 +99,7 @@ cases =
 
 -- ---- the claim that they share
 
+-- What is claimed of the thirteen cases.
 pub record Worked : Type 0 where
   pub thirteen : length cases ≡ 13
   -- By the definitions, each query's result is the one that is given beside it.

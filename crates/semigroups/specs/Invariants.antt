@@ -34,11 +34,13 @@ idempotentPower n s a = power s a (least n (λ k. eqb (s (power s a k) (power s 
 
 -- ---- the index-period
 
+-- The index and the period of an element, and its idempotent power.
 pub record IndexPeriod : Type 0 where
   pub index : ℕ
   pub period : ℕ
   pub idempotent : ℕ
 
+-- The index-period of element a.
 unfoldable pub indexPeriod : ℕ → Product → ℕ → IndexPeriod
 indexPeriod n s a = record { index = index n s a; period = period n s a; idempotent = idempotentPower n s a }
 
@@ -70,6 +72,7 @@ commuting n s a = count (λ b. eqb (s a b) (s b a)) (elements n)
 
 -- ---- the profile
 
+-- The profile of an element (definition 4.1; RULES 4.5): its index-period and five counts.
 pub record Profile : Type 0 where
   pub powers : IndexPeriod
   pub frequency : ℕ
@@ -78,6 +81,7 @@ pub record Profile : Type 0 where
   pub column : ℕ
   pub commuting : ℕ
 
+-- The profile of element a.
 unfoldable pub profile : ℕ → Product → ℕ → Profile
 profile n s a =
     record {

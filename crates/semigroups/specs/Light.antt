@@ -21,5 +21,6 @@ abbrev pub generatorsQuestions : ℕ → List ℕ → List ℕ → List Question
 generatorsQuestions n cells l =
     cellsQuestions n cells ++ ask 50 (all (isElement n) l) ∷ ask 51 (eqb (length (generated n (product n cells) l)) n) ∷ seek 4 (badTripleThrough n (product n cells) l) ∷ []
 
+-- The refusal of the shorter check, if a question fails.
 unfoldable pub generatorsRefusal : ℕ → List ℕ → List ℕ → Option Refusal
 generatorsRefusal n cells l = firstNo (generatorsQuestions n cells l)

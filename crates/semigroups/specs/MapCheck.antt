@@ -36,6 +36,7 @@ module _ (m : ℕ) (s : Product) (n : ℕ) (t : Product) (f : List ℕ) where
   unfoldable pub firstWrong : Option (List ℕ)
   firstWrong = find (λ l. not (eqb (at f (s (at l 1) (at l 2))) (t (at f (at l 1)) (at f (at l 2))))) (lists 2 m)
 
+  -- What the map check says of the m bytes f: an image outside, else equal images, else a wrong product, else that the map holds.
   unfoldable pub checkMap : Checked
   checkMap =
       let products = unless wrongProduct firstWrong holds in

@@ -65,6 +65,7 @@ cellsQuestions n cells = ask 1 (isElement 120 n) ∷ ask 2 (eqb (length cells) (
 abbrev pub tableQuestions : ℕ → List ℕ → List Question
 tableQuestions n cells = cellsQuestions n cells ++ tripleQuestion n cells ∷ []
 
+-- The refusal of a table, if a question fails.
 unfoldable pub tableRefusal : ℕ → List ℕ → Option Refusal
 tableRefusal n cells = firstNo (tableQuestions n cells)
 
@@ -74,6 +75,7 @@ tableRefusal n cells = firstNo (tableQuestions n cells)
 abbrev pub elementQuestions : ℕ → List ℕ → ℕ → List Question
 elementQuestions n cells a = tableQuestions n cells ++ ask 7 (isElement n a) ∷ []
 
+-- The refusal of a table and an element, if a question fails.
 unfoldable pub elementRefusal : ℕ → List ℕ → ℕ → Option Refusal
 elementRefusal n cells a = firstNo (elementQuestions n cells a)
 
@@ -85,6 +87,7 @@ tablesQuestions m source n target = map (onSide 1) (tableQuestions m source) ++ 
 abbrev pub checkQuestions : ℕ → List ℕ → ℕ → List ℕ → ℕ → List Question
 checkQuestions m source n target mapLength = tablesQuestions m source n target ++ ask 5 (eqb mapLength m) ∷ []
 
+-- The refusal of a map check, if a question fails.
 unfoldable pub checkRefusal : ℕ → List ℕ → ℕ → List ℕ → ℕ → Option Refusal
 checkRefusal m source n target mapLength = firstNo (checkQuestions m source n target mapLength)
 
@@ -92,6 +95,7 @@ checkRefusal m source n target mapLength = firstNo (checkQuestions m source n ta
 abbrev pub searchQuestions : ℕ → List ℕ → ℕ → List ℕ → ℕ → ℕ → List Question
 searchQuestions m source n target mapLength scratchLength = checkQuestions m source n target mapLength ++ ask 6 (leb (scratchSize m n) scratchLength) ∷ []
 
+-- The refusal of a search, if a question fails.
 unfoldable pub searchRefusal : ℕ → List ℕ → ℕ → List ℕ → ℕ → ℕ → Option Refusal
 searchRefusal m source n target mapLength scratchLength = firstNo (searchQuestions m source n target mapLength scratchLength)
 

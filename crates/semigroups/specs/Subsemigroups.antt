@@ -30,5 +30,6 @@ subsemigroupQuestions n cells l cellsLength elementsLength =
     let k = length (generated n (product n cells) l) in
     tableQuestions n cells ++ ask 60 (leb 1 (length l) && all (isElement n) l) ∷ ask 61 (leb (k * k) cellsLength) ∷ ask 62 (leb k elementsLength) ∷ []
 
+-- The refusal of a call that makes a table of a part, if a question fails.
 unfoldable pub subsemigroupRefusal : ℕ → List ℕ → List ℕ → ℕ → ℕ → Option Refusal
 subsemigroupRefusal n cells l cellsLength elementsLength = firstNo (subsemigroupQuestions n cells l cellsLength elementsLength)

@@ -49,9 +49,11 @@ pub record Accepted (n : ℕ) (cells : List ℕ) : Type 0 where
   pub filled : Filled n cells
   pub associative : Associative n (product n cells)
 
+-- Whether x is an element of a table of order n.
 unfoldable pub isElement : ℕ → ℕ → Bool
 isElement n x = leb 1 x && leb x n
 
+-- Whether (i·j)·k = i·(j·k).
 unfoldable pub associates : Product → ℕ → ℕ → ℕ → Bool
 associates s i j k = eqb (s (s i j) k) (s i (s j k))
 

@@ -39,5 +39,6 @@ transformationCells d = grid (transformationOrder d) (transformationOrder d) (tr
 abbrev pub transformationQuestions : ℕ → ℕ → List Question
 transformationQuestions d size = ask 8 (isElement 3 d) ∷ ask 9 (leb (transformationOrder d * transformationOrder d) size) ∷ []
 
+-- The refusal of a degree and a buffer of this size, if a question fails.
 unfoldable pub transformationRefusal : ℕ → ℕ → Option Refusal
 transformationRefusal d size = firstNo (transformationQuestions d size)

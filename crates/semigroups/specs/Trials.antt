@@ -35,6 +35,7 @@ pub record Work : Type 0 where
   pub found : Option (List ℕ)
   pub trials : ℕ
 
+-- The work that finds this after this many trials.
 abbrev pub work : Option (List ℕ) → ℕ → Work
 work found trials = record { found = found; trials = trials }
 
@@ -43,6 +44,7 @@ abbrev pub followed : Option (List ℕ) → ℕ → Work → Work
 followed none k w = work (w .found) (k + w .trials)
 followed (some f) k w = work (some f) k
 
+-- The work v and, if it finds no map, the work w after it.
 abbrev pub andThen : Work → Work → Work
 andThen v w = followed (v .found) (v .trials) w
 

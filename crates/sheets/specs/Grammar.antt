@@ -34,6 +34,7 @@ pub data Field : Type 0 where
   non-escaped : List ℕ → Field
   escaped : List Item → Field
 
+-- A record as it is written: two fields.
 pub record Entry : Type 0 where
   pub number : Field
   pub name : Field
@@ -46,30 +47,37 @@ pub record Sheet : Type 0 where
 
 -- ---- the bytes that it may have
 
+-- An item has a byte that may stand between quote marks.
 abbrev pub ProperItem : Item → Type 0
 ProperItem (single b) = isQuotable b ≡ true
 ProperItem twice = Unit {0}
 
+-- A field has only bytes that may stand in it.
 abbrev pub ProperField : Field → Type 0
 ProperField (non-escaped s) = Every (λ b. isTextData b ≡ true) s
 ProperField (escaped i) = Every ProperItem i
 
+-- Both fields of a record are proper.
 abbrev pub ProperEntry : Entry → Type 0
 ProperEntry e = ProperField (e .number) × ProperField (e .name)
 
+-- All records of a sheet are proper.
 abbrev pub ProperSheet : Sheet → Type 0
 ProperSheet s = ProperEntry (s .first) × Every ProperEntry (s .others)
 
 -- ---- its text
 
+-- The bytes of an item; a quote mark is doubled.
 unfoldable pub itemText : Item → List ℕ
 itemText (single b) = b ∷ []
 itemText twice = 34 ∷ 34 ∷ []
 
+-- The bytes of a field, with the quote marks around it if it has them.
 unfoldable pub fieldText : Field → List ℕ
 fieldText (non-escaped s) = s
 fieldText (escaped i) = 34 ∷ flatMap itemText i ++ 34 ∷ []
 
+-- The bytes of a record: its fields with a comma between them.
 unfoldable pub entryText : Entry → List ℕ
 entryText e = fieldText (e .number) ++ 44 ∷ fieldText (e .name)
 
@@ -78,6 +86,7 @@ unfoldable pub entriesText : Entry → List Entry → List ℕ
 entriesText e [] = entryText e
 entriesText e (f ∷ fs) = entryText e ++ 13 ∷ 10 ∷ entriesText f fs
 
+-- The bytes of a sheet.
 unfoldable pub sheetText : Sheet → List ℕ
 sheetText s = entriesText (s .first) (s .others) ++ cond (s .closed) (13 ∷ 10 ∷ []) []
 
@@ -89,14 +98,17 @@ pub record IsSheet (t : List ℕ) : Type 0 where
 
 -- ---- its values: quote marks around a field removed, doubled ones undone
 
+-- The byte that an item stands for.
 unfoldable pub itemValue : Item → ℕ
 itemValue (single b) = b
 itemValue twice = 34
 
+-- The bytes that items stand for.
 unfoldable pub itemsValue : List Item → List ℕ
 itemsValue [] = []
 itemsValue (i ∷ is) = itemValue i ∷ itemsValue is
 
+-- The value of a field.
 unfoldable pub fieldValue : Field → List ℕ
 fieldValue (non-escaped s) = s
 fieldValue (escaped i) = itemsValue i
@@ -106,12 +118,15 @@ pub record Row : Type 0 where
   pub number : List ℕ
   pub name : List ℕ
 
+-- The values of a record.
 unfoldable pub entryRow : Entry → Row
 entryRow e = record { number = fieldValue (e .number); name = fieldValue (e .name) }
 
+-- The values of a record and of those that follow.
 unfoldable pub entriesRows : Entry → List Entry → List Row
 entriesRows e [] = entryRow e ∷ []
 entriesRows e (f ∷ fs) = entryRow e ∷ entriesRows f fs
 
+-- The values of all records of a sheet.
 unfoldable pub sheetRows : Sheet → List Row
 sheetRows s = entriesRows (s .first) (s .others)

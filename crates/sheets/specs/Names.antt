@@ -38,6 +38,7 @@ unfoldable pub namesTextFrom : ℕ → List (List ℕ) → List ℕ
 namesTextFrom k [] = []
 namesTextFrom k (s ∷ l) = numeral k ++ (44 ∷ nameText s ++ (13 ∷ 10 ∷ namesTextFrom (suc k) l))
 
+-- The sheet of these names.
 unfoldable pub namesText : List (List ℕ) → List ℕ
 namesText l = namesTextFrom 1 l
 

@@ -33,6 +33,7 @@ abbrev pub loadNamesQuestions : {t : List ℕ} → Reading t → ℕ → ℕ →
 loadNamesQuestions w nameRoom lengthRoom =
     seek 40 (offence w) ∷ (rowsQuestions 1 (readRows w) ++ ask 27 (leb (length (flatten (namesIn w))) nameRoom) ∷ ask 27 (leb (length (namesIn w)) lengthRoom) ∷ [])
 
+-- The refusal of a call that loads a name sheet, if a question fails.
 unfoldable pub loadNamesRefusal : {t : List ℕ} → Reading t → ℕ → ℕ → Option Refusal
 loadNamesRefusal w nameRoom lengthRoom = firstNo (loadNamesQuestions w nameRoom lengthRoom)
 
@@ -49,5 +50,6 @@ abbrev pub saveNamesQuestions : List ℕ → List ℕ → ℕ → List Question
 saveNamesQuestions bytes lengths room =
     ask 42 (isElement 120 (length lengths)) ∷ (namesQuestions 1 bytes lengths ++ ask 28 (leb (length (namesText (namesAt bytes lengths))) room) ∷ [])
 
+-- The refusal of a call that saves a name sheet, if a question fails.
 unfoldable pub saveNamesRefusal : List ℕ → List ℕ → ℕ → Option Refusal
 saveNamesRefusal bytes lengths room = firstNo (saveNamesQuestions bytes lengths room)

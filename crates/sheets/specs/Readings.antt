@@ -20,6 +20,7 @@ pub record Offending (t : List ℕ) (k : ℕ) : Type 0 where
 
 -- ---- a reading of a text
 
+-- A reading of a text: that it passes 40, or its offending place.
 pub data Reading (t : List ℕ) : Type 0 where
   passes : IsSheet t → Reading t
   offends : (k : ℕ) → (IsSheet t → ⊥) → Offending t k → Reading t
@@ -38,5 +39,6 @@ readRows (offends k fails place) = []
 unfoldable pub rowsNames : List Row → List (List ℕ)
 rowsNames l = map (λ r. r .name) l
 
+-- The names that a reading gives.
 abbrev pub namesIn : {t : List ℕ} → Reading t → List (List ℕ)
 namesIn w = rowsNames (readRows w)

@@ -14,6 +14,7 @@ use Rattle.sheets.specs.PassingLaws.{Name, LoadNamesPass, SaveNamesPass}
 use Rattle.sheets.specs.CallsLaws.{LoadKeeps, SaveKeeps}
 use Rattle.sheets.specs.RoundsLaws.{SavedNamesAreLoaded, LastBreakMayLack, SavedSheetStays, LoadedSheetStays}
 
+-- What RULES 20 says of any names and any sheet.
 pub record NameRequests : Type 0 where
   -- "A name is 1 to 40 bytes from hexadecimal 20 to 7E."
   pub a-name : (s : List ℕ) → (isName s ≡ true) ↔ Name s
