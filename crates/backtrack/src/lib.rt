@@ -165,7 +165,7 @@ fn whole(tight: bool, limit: u32, image: [u8; 120]) -> Outcome
     }
 }
 
-// Takes one trial off those left, if there is one.
+// Returns the trials left after one more, or that there is none left for it.
 fn pay(left: u32) -> Paid
     ensures answer { λ r. ⌜ cond (r .enough) (remaining (r .left) none) exhausted ≡ within left (work none 1) ⌝ }
 {

@@ -33,7 +33,7 @@ use plain::failed;
 use search::Kind;
 use tables::Numbered;
 
-// Order 120 is accepted, 121 is refused.
+// Order 120 is accepted, 121 is refused. Returns the tally.
 pub fn orders() -> Tally
     ensures answer { λ r. ⌜ r ≡ agreed 3 (counted empty (sameSaid (saidOf (tableRefusal 120 (replicate 14400 1))) (saidOf none))) ⌝ }
 {
