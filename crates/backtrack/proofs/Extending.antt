@@ -10,16 +10,16 @@ use borrow.Author.Tests.{not-true}
 use lib.Dec.{eqb, leb}
 use lib.ListN.{length, getD, take, replicate}
 use Rattle.semigroups.specs.Lists.{range, elements, all, member}
-use Rattle.semigroups.specs.Tables.{Product, Element, Closed}
+use Rattle.semigroups.specs.Tables.{Product, Element}
+use Rattle.semigroups.specs.TablesLaws.{Closed}
 use Rattle.semigroups.specs.Scratch.{scratchSize, marked}
-use Rattle.semigroups.specs.Search.{passes}
-use Rattle.semigroups.specs.Trials.{Work, work, counted}
+use Rattle.semigroups.specs.Trials.{passes, Work, work, counted}
 use Rattle.semigroups.proofs.Booleans.{and-left, and-right}
 use Rattle.semigroups.proofs.Candidates.{size-rows}
 use Rattle.backtrack.specs.declared.Partial.{Partial}
 use Rattle.backtrack.specs.declared.Outcome.{Outcome}
-use Rattle.backtrack.specs.State.{prefix, Holds, Ready, foundIn, Remainder, exhausted, remaining, within, outcomeOf, bounded}
-use Rattle.constraints.specs.Tracking.{Tracks}
+use Rattle.backtrack.specs.InnerState.{prefix, Holds, Ready, foundIn, Remainder, exhausted, remaining, within, outcomeOf, bounded}
+use Rattle.constraints.specs.InnerTracking.{Tracks}
 use Rattle.constraints.proofs.Placing.{prefix-length, image-padded, used-image}
 use Rattle.backtrack.proofs.Limits.{resumed, within-nothing, within-skip, within-unpaid, within-paid, over-stopped, over-found, not-over}
 use Rattle.backtrack.proofs.Steps.{lowest, leftFrom, whole, begin, end, isOpen, tested, shut, opened, fails, goes, still}

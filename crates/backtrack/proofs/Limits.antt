@@ -9,7 +9,7 @@ use borrow.Author.Tests.{leb-true, leb-false, le-leb, lt-leb}
 use lib.Dec.{leb}
 use Rattle.semigroups.specs.Trials.{Work, work, followed, andThen}
 use Rattle.semigroups.proofs.Booleans.{same-truth}
-use Rattle.backtrack.specs.State.{foundIn, Remainder, exhausted, remaining, within, outcomeOf}
+use Rattle.backtrack.specs.InnerState.{foundIn, Remainder, exhausted, remaining, within, outcomeOf}
 
 -- ---- one work after another
 

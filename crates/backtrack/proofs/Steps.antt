@@ -14,12 +14,11 @@ use lib.Seq.{split-at, take-suc, take-all}
 use Rattle.semigroups.specs.Lists.{elements, member, earlier}
 use Rattle.semigroups.specs.Tables.{Product}
 use Rattle.semigroups.specs.Maps.{Ask, first, next, beyond}
-use Rattle.semigroups.specs.Search.{notBefore, passes}
-use Rattle.semigroups.specs.Trials.{Work, work, andThen, tried, workAt, counted}
+use Rattle.semigroups.specs.Trials.{notBefore, passes, Work, work, andThen, tried, workAt, counted}
 use Rattle.semigroups.proofs.Booleans.{and-left, trichotomy}
 use Rattle.semigroups.proofs.ListOrder.{earlier-skip, earlier-above, earlier-head, earlier-tail, earlier-irreflexive}
 use Rattle.semigroups.proofs.Trials.{turnsFrom, turns-same, turns-start, turns-step, turns-end}
-use Rattle.backtrack.specs.State.{bounded}
+use Rattle.backtrack.specs.InnerState.{bounded}
 
 -- The smallest next entry that is not too early.
 abbrev pub lowest : Bool → List ℕ → ℕ → ℕ

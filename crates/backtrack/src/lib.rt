@@ -11,10 +11,9 @@ ghost use lib.ListN.{length, getD, take, replicate};
 ghost use Rattle.semigroups.specs.Lists.{member};
 ghost use Rattle.semigroups.specs.Tables.{Product, product, Element, Filled};
 ghost use Rattle.semigroups.specs.Scratch.{scratchSize, marked};
-ghost use Rattle.semigroups.specs.Search.{passes};
-ghost use Rattle.semigroups.specs.Trials.{work, counted};
-ghost use Rattle.constraints.specs.Tracking.{Placing, Tracks};
-ghost use Rattle.backtrack.specs.State.{prefix, Holds, Ready, bounded, exhausted, remaining, within, outcomeOf};
+ghost use Rattle.semigroups.specs.Trials.{passes, work, counted};
+ghost use Rattle.constraints.specs.InnerTracking.{Placing, Tracks};
+ghost use Rattle.backtrack.specs.InnerState.{prefix, Holds, Ready, bounded, exhausted, remaining, within, outcomeOf};
 
 // The map placed so far. Element i's image is image[i - 1]; used[y] is 1 where y is an image. The constraints: forced[c] is the target product that the
 // pairs placed ask of source element c, owner[y] the source element that they reserve target element y for.

@@ -10,19 +10,21 @@ use borrow.Author.Tests.{eqb-true, eq-eqb}
 use lib.Dec.{eqb}
 use lib.ListN.{getD, take, replicate}
 use Rattle.semigroups.specs.Lists.{at, all}
-use Rattle.semigroups.specs.Tables.{Product, product, Element, Closed, Filled}
+use Rattle.semigroups.specs.Tables.{Product, product, Element, Filled}
+use Rattle.semigroups.specs.TablesLaws.{Closed}
 use Rattle.semigroups.specs.Invariants.{IndexPeriod, Profile, index, period, indexPeriod, sameIndexPeriod, frequency, diagonalFrequency, rowFrequency, columnFrequency, commuting, profile, sameProfile}
 use Rattle.semigroups.specs.Maps.{embeddings, isomorphisms}
 use Rattle.semigroups.specs.Candidates.{candidate}
-use Rattle.semigroups.specs.Calls.{scratchAfter}
+use Rattle.semigroups.specs.InnerCalls.{scratchAfter}
 use Rattle.semigroups.proofs.Booleans.{same-truth, both, and-left, and-right, trichotomy}
 use Rattle.semigroups.proofs.Tables.{product-element}
 use Rattle.invariants.specs.declared.ElementCounts.{ElementCounts}
-use Rattle.invariants.specs.PerElement.{perElement, AllCounts}
+use Rattle.tables.specs.InnerPerElement.{perElement}
+use Rattle.invariants.specs.InnerPerElement.{AllCounts}
 use Rattle.invariants.proofs.Powers.{index-at-most, period-at-most}
 use Rattle.invariants.proofs.Counts.{frequency-at-most, diagonal-at-most, row-at-most, column-at-most, commuting-at-most}
 use Rattle.invariants.proofs.PerElement.{per-element-at, per-element-same, zero-start}
-use Rattle.candidates.specs.Keys.{Part, packed, indexPeriodParts, countParts, indexPeriodKey, profileKey, appended, Room, sameKey}
+use Rattle.candidates.specs.InnerKeys.{KeyPart, packed, indexPeriodParts, countParts, indexPeriodKey, profileKey, appended, Room, sameKey}
 use Rattle.candidates.proofs.Marks.{scratch-same}
 
 -- ---- digits
@@ -60,12 +62,12 @@ digit base a b x y hb hy = same-truth (eqb (a * base + b) (x * base + y)) (eqb a
 
 module _ {A : Type 0} where
   -- Each part fits.
-  abbrev pub Fits : List (Part A) → A → Type 0
+  abbrev pub Fits : List (KeyPart A) → A → Type 0
   Fits [] v = Unit {0}
   Fits (p ∷ parts) v = (p .number v < p .values) × Fits parts v
 
   -- Keys with further parts are equal exactly where the keys and the parts are.
-  packed-same : (parts : List (Part A)) (u v : A) (x y : ℕ) → Fits parts u → Fits parts v → eqb (packed parts u x) (packed parts v y) ≡ (eqb x y && all (λ p. eqb (p .number u) (p .number v)) parts)
+  packed-same : (parts : List (KeyPart A)) (u v : A) (x y : ℕ) → Fits parts u → Fits parts v → eqb (packed parts u x) (packed parts v y) ≡ (eqb x y && all (λ p. eqb (p .number u) (p .number v)) parts)
   unfolding packed all
   packed-same [] u v x y hu hv = sym (and-true (eqb x y))
   packed-same (p ∷ parts) u v x y hu hv =

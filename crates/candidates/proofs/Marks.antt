@@ -12,11 +12,12 @@ use lib.Pow.{pow-mono}
 use Rattle.semigroups.specs.Lists.{range}
 use Rattle.semigroups.specs.Tables.{cellPlace, Element}
 use Rattle.semigroups.specs.Scratch.{packedByte, scratchSize, pairMarks, marks}
-use Rattle.semigroups.specs.Calls.{overwritten, scratchAfter}
+use Rattle.semigroups.specs.Calls.{overwritten}
+use Rattle.semigroups.specs.InnerCalls.{scratchAfter}
 use Rattle.semigroups.proofs.Tables.{place-below, place-of, place-elements}
 use Rattle.semigroups.proofs.Packing.{worthOf, worth-none, worth-next, worth-all, worth-below, packed-below}
 use Rattle.semigroups.proofs.Candidates.{length-pairs, pair-at, mark-small}
-use Rattle.candidates.specs.Pairs.{PairAt}
+use Rattle.candidates.specs.InnerPairs.{PairAt}
 
 -- The number of a pair fits.
 pub pair-small : (n i j : ℕ) → Element 120 i → Element n j → n ≤ 120 → cellPlace n i j < 14400

@@ -1,2 +1,2 @@
-pub mod Pairs
-pub mod Keys
+pub mod InnerKeys
+pub mod InnerPairs

@@ -8,10 +8,10 @@ ghost use Rattle.semigroups.specs.Invariants.{indexPeriod, profile};
 ghost use Rattle.semigroups.specs.Maps.{embeddings, isomorphisms};
 ghost use Rattle.semigroups.specs.Candidates.{candidate};
 ghost use Rattle.semigroups.specs.Scratch.{packedByte, scratchSize, pairMarks, marked};
-ghost use Rattle.semigroups.specs.Calls.{scratchAfter};
-ghost use Rattle.invariants.specs.PerElement.{perElement};
-ghost use Rattle.candidates.specs.Pairs.{PairAt};
-ghost use Rattle.candidates.specs.Keys.{indexPeriodKey, profileKey, appended, Room, sameKey};
+ghost use Rattle.semigroups.specs.InnerCalls.{scratchAfter};
+ghost use Rattle.tables.specs.InnerPerElement.{perElement};
+ghost use Rattle.candidates.specs.InnerPairs.{PairAt};
+ghost use Rattle.candidates.specs.InnerKeys.{indexPeriodKey, profileKey, appended, Room, sameKey};
 use tables::limits::ORDER;
 
 // ---- marks

@@ -1,2 +1,2 @@
-pub mod Answering
-pub mod Embedded
+pub mod InnerAnswering
+pub mod InnerEmbedded

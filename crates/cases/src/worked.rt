@@ -1,8 +1,8 @@
-// The thirteen worked cases of 01 again, through the compiled functions.
+// The thirteen worked cases (RULES 23.2) again, through the compiled functions.
 ghost use mathlib.Core.Path.{_≡_};
 ghost use Rattle.invariants.specs.Answers.{indexPeriodValue, indexPeriodSays, profileValue, profileSays};
-ghost use Rattle.cases.specs.Answering.{sameGivenPowers, sameGivenProfile};
-ghost use Rattle.judging.specs.Tally.{empty, agreed};
+ghost use Rattle.cases.specs.InnerAnswering.{sameGivenPowers, sameGivenProfile};
+ghost use Rattle.judging.specs.InnerTally.{empty, agreed};
 use comparisons::walk::walk;
 use invariants::ElementProfile;
 use invariants::IndexPeriod;

@@ -1,4 +1,4 @@
--- The example of 02, (xi), an empty file, a gap, fifty files and more, and names of files, computed at the definitions. Assumes nothing.
+-- The example of RULES 22.6, an empty file, a gap, fifty files and more, and names of files, computed at the definitions. Assumes nothing.
 use mathlib.Core.Path.{_≡_, refl}
 use mathlib.Core.List.{[], _∷_, flatMap, flatten}
 use mathlib.Core.Option.{orElse}
@@ -16,24 +16,25 @@ use Rattle.files.specs.Files.{fileRefusal}
 use Rattle.classification.specs.Classes.{filesFrom, filesOf, accepted, isomorphic, holdsLike, alike, file, lowest, noteOf, notesOf}
 use Rattle.classification.specs.Output.{note, names, lowestFiles, members, totalRecord, noteRecords, totalRecords, notesText, classesOutput}
 use Rattle.classification.specs.Held.{fileName}
-use Rattle.classification.specs.Example.{swapFile, nullFile, printed, emptyPrinted, gapFolder, fullFolder}
+use Rattle.classification.specs.Examples.{swapFile, nullFile, classesPrinted, emptyPrinted, gapFolder, fullFolder}
 use Rattle.classification.specs.Laws.{IsAccepted}
-use Rattle.classification.specs.Progress.{start, Goes}
+use Rattle.classification.specs.Progress.{start}
+use Rattle.classification.specs.ProgressLaws.{Goes}
 use Rattle.classification.proofs.Progress.{goes}
 
-pub example : classesOutput (swapFile ∷ nullFile ∷ swapFile ∷ []) ≡ printed
-unfolding classesOutput notesText noteRecords totalRecords totalRecord members lowestFiles names note notesOf noteOf lowest file alike holdsLike isomorphic accepted swapFile nullFile printed fileRefusal isDigit value valueFrom numeralWithin numeral isBreak onto records fields rows recordText lineText rowsText fieldsOf orderOf cellsOf breakAt inBreak isAllowed firstOther fieldsQuestions isSquare range elements at all find keep sum count least member distinct lists product isElement associates badCell badTriple firstOf isHomomorphism isEmbedding isIsomorphism maps earliest orElse flatMap flatten
+pub example : classesOutput (swapFile ∷ nullFile ∷ swapFile ∷ []) ≡ classesPrinted
+unfolding classesOutput notesText noteRecords totalRecords totalRecord members lowestFiles names note notesOf noteOf lowest file alike holdsLike isomorphic accepted swapFile nullFile classesPrinted fileRefusal isDigit value valueFrom numeralWithin numeral isBreak onto records fields rows recordText lineText rowsText fieldsOf orderOf cellsOf breakAt inBreak isAllowed firstOther fieldsQuestions isSquare range elements at all find keep sum count least member distinct lists product isElement associates badCell badTriple firstOf isHomomorphism isEmbedding isIsomorphism maps earliest orElse flatMap flatten
 example = refl
 
 -- Files 1 and 3 are accepted and in one class, that of file 1; file 2 is in another.
 pub example-classes : IsAccepted (swapFile ∷ nullFile ∷ swapFile ∷ []) 1 × IsAccepted (swapFile ∷ nullFile ∷ swapFile ∷ []) 2 × IsAccepted (swapFile ∷ nullFile ∷ swapFile ∷ []) 3
     × (lowest (swapFile ∷ nullFile ∷ swapFile ∷ []) 3 ≡ 1) × (lowest (swapFile ∷ nullFile ∷ swapFile ∷ []) 2 ≡ 2)
-unfolding classesOutput notesText noteRecords totalRecords totalRecord members lowestFiles names note notesOf noteOf lowest file alike holdsLike isomorphic accepted swapFile nullFile printed emptyPrinted fileRefusal isDigit value valueFrom numeralWithin numeral isBreak onto records fields rows recordText lineText rowsText fieldsOf orderOf cellsOf breakAt inBreak isAllowed firstOther fieldsQuestions isSquare range elements at all find keep sum count least member distinct lists product isElement associates badCell badTriple firstOf isHomomorphism isEmbedding isIsomorphism maps earliest orElse flatMap flatten
+unfolding classesOutput notesText noteRecords totalRecords totalRecord members lowestFiles names note notesOf noteOf lowest file alike holdsLike isomorphic accepted swapFile nullFile classesPrinted emptyPrinted fileRefusal isDigit value valueFrom numeralWithin numeral isBreak onto records fields rows recordText lineText rowsText fieldsOf orderOf cellsOf breakAt inBreak isAllowed firstOther fieldsQuestions isSquare range elements at all find keep sum count least member distinct lists product isElement associates badCell badTriple firstOf isHomomorphism isEmbedding isIsomorphism maps earliest orElse flatMap flatten
 example-classes = (((omega arith, omega arith), refl), ((omega arith, omega arith), refl), ((omega arith, omega arith), refl), refl, refl)
 
 -- An empty file is refused by 20.
 pub empty-printed : classesOutput ([] ∷ []) ≡ emptyPrinted
-unfolding classesOutput notesText noteRecords totalRecords totalRecord members lowestFiles names note notesOf noteOf lowest file alike holdsLike isomorphic accepted swapFile nullFile printed emptyPrinted fileRefusal isDigit value valueFrom numeralWithin numeral isBreak onto records fields rows recordText lineText rowsText fieldsOf orderOf cellsOf breakAt inBreak isAllowed firstOther fieldsQuestions isSquare range elements at all find keep sum count least member distinct lists product isElement associates badCell badTriple firstOf isHomomorphism isEmbedding isIsomorphism maps earliest orElse flatMap flatten
+unfolding classesOutput notesText noteRecords totalRecords totalRecord members lowestFiles names note notesOf noteOf lowest file alike holdsLike isomorphic accepted swapFile nullFile classesPrinted emptyPrinted fileRefusal isDigit value valueFrom numeralWithin numeral isBreak onto records fields rows recordText lineText rowsText fieldsOf orderOf cellsOf breakAt inBreak isAllowed firstOther fieldsQuestions isSquare range elements at all find keep sum count least member distinct lists product isElement associates badCell badTriple firstOf isHomomorphism isEmbedding isIsomorphism maps earliest orElse flatMap flatten
 empty-printed = refl
 
 -- Reading stops at a gap, and after fifty files.

@@ -5,15 +5,18 @@ use mathlib.Core.Logic.{_↔_}
 use mathlib.Core.List.{List}
 use mathlib.Core.Option.{Option, none, some}
 use Prim.Native.Nat.{ℕ}
-use Rattle.semigroups.specs.Tables.{Product, product, Closed, Accepted}
+use Rattle.semigroups.specs.Tables.{Product, product, Accepted}
+use Rattle.semigroups.specs.TablesLaws.{Closed}
 use Rattle.semigroups.specs.Questions.{Refusal}
-use Rattle.semigroups.specs.Maps.{Embedding, Isomorphism, isomorphisms, maps, first, earliest, identity, after, inverse}
+use Rattle.semigroups.specs.MapsLaws.{Embedding, Isomorphism, identity, inverse}
+use Rattle.semigroups.specs.Maps.{isomorphisms, maps, first, earliest, after}
 use Rattle.semigroups.proofs.Booleans.{clash, both, and-left, and-right}
 use Rattle.semigroups.proofs.Tables as tables
 use Rattle.semigroups.proofs.Maps.{first-earliest, first-none}
 use Rattle.semigroups.proofs.Composition.{identity-embeds, after-embeds, inverse-embeds}
 use Rattle.csv.specs.Tables.{orderOf, cellsOf}
-use Rattle.files.specs.Files.{fileRefusal, FilePasses, room}
+use Rattle.files.specs.Files.{fileRefusal, room}
+use Rattle.files.specs.FilesLaws.{FilePasses}
 use Rattle.files.proofs.Files.{file-passes}
 use Rattle.classification.specs.Classes.{isNone, isSome, accepted, isomorphic, holdsLike, alike}
 use Rattle.classification.specs.Laws.{Isomorphic}

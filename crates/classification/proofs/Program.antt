@@ -8,7 +8,8 @@ use lib.ListN.{length, drop, length-append}
 use Rattle.semigroups.specs.Calls.{overwritten}
 use Rattle.classification.specs.Classes.{mostFiles, Note}
 use Rattle.classification.specs.Output.{notesText}
-use Rattle.classification.specs.Progress.{Phase, reading, comparing, over, Progress, start, wanted, step, SoundIn, Sound, left}
+use Rattle.classification.specs.Progress.{Phase, reading, comparing, over, Progress, start, wanted, step, SoundIn, Sound}
+use Rattle.classification.specs.ProgressLaws.{stillToRead}
 use Rattle.classification.specs.Held.{notesIn, progressOf}
 use Rattle.classification.specs.declared.Classifier.{Classifier}
 use Rattle.classification.proofs.Progress.{goes}
@@ -21,8 +22,8 @@ module _ (s : Progress) (h : Sound s) (w : wanted s ≡ 0 → ⊥) (answer : Opt
   pub later-sound : Sound later
   later-sound = subst Sound (sym e) (goes s h w .sound answer)
 
-  pub later-fewer : left later < left s
-  later-fewer = subst (λ (t : Progress). left t < left s) (sym e) (goes s h w .fewer answer)
+  pub later-fewer : stillToRead later < stillToRead s
+  later-fewer = subst (λ (t : Progress). stillToRead t < stillToRead s) (sym e) (goes s h w .fewer answer)
 
 few : (notes : List Note) (phase : Phase) → SoundIn notes phase → length notes ≤ mostFiles
 few notes reading s = s

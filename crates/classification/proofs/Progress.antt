@@ -19,7 +19,8 @@ use Rattle.csv.specs.Tables.{orderOf, cellsOf}
 use Rattle.files.specs.Files.{fileRefusal, room}
 use Rattle.classification.specs.Classes.{Folder, mostFiles, opened, filesFrom, filesOf, accepted, holdsLike, alike, Note, refusedBy, inClass, file, lowest, notesOf}
 use Rattle.classification.specs.Output.{note, names, notesText, classesOutput, folderOutput}
-use Rattle.classification.specs.Progress.{namesOrder, Phase, reading, comparing, over, Progress, progress, start, wantedIn, wanted, nextClass, noted, onward, begun, compared, stepIn, step, SoundIn, Sound, leftIn, left, served, Prints, Goes}
+use Rattle.classification.specs.Progress.{namesOrder, Phase, reading, comparing, over, Progress, progress, start, wantedIn, wanted, nextClass, noted, onward, begun, compared, stepIn, step, SoundIn, Sound, served}
+use Rattle.classification.specs.ProgressLaws.{stillToReadIn, stillToRead, Prints, Goes}
 use Rattle.classification.proofs.Files.{passes-accepted, accepted-table, alike-like, like-alike, like-itself, like-order, holds-alike}
 use Rattle.classification.proofs.Classes.{length-notes, note-is, names-is, says-accepted}
 use Rattle.classification.proofs.NextClass.{next-bound, next-within, next-first}
@@ -27,11 +28,11 @@ use Rattle.classification.proofs.Growth.{grown, length-grown, file-stay
 
 -- ---- the program goes on
 
-noted-goes : (notes : List Note) (said : Note) → length notes < mostFiles → Sound (noted notes said) × (left (noted notes said) ≡ (mostFiles - suc (length notes)) * suc mostFiles)
+noted-goes : (notes : List Note) (said : Note) → length notes < mostFiles → Sound (noted notes said) × (stillToRead (noted notes said) ≡ (mostFiles - suc (length notes)) * suc mostFiles)
 noted-goes notes said h = let e = length-snoc notes said in (omega arith, ap (λ (k : ℕ). (mostFiles - k) * suc mostFiles) e)
 
 onward-goes : (notes : List Note) (n : ℕ) (cells : List ℕ) (j : ℕ) → length notes < mostFiles → Accepted n cells → j ≤ length notes
-    → Sound (onward notes n cells j) × (left (onward notes n cells j) < (mostFiles - length notes) * suc mostFiles - j)
+    → Sound (onward notes n cells j) × (stillToRead (onward notes n cells j) < (mostFiles - length notes) * suc mostFiles - j)
 unfolding onward
 onward-goes notes n cells j h a b = go (leb i (length notes)) refl
   where
@@ -39,15 +40,15 @@ onward-goes notes n cells j h a b = go (leb i (length notes)) refl
     i = nextClass notes n j
 
     go : (t : Bool) → leb i (length notes) ≡ t
-        → Sound (cond t (progress notes (comparing n cells i)) (noted notes (inClass n i))) × (left (cond t (progress notes (comparing n cells i)) (noted notes (inClass n i))) < (mostFiles - length notes) * suc mostFiles - j)
+        → Sound (cond t (progress notes (comparing n cells i)) (noted notes (inClass n i))) × (stillToRead (cond t (progress notes (comparing n cells i)) (noted notes (inClass n i))) < (mostFiles - length notes) * suc mostFiles - j)
     go true e = let w = next-within notes n j (leb-true i (length notes) e) in let w0 = w .0 in let w1 = w .1 in ((h, a, w0), omega arith)
     go false e = let w = noted-goes notes (inClass n i) h in let w1 = w .1 in (w .0, omega arith)
 
-begun-goes : (notes : List Note) (t : List ℕ) (o : Option Refusal) → fileRefusal t room ≡ o → length notes < mostFiles → Sound (begun notes t o) × (left (begun notes t o) < (mostFiles - length notes) * suc mostFiles)
+begun-goes : (notes : List Note) (t : List ℕ) (o : Option Refusal) → fileRefusal t room ≡ o → length notes < mostFiles → Sound (begun notes t o) × (stillToRead (begun notes t o) < (mostFiles - length notes) * suc mostFiles)
 begun-goes notes t (some r) e h = let w = noted-goes notes (refusedBy (r .number)) h in let w1 = w .1 in (w .0, omega arith)
 begun-goes notes t none e h = let w = onward-goes notes (orderOf t) (cellsOf t) 0 h (accepted-table t (passes-accepted t e)) (omega arith) in let w1 = w .1 in (w .0, omega arith)
 
-compared-goes : (notes : List Note) (n : ℕ) (cells : List ℕ) (j : ℕ) (b : Bool) → SoundIn notes (comparing n cells j) → Sound (compared notes n cells j b) × (left (compared notes n cells j b) < leftIn notes (comparing n cells j))
+compared-goes : (notes : List Note) (n : ℕ) (cells : List ℕ) (j : ℕ) (b : Bool) → SoundIn notes (comparing n cells j) → Sound (compared notes n cells j b) × (stillToRead (compared notes n cells j b) < stillToReadIn notes (comparing n cells j))
 compared-goes notes n cells j true s = let s0 = s .0 in let s2 = s .2 in let w = noted-goes notes (inClass n j) s0 in let w1 = w .1 in (w .0, omega arith)
 compared-goes notes n cells j false s = let s2 = s .2 in onward-goes notes n cells j (s .0) (s .1) (s2 .1)
 
@@ -59,7 +60,7 @@ reading-room notes h = go (ltb (length notes) mostFiles) refl h
     go true e h = (ltb-true (length notes) mostFiles e, refl)
     go false e h = absurd (h refl)
 
-step-goes : (notes : List Note) (phase : Phase) → SoundIn notes phase → (wantedIn notes phase ≡ 0 → ⊥) → (answer : Option (List ℕ)) → Sound (stepIn notes phase answer) × (left (stepIn notes phase answer) < leftIn notes phase)
+step-goes : (notes : List Note) (phase : Phase) → SoundIn notes phase → (wantedIn notes phase ≡ 0 → ⊥) → (answer : Option (List ℕ)) → Sound (stepIn notes phase answer) × (stillToRead (stepIn notes phase answer) < stillToReadIn notes phase)
 step-goes notes reading s w none = let r = reading-room notes w .0 in (s, omega arith)
 step-goes notes reading s w (some t) = begun-goes notes t (fileRefusal t room) refl (reading-room notes w .0)
 step-goes notes (comparing n cells j) s w none = compared-goes notes n cells j false s
@@ -239,7 +240,7 @@ module _ (folder : Folder) where
   ended notes (comparing n cells j) s k e = absurd (let s2 = s .2 in let z : ⊥ = omega arith in z)
   ended notes over s (files, R, k) e = let l = notes-length folder files notes R in all-read notes files R (omega arith) (λ u. k)
 
-  served-prints : (d : ℕ) (s : Progress) → Sound s → Knows folder s → left s ≤ d → (wanted (served folder d s) ≡ 0) × (notesText (served folder d s .notes) ≡ folderOutput folder)
+  served-prints : (d : ℕ) (s : Progress) → Sound s → Knows folder s → stillToRead s ≤ d → (wanted (served folder d s) ≡ 0) × (notesText (served folder d s .notes) ≡ folderOutput folder)
   unfolding served
   served-prints zero s h k b =
       ⊎-elim (λ (e : wanted s ≡ 0). (e, ended (s .notes) (s .phase) h k e)) (λ (w : wanted s ≡ 0 → ⊥). absurd (let f = goes s h w .fewer none in let z : ⊥ = omega arith in z)) (equal-or-not (wanted s) 0)

@@ -13,12 +13,13 @@ use Rattle.semigroups.specs.Tables.{Element, Accepted}
 use Rattle.semigroups.specs.Questions.{Refusal}
 use Rattle.semigroups.specs.Calls.{refused, gives}
 use Rattle.csv.specs.Tables.{orderOf, cellsOf}
-use Rattle.files.specs.Files.{fileRefusal, fileAnswer, room}
+use Rattle.files.specs.Files.{fileRefusal, room}
+use Rattle.files.specs.Answers.{fileAnswer}
 use Rattle.files.proofs.Files.{Holds, accepted-file, refused-file}
 use Rattle.classification.specs.Classes.{mostFiles, isomorphic, holdsLike, Note, refusedBy, inClass}
 use Rattle.classification.specs.Output.{isIn}
 use Rattle.classification.specs.Progress.{namesOrder, comparing, progress, wantedIn, wanted, nextClass, noted, onward, begun, compared, stepIn, step, SoundIn, Sound}
-use Rattle.classification.specs.Held.{noteFrom, notesIn, phaseOf, progressOf, answerOf, cellsThen}
+use Rattle.classification.specs.Held.{noteFrom, notesIn, phaseOf, progressOf, openedText, cellsThen}
 use Rattle.classification.specs.declared.Task.{Task}
 use Rattle.classification.specs.declared.Task.the-variants.{Read, Compare, Stop}
 use Rattle.classification.specs.declared.Classifier.{Classifier}
@@ -132,11 +133,11 @@ module _ (s : Classifier) (cells : List ℕ) where
       (omega arith, r .1, omega arith)
 
   module _ (opened : Bool) (text : List ℕ) {t : Task} {b : Bool} (e : s .task ≡ t) (f : opened ≡ b) where
-    pub step-at : stepIn (notesIn s) (phaseOf t cells) (answerOf b text) ≡ step (progressOf s cells) (answerOf opened text)
-    step-at = sym (ap₂ (λ (u : Task) (x : Bool). stepIn (notesIn s) (phaseOf u cells) (answerOf x text)) e f)
+    pub step-at : stepIn (notesIn s) (phaseOf t cells) (openedText b text) ≡ step (progressOf s cells) (openedText opened text)
+    step-at = sym (ap₂ (λ (u : Task) (x : Bool). stepIn (notesIn s) (phaseOf u cells) (openedText x text)) e f)
 
-    pub stopped-at : t ≡ Stop → progressOf s cells ≡ step (progressOf s cells) (answerOf opened text)
-    stopped-at g = ap (λ (u : Task). progress (notesIn s) (phaseOf u cells)) (e ∙ g) ∙ sym (ap (λ (u : Task). stepIn (notesIn s) (phaseOf u cells) (answerOf opened text)) (e ∙ g))
+    pub stopped-at : t ≡ Stop → progressOf s cells ≡ step (progressOf s cells) (openedText opened text)
+    stopped-at g = ap (λ (u : Task). progress (notesIn s) (phaseOf u cells)) (e ∙ g) ∙ sym (ap (λ (u : Task). stepIn (notesIn s) (phaseOf u cells) (openedText opened text)) (e ∙ g))
 
     pub cells-at : cellsThen t b text cells ≡ cellsThen (s .task) opened text cells
     cells-at = sym (ap₂ (λ (u : Task) (x : Bool). cellsThen u x text cells) e f)

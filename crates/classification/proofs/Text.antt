@@ -17,7 +17,8 @@ use Rattle.csv.proofs.Decimals.{digits-few}
 use Rattle.csv.proofs.Writing.{Writing, write-first, write-room, write-last, sets-overwritten}
 use Rattle.lines.proofs.Lines.{written}
 use Rattle.classification.specs.Classes.{Note, refusedBy, inClass}
-use Rattle.classification.specs.Held.{notesFrom, totalText}
+use Rattle.classification.specs.Held.{notesFrom}
+use Rattle.classification.specs.InnerHeld.{totalText}
 use Rattle.classification.specs.Output.{classWord, noteRecord, totalLine, isIn, note, names, lowestFiles, members, totalRecord, noteRecords, totalRecords, notesText}
 use Rattle.classification.proofs.Held.{held, length-from, note-from, names-from}
 

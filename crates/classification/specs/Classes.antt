@@ -1,4 +1,4 @@
--- Which files hold isomorphic tables (02, (xi)). A file is its bytes; files count from 1, in file order.
+-- Which files hold isomorphic tables (RULES 22). A file is its bytes; files count from 1, in file order.
 -- Assumes nothing.
 use mathlib.Core.Bool.{Bool, true, false, _&&_}
 use mathlib.Core.List.{List, [], _∷_, map}

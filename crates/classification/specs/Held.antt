@@ -1,15 +1,13 @@
 -- What the code holds of the progress: a byte for the order and one for the number of each note, and what comes next; the table in hand stands in a
 -- lent buffer of cells. Assumes nothing.
-use mathlib.Core.Bool.{Bool, true, false, cond}
+use mathlib.Core.Bool.{Bool, true, false}
 use mathlib.Core.List.{List, [], _∷_, map}
 use mathlib.Core.Option.{Option, none, some}
 use Prim.Native.Nat.{ℕ, zero, suc, _+_, _*_, _/_, _%_}
 use lib.ListN.{take}
 use Rattle.semigroups.specs.Lists.{elements, at}
-use Rattle.csv.specs.Records.{lineText}
 use Rattle.csv.specs.Calls.{cellsAfter}
 use Rattle.classification.specs.Classes.{Note, refusedBy, inClass}
-use Rattle.classification.specs.Output.{names, totalRecord}
 use Rattle.classification.specs.Progress.{Phase, reading, comparing, over, Progress, progress}
 use Rattle.classification.specs.declared.Task.{Task}
 use Rattle.classification.specs.declared.Task.the-variants.{Read, Compare, Stop}
@@ -35,9 +33,9 @@ abbrev pub progressOf : Classifier → List ℕ → Progress
 progressOf c cells = progress (notesIn c) (phaseOf (c .task) cells)
 
 -- The answer to what was asked for.
-abbrev pub answerOf : Bool → List ℕ → Option (List ℕ)
-answerOf true text = some text
-answerOf false text = none
+abbrev pub openedText : Bool → List ℕ → Option (List ℕ)
+openedText true text = some text
+openedText false text = none
 
 -- The buffer of cells after an answer: a new file is loaded into it.
 abbrev pub cellsThen : Task → Bool → List ℕ → List ℕ → List ℕ
@@ -45,10 +43,6 @@ cellsThen Read true text cells = cellsAfter text cells
 cellsThen Read false text cells = cells
 cellsThen (Compare n j) opened text cells = cells
 cellsThen Stop opened text cells = cells
-
--- The text of the total of file a, if it names a class.
-unfoldable pub totalText : List Note → ℕ → List ℕ
-totalText notes a = cond (names notes a) (lineText (totalRecord notes a)) []
 
 -- The name of file k, `01.csv` and so on: its last two digits, and it has no more.
 unfoldable pub fileName : ℕ → List ℕ

@@ -1,4 +1,4 @@
--- What 02, (xi) says of the classes and the totals, for any files.
+-- What RULES 22 says of the classes and the totals, for any files.
 -- Assumes nothing.
 use mathlib.Core.Path.{_≡_}
 use mathlib.Core.Bool.{true, _&&_}
@@ -8,12 +8,15 @@ use mathlib.Core.Option.{some, Option·map}
 use Prim.Native.Nat.{ℕ, _≤_, _<_}
 use lib.Dec.{eqb}
 use lib.ListN.{length, take}
-use Rattle.semigroups.specs.Lists.{elements, sum, count, Sorted}
+use Rattle.semigroups.specs.Lists.{elements, sum, count}
+use Rattle.semigroups.specs.ListsLaws.{Sorted}
 use Rattle.semigroups.specs.Tables.{product, Element}
-use Rattle.semigroups.specs.Questions.{Refusal, EarliestNo}
-use Rattle.semigroups.specs.Maps.{Isomorphism}
+use Rattle.semigroups.specs.Questions.{Refusal}
+use Rattle.semigroups.specs.QuestionsLaws.{EarliestNo}
+use Rattle.semigroups.specs.MapsLaws.{Isomorphism}
 use Rattle.csv.specs.Tables.{orderOf, cellsOf}
-use Rattle.files.specs.Files.{fileQuestions, fileRefusal, FilePasses, room}
+use Rattle.files.specs.Files.{fileQuestions, fileRefusal, room}
+use Rattle.files.specs.FilesLaws.{FilePasses}
 use Rattle.classification.specs.Classes.{Folder, accepted, refusedBy, inClass, file, lowest, noteOf, notesOf}
 use Rattle.classification.specs.Output.{lowestFiles, members, classesOutput, folderOutput}
 

@@ -1,4 +1,4 @@
--- What the program prints (02, (xi)): "in file order, `class`, file, order, lowest file of the class; or `refused`, file, number. Then, by rising
+-- What the program prints (RULES 22.3): "in file order, `class`, file, order, lowest file of the class; or `refused`, file, number. Then, by rising
 -- lowest file, `total`, lowest file, number of members." As text the records follow RFC 4180, each closed by CR LF.
 -- Assumes nothing.
 use mathlib.Core.Bool.{Bool, false}

@@ -1,10 +1,9 @@
 -- How the program goes through a folder, two tables at a time: which file it asks for next, and what it holds when the answer has come. That it ends,
 -- and then prints `folderOutput` of any folder, is `Prints`. Assumes nothing.
-use mathlib.Core.Path.{_≡_}
 use mathlib.Core.Bool.{Bool, true, false, _&&_, cond}
 use mathlib.Core.List.{List, [], _∷_, _++_}
 use mathlib.Core.Option.{Option, none, some}
-use Prim.Native.Nat.{ℕ, zero, suc, _-_, _*_, _≤_, _<_}
+use Prim.Native.Nat.{ℕ, zero, suc, _≤_, _<_}
 use lib.Dec.{eqb, leb, ltb}
 use lib.ListN.{length}
 use Rattle.semigroups.specs.Lists.{least}
@@ -13,7 +12,7 @@ use Rattle.semigroups.specs.Questions.{Refusal}
 use Rattle.csv.specs.Tables.{orderOf, cellsOf}
 use Rattle.files.specs.Files.{fileRefusal, room}
 use Rattle.classification.specs.Classes.{Folder, mostFiles, holdsLike, Note, refusedBy, inClass}
-use Rattle.classification.specs.Output.{note, notesText, folderOutput}
+use Rattle.classification.specs.Output.{note}
 
 -- Whether a file, by its note, is the lowest of a class of tables of order n, and is file i.
 abbrev pub namesOrder : ℕ → ℕ → Note → Bool
@@ -92,29 +91,9 @@ SoundIn notes over = length notes ≤ mostFiles
 abbrev pub Sound : Progress → Type 0
 Sound s = SoundIn (s .notes) (s .phase)
 
--- How many files may still be asked for.
-abbrev pub leftIn : List Note → Phase → ℕ
-leftIn notes reading = (mostFiles - length notes) * suc mostFiles
-leftIn notes (comparing n cells j) = (mostFiles - length notes) * suc mostFiles - j
-leftIn notes over = 0
-
-abbrev pub left : Progress → ℕ
-left s = leftIn (s .notes) (s .phase)
-
 -- ---- the whole way
 
 -- So many steps at most, each with what the folder has of the file asked for; none more where no file is asked for.
 unfoldable pub served : Folder → ℕ → Progress → Progress
 served folder zero s = s
 served folder (suc d) s = let later = served folder d (step s (folder (wanted s))) in cond (eqb (wanted s) 0) s later
-
--- After at most 2,550 steps nothing is asked for, and the notes make the whole output.
-pub record Prints (folder : Folder) : Type 0 where
-  pub ends : wanted (served folder (mostFiles * suc mostFiles) start) ≡ 0
-  pub output : notesText (served folder (mostFiles * suc mostFiles) start .notes) ≡ folderOutput folder
-
--- A step asks again, or ends: what holds goes on holding, fewer files are left to ask for, and no file above 50 is asked for.
-pub record Goes (s : Progress) : Type 0 where
-  pub sound : (answer : Option (List ℕ)) → Sound (step s answer)
-  pub fewer : (answer : Option (List ℕ)) → left (step s answer) < left s
-  pub within : wanted s ≤ mostFiles

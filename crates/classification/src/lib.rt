@@ -14,7 +14,8 @@ ghost use Rattle.files.specs.Files.{fileRefusal, room};
 ghost use Rattle.classification.specs.Classes as classes;
 ghost use Rattle.classification.specs.Output as output;
 ghost use Rattle.classification.specs.Progress as progress;
-ghost use Rattle.classification.specs.Held.{noteFrom, notesFrom, notesIn, progressOf, answerOf, cellsThen, totalText, fileName};
+ghost use Rattle.classification.specs.Held.{noteFrom, notesFrom, notesIn, progressOf, openedText, cellsThen, fileName};
+ghost use Rattle.classification.specs.InnerHeld.{totalText};
 use files::failed_question;
 use files::load_then_check;
 use lines::put_break;
@@ -366,7 +367,7 @@ impl Classifier {
         requires room { ⌜ length (now cells) ≡ room ⌝ }
         requires sound { ⌜ progress.Sound (progressOf self (now cells)) ⌝ }
         requires wanted { ⌜ (progress.wanted (progressOf self (now cells)) ≡ 0 → ⊥) ⌝ }
-        ensures answer { λ r. ⌜ progressOf r (now (cells .exit)) ≡ progress.step (progressOf self (now (cells .entry))) (answerOf opened (now (text .entry))) ⌝ }
+        ensures answer { λ r. ⌜ progressOf r (now (cells .exit)) ≡ progress.step (progressOf self (now (cells .entry))) (openedText opened (now (text .entry))) ⌝ }
         ensures cells { λ _. ⌜ now (cells .exit) ≡ cellsThen (self .task) opened (now (text .entry)) (now (cells .entry)) ⌝ }
     {
         let task = self.task;

@@ -1,2 +1,2 @@
-pub mod Said
-pub mod Walking
+pub mod InnerSaid
+pub mod InnerWalking

@@ -6,11 +6,11 @@ ghost use Prim.Native.Nat.{_≤_};
 ghost use lib.Dec.{eqb};
 ghost use lib.ListN.{length, drop};
 ghost use Rattle.semigroups.specs.Tables.{Accepted};
-ghost use Rattle.search.specs.Kinds.{kindOf as searchKindOf};
-ghost use Rattle.plain.specs.Enumeration.{kindOf};
-ghost use Rattle.comparisons.specs.Said.{saidNumber};
-ghost use Rattle.judging.specs.Tally.{agreed};
-ghost use Rattle.comparisons.specs.Walking.{called, walkCalls};
+ghost use Rattle.search.specs.Answers.{kindOf as searchKindOf};
+ghost use Rattle.plain.specs.InnerEnumeration.{plainKind};
+ghost use Rattle.comparisons.specs.InnerSaid.{saidNumber};
+ghost use Rattle.judging.specs.InnerTally.{agreed};
+ghost use Rattle.comparisons.specs.InnerWalking.{called, walkCalls};
 use crate::said::said_number;
 use judging::tally::Tally;
 use judging::tally::counted;
@@ -20,7 +20,7 @@ use search::search;
 
 // The kind of maps.
 fn kind_of(isomorphisms: bool) -> Kind
-    ensures answer { λ r. ⌜ searchKindOf r ≡ kindOf isomorphisms ⌝ }
+    ensures answer { λ r. ⌜ searchKindOf r ≡ plainKind isomorphisms ⌝ }
 {
     if isomorphisms {
         return Kind::Isomorphisms;

@@ -12,13 +12,14 @@ use lib.Dec.{eqb, leb}
 use lib.ListN.{length, getD, set}
 use lib.Seq.{getD-set-same, getD-set-other}
 use Rattle.semigroups.specs.Lists.{elements, at, all, member}
-use Rattle.semigroups.specs.Tables.{Product, Element, Closed}
-use Rattle.semigroups.specs.Search.{fits, passes}
+use Rattle.semigroups.specs.Tables.{Product, Element}
+use Rattle.semigroups.specs.TablesLaws.{Closed}
+use Rattle.semigroups.specs.Trials.{fits, passes}
 use Rattle.semigroups.proofs.Booleans.{clash, untrue, same-truth, both, and-left, and-right, or-holds}
 use Rattle.semigroups.proofs.Lists.{each-at, each-of, pairs-at, pairs-of, at-front, at-seam, length-snoc, not-member}
 use Rattle.semigroups.proofs.NoRepeats.{place-mem}
 use Rattle.semigroups.proofs.Completions.{allFrom, all-step}
-use Rattle.constraints.specs.Constraints.{allows, merge, noted, imageProduct, asks, agreeOn, cross, newFits, Reads}
+use Rattle.constraints.specs.InnerConstraints.{allows, merge, askedAt, imageProduct, asks, agreeOn, cross, newFits, Reads}
 
 -- ---- one more value asked
 
@@ -36,7 +37,7 @@ merge-allows v y₀ y lo hi =
 
 -- Constraints after one more pair, which asks y₀ of c₀.
 pub note-reads : (constraints : List ℕ) (q : ℕ → ℕ → Bool) (c₀ y₀ : ℕ) → length constraints ≡ 121 → Element 120 c₀ → Element 120 y₀ → Reads constraints q
-    → Reads (noted constraints c₀ y₀) (λ c y. q c y && (not (eqb c₀ c) || eqb y₀ y))
+    → Reads (askedAt constraints c₀ y₀) (λ c y. q c y && (not (eqb c₀ c) || eqb y₀ y))
 note-reads constraints q c₀ y₀ l hc hy R c y hc′ hy′ =
     elim (eqb c₀ c) as (λ w. eqb c₀ c ≡ w → allows (getD (set constraints c₀ (merge (getD constraints c₀ 0) y₀)) c 0) y ≡ (q c y && (not w || eqb y₀ y))) [
       | true ↦ (λ e.

@@ -8,10 +8,11 @@ use native.Mathlib.Omega.{arith}
 use lib.ListN.{length, getD, take, length-set, replicate, length-replicate, getD-replicate}
 use lib.Seq.{length-take-le, getD-take}
 use Rattle.semigroups.specs.Lists.{range, elements, at, all, member}
-use Rattle.semigroups.specs.Tables.{Product, Element, Closed}
-use Rattle.semigroups.specs.Search.{passes}
-use Rattle.constraints.specs.Constraints.{allows, merge, noted, imageProduct, asks, agreeOn, cross, newFits, Reads}
-use Rattle.constraints.specs.Tracking.{Placing, Tracks}
+use Rattle.semigroups.specs.Tables.{Product, Element}
+use Rattle.semigroups.specs.TablesLaws.{Closed}
+use Rattle.semigroups.specs.Trials.{passes}
+use Rattle.constraints.specs.InnerConstraints.{allows, merge, askedAt, imageProduct, asks, agreeOn, cross, newFits, Reads}
+use Rattle.constraints.specs.InnerTracking.{Placing, Tracks}
 use Rattle.constraints.proofs.Placing.{newest-prefix}
 use Rattle.constraints.proofs.Constraints.{note-reads, each-more, agreeOn-more, agreeOn-forced, agreeOn-owner, settle}
 
@@ -24,10 +25,10 @@ said u v k j c y = agreeOn u v k c y && all (λ i. cross (asks u v c y) (suc k) 
 -- One array of constraints, after both pairs of elements j + 1 and k + 1.
 both-noted : (u v : Product) (k j : ℕ) (constraints : List ℕ) → length constraints ≡ 121 → Element 120 (u (suc j) (suc k)) → Element 120 (v (suc j) (suc k)) → Element 120 (u (suc k) (suc j)) → Element 120 (v (suc k) (suc j))
     → Reads constraints (said u v k j)
-    → Reads (noted (noted constraints (u (suc j) (suc k)) (v (suc j) (suc k))) (u (suc k) (suc j)) (v (suc k) (suc j))) (said u v k (suc j))
+    → Reads (askedAt (askedAt constraints (u (suc j) (suc k)) (v (suc j) (suc k))) (u (suc k) (suc j)) (v (suc k) (suc j))) (said u v k (suc j))
 both-noted u v k j constraints l hu hv gu gv R c y hc hy =
     let once = note-reads constraints (said u v k j) (u (suc j) (suc k)) (v (suc j) (suc k)) l hu hv R in
-    let twice = note-reads (noted constraints (u (suc j) (suc k)) (v (suc j) (suc k))) (λ c y. said u v k j c y && asks u v c y (suc j) (suc k)) (u (suc k) (suc j)) (v (suc k) (suc j))
+    let twice = note-reads (askedAt constraints (u (suc j) (suc k)) (v (suc j) (suc k))) (λ c y. said u v k j c y && asks u v c y (suc j) (suc k)) (u (suc k) (suc j)) (v (suc k) (suc j))
     (length-set constraints (u (suc j) (suc k)) (merge (getD constraints (u (suc j) (suc k)) 0) (v (suc j) (suc k))) ∙ l) gu gv once in
     let A = agreeOn u v k c y in
     let J = all (λ i. cross (asks u v c y) (suc k) i) (elements j) in
@@ -42,7 +43,7 @@ module _ (s t : Product) (f : List ℕ) (k : ℕ) where
   -- Both pairs of j and the newest element, k + 1, noted.
   pub pairs-noted : (j : ℕ) → 1 ≤ j → (forced owner : List ℕ) → Element 120 (s j (suc k)) → Element 120 (v j (suc k)) → Element 120 (s (suc k) j) → Element 120 (v (suc k) j)
       → Tracks s t f k (j - 1) forced owner
-      → Tracks s t f k j (noted (noted forced (s j (suc k)) (v j (suc k))) (s (suc k) j) (v (suc k) j)) (noted (noted owner (v j (suc k)) (s j (suc k))) (v (suc k) j) (s (suc k) j))
+      → Tracks s t f k j (askedAt (askedAt forced (s j (suc k)) (v j (suc k))) (s (suc k) j) (v (suc k) j)) (askedAt (askedAt owner (v j (suc k)) (s j (suc k))) (v (suc k) j) (s (suc k) j))
   pairs-noted zero h forced owner a b c d W = absurd (let z : ⊥ = omega arith in z)
   pairs-noted (suc j) h forced owner a b c d W′ =
       let W = subst (λ (i : ℕ). Tracks s t f k i forced owner) (let z : suc j - 1 ≡ j = omega arith in z) W′ in
@@ -122,8 +123,8 @@ module _ (m : ℕ) (s : Product) (n : ℕ) (t : Product) (source : Closed m s) (
       omega arith
 
   pub turn : (forced owner forced₁ owner₁ forced₂ owner₂ : List ℕ) → Tracks s t f (len - 1) (j - 1) forced owner
-      → forced₁ ≡ noted forced (s j len) (imageProduct t image j len) → owner₁ ≡ noted owner (imageProduct t image j len) (s j len)
-      → forced₂ ≡ noted forced₁ (s len j) (imageProduct t image len j) → owner₂ ≡ noted owner₁ (imageProduct t image len j) (s len j)
+      → forced₁ ≡ askedAt forced (s j len) (imageProduct t image j len) → owner₁ ≡ askedAt owner (imageProduct t image j len) (s j len)
+      → forced₂ ≡ askedAt forced₁ (s len j) (imageProduct t image len j) → owner₂ ≡ askedAt owner₁ (imageProduct t image len j) (s len j)
       → Tracks s t f (len - 1) (j + 1 - 1) forced₂ owner₂
   turn forced owner forced₁ owner₁ forced₂ owner₂ W ef eo gf go =
       let v = imageProduct t f in
@@ -132,7 +133,7 @@ module _ (m : ℕ) (s : Product) (n : ℕ) (t : Product) (source : Closed m s) (
       let at-last : (u : Product) → Element 120 (u j len) → Element 120 (u j (suc (len - 1))) = (λ u h. subst (λ (i : ℕ). Element 120 (u j i)) (sym last) h) in
       let last-at : (u : Product) → Element 120 (u len j) → Element 120 (u (suc (len - 1)) j) = (λ u h. subst (λ (i : ℕ). Element 120 (u i j)) (sym last) h) in
       let both = pairs-noted s t f (len - 1) j (hj .0) forced owner (at-last s (source-small j len hj hl)) (at-last v (target-small j len hj hl)) (last-at s (source-small len j hl hj)) (last-at v (target-small len j hl hj)) W in
-      let noted-both = subst (λ (i : ℕ). Tracks s t f (len - 1) j (noted (noted forced (s j i) (v j i)) (s i j) (v i j)) (noted (noted owner (v j i) (s j i)) (v i j) (s i j))) last both in
+      let noted-both = subst (λ (i : ℕ). Tracks s t f (len - 1) j (askedAt (askedAt forced (s j i) (v j i)) (s i j) (v i j)) (askedAt (askedAt owner (v j i) (s j i)) (v i j) (s i j))) last both in
       rw (let z : j + 1 - 1 ≡ j = omega arith in z, gf, go, ef, eo, seen j len hj hl, seen len j hl hj) noted-both
 
   -- All turns done.

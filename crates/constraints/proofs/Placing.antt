@@ -13,11 +13,11 @@ use lib.ListN.{length, getD, take, drop, set, length-set, take-append-drop, repl
 use lib.Seq.{length-take-le, getD-take, take-suc, take-suc-set, take-set-le, drop-set-lt, drop-drop, getD-set-same, getD-set-other}
 use Rattle.semigroups.specs.Lists.{at, member}
 use Rattle.semigroups.specs.Tables.{Product, Element}
-use Rattle.semigroups.specs.Search.{fits}
+use Rattle.semigroups.specs.Trials.{fits}
 use Rattle.semigroups.proofs.Lists.{at-front, at-seam, length-snoc, unmember}
 use Rattle.semigroups.proofs.Search.{placed-none, placed-more}
 use Rattle.semigroups.proofs.NoRepeats.{place-mem, mem-place, sorted-places}
-use Rattle.constraints.specs.Tracking.{Placing, Trial}
+use Rattle.constraints.specs.InnerTracking.{Placing, Trial}
 use Rattle.constraints.proofs.Constraints.{member-snoc}
 
 unused : (b : Bool) → eqb (cond b 1 0) 0 ≡ not b

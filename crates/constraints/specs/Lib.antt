@@ -1,2 +1,2 @@
-pub mod Constraints
-pub mod Tracking
+pub mod InnerConstraints
+pub mod InnerTracking

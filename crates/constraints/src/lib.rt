@@ -7,9 +7,9 @@ ghost use Prim.Native.Nat.{ℕ, _+_, _-_, _≤_, _<_};
 ghost use lib.ListN.{length, getD, take};
 ghost use Rattle.semigroups.specs.Lists.{at, member};
 ghost use Rattle.semigroups.specs.Tables.{product, Element, Filled};
-ghost use Rattle.semigroups.specs.Search.{fits, passes};
-ghost use Rattle.constraints.specs.Constraints.{allows, noted, imageProduct, newFits};
-ghost use Rattle.constraints.specs.Tracking.{Trial, Tracks};
+ghost use Rattle.semigroups.specs.Trials.{fits, passes};
+ghost use Rattle.constraints.specs.InnerConstraints.{allows, askedAt, imageProduct, newFits};
+ghost use Rattle.constraints.specs.InnerTracking.{Trial, Tracks};
 use tables::limits::ORDER;
 use tables::limits::PLACES;
 
@@ -26,7 +26,7 @@ fn allowed(constraint: u8, y: usize) -> bool
 // The value y is asked at this place too.
 fn note(constraints: &mut [u8; PLACES], place: usize, y: usize)
     requires { ⌜ (place ≤ 120) × (y ≤ 120) ⌝ }
-    ensures constraints { λ _. ⌜ now (constraints .exit) ≡ noted (now (constraints .entry)) place y ⌝ }
+    ensures constraints { λ _. ⌜ now (constraints .exit) ≡ askedAt (now (constraints .entry)) place y ⌝ }
 {
     if allowed(constraints[place], y) {
         constraints[place] = y as u8;
@@ -50,8 +50,8 @@ fn note_pair(
     requires { ⌜ Filled m (now source) × Filled n (now target) ⌝ }
     requires { ⌜ Element m a × Element m b ⌝ }
     requires { ⌜ Element n (at (now image) a) × Element n (at (now image) b) ⌝ }
-    ensures forced { λ _. ⌜ now (forced .exit) ≡ noted (now (forced .entry)) (product m (now (source .entry)) a b) (imageProduct (product n (now (target .entry))) (now (image .entry)) a b) ⌝ }
-    ensures owner { λ _. ⌜ now (owner .exit) ≡ noted (now (owner .entry)) (imageProduct (product n (now (target .entry))) (now (image .entry)) a b) (product m (now (source .entry)) a b) ⌝ }
+    ensures forced { λ _. ⌜ now (forced .exit) ≡ askedAt (now (forced .entry)) (product m (now (source .entry)) a b) (imageProduct (product n (now (target .entry))) (now (image .entry)) a b) ⌝ }
+    ensures owner { λ _. ⌜ now (owner .exit) ≡ askedAt (now (owner .entry)) (imageProduct (product n (now (target .entry))) (now (image .entry)) a b) (product m (now (source .entry)) a b) ⌝ }
 {
     let c = tables::times(source, m, a, b);
     let x = image[a - 1] as usize;

@@ -15,10 +15,13 @@ use Rattle.semigroups.specs.Lists.{sum, all}
 use Rattle.semigroups.specs.Tables.{Element, Filled}
 use Rattle.semigroups.proofs.Booleans.{both, and-left, and-right}
 use Rattle.csv.specs.Decimals.{numeral, value}
-use Rattle.csv.specs.Records.{closed, rows, rowsText}
+use Rattle.csv.specs.RoundsLaws.{closed}
+use Rattle.csv.specs.Records.{rows, rowsText}
 use Rattle.csv.specs.Tables.{fieldsOf, orderOf, cellsOf, tableText}
-use Rattle.csv.specs.Questions.{fieldRefusal, fieldsRefusal, isSquare, gridRefusal, loadRefusal}
-use Rattle.csv.specs.Passing.{Number}
+use Rattle.csv.specs.QuestionsLaws.{fieldRefusal}
+use Rattle.csv.specs.InnerQuestions.{fieldsRefusal, gridRefusal}
+use Rattle.csv.specs.Questions.{isSquare, loadRefusal}
+use Rattle.csv.specs.PassingLaws.{Number}
 use Rattle.csv.specs.Every.{Every}
 use Rattle.csv.proofs.Every.{every-append}
 use Rattle.csv.proofs.Bytes.{clean, clean-other, other-clean, no-other, closed-is}

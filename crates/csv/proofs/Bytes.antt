@@ -14,8 +14,10 @@ use Rattle.semigroups.proofs.Booleans.{both, and-left, and-right, not-of-true}
 use Rattle.semigroups.proofs.Lists.{mem-range, range-mem, find-none, none-find}
 use Rattle.semigroups.proofs.Questions.{all-passed}
 use Rattle.csv.specs.Decimals.{isDigit}
-use Rattle.csv.specs.Records.{isBreak, endsInBreak, closed}
-use Rattle.csv.specs.Questions.{breakAt, inBreak, isAllowed, firstOther, bytesQuestion, bytesRefusal}
+use Rattle.csv.specs.Records.{isBreak}
+use Rattle.csv.specs.RoundsLaws.{endsInBreak, closed}
+use Rattle.csv.specs.Questions.{breakAt, inBreak, isAllowed, firstOther, bytesQuestion}
+use Rattle.csv.specs.InnerQuestions.{bytesRefusal}
 use Rattle.csv.proofs.Records.{ends, closing, missing, break-bytes}
 
 -- ---- the last line break

@@ -1,4 +1,4 @@
--- A text loads exactly as if its last line break were there (02, (ii)): the bytes that 21 names, and the rows, are the same.
+-- A text loads exactly as if its last line break were there (RULES 19.2): the bytes that 21 names, and the rows, are the same.
 -- Assumes nothing.
 use mathlib.Core.Path.{_≡_, refl, ap, _∙_}
 use mathlib.Core.Bool.{Bool, true, false, _&&_, not, cond, and-false}
@@ -15,13 +15,13 @@ use Rattle.semigroups.specs.Lists.{range, find}
 use Rattle.semigroups.proofs.Booleans.{not-of-true, equal-or-not}
 use Rattle.semigroups.proofs.Lists.{range-append, mem-range, find-same, none-find, find-append}
 use Rattle.semigroups.specs.Tables.{isElement}
-use Rattle.csv.specs.Passing.{a-cr, an-lf, LoadPasses}
+use Rattle.csv.specs.PassingLaws.{a-cr, an-lf, LoadPasses}
 use Rattle.csv.specs.Calls.{loadAnswer, cellsAfter}
-use Rattle.csv.specs.Rounds.{LoadsClosed}
+use Rattle.csv.specs.RoundsLaws.{LoadsClosed, closed}
 use Rattle.csv.specs.Tables.{fieldsOf, orderOf, cellsOf}
 use Rattle.csv.proofs.Loading.{load-passed}
 use Rattle.csv.proofs.Accepted.{closed-fits}
-use Rattle.csv.specs.Records.{isBreak, closed, onto, records, fields, rows}
+use Rattle.csv.specs.Records.{isBreak, onto, records, fields, rows}
 use Rattle.csv.specs.Questions.{longest, breakAt, inBreak, isAllowed, firstOther, loadRefusal}
 use Rattle.csv.proofs.Records.{ends, closing, missing}
 use Rattle.csv.proofs.Bytes.{closed-is}

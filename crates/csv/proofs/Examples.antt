@@ -6,9 +6,11 @@ use mathlib.Core.Option.{Option, none, some, orElse}
 use Prim.Native.Nat.{ℕ}
 use Rattle.semigroups.specs.Lists.{at, range, elements, all, find, firstOf}
 use Rattle.semigroups.specs.Tables.{product, isElement, badCell}
-use Rattle.semigroups.specs.Questions.{Refusal, no}
+use Rattle.semigroups.specs.Questions.{Refusal}
+use Rattle.semigroups.specs.QuestionsLaws.{no}
 use Rattle.csv.specs.Decimals.{isDigit, value, valueFrom, numeral, numeralWithin}
-use Rattle.csv.specs.Records.{isBreak, endsInBreak, closed, onto, records, fields, rows, recordText, lineText, rowsText}
+use Rattle.csv.specs.Records.{isBreak, onto, records, fields, rows, recordText, lineText, rowsText}
+use Rattle.csv.specs.RoundsLaws.{endsInBreak, closed}
 use Rattle.csv.specs.Tables.{fieldsOf, orderOf, cellsOf, rowFields, tableText}
 use Rattle.csv.specs.Calls.{cellsAfter, textAfter}
 use Rattle.csv.specs.Questions.{breakAt, inBreak, isAllowed, firstOther, fieldsQuestions, isSquare, loadRefusal, saveRefusal}

@@ -7,11 +7,12 @@ use mathlib.Core.Option.{none}
 use Prim.Native.Nat.{ℕ, _+_, _≤_, _<_}
 use native.Mathlib.Omega.{arith}
 use lib.ListN.{length, drop, set}
-use Rattle.csv.specs.Decimals.{digits, value}
+use Rattle.csv.specs.InnerCursor.{digits, nextField, fieldFollows}
+use Rattle.csv.specs.Decimals.{value}
 use Rattle.csv.specs.Records.{rows}
-use Rattle.csv.specs.Cursor.{nextField, fieldFollows}
 use Rattle.csv.specs.Tables.{fieldsOf, cellsOf}
-use Rattle.csv.specs.Questions.{bytesRefusal, fieldRefusal, fieldsRefusal}
+use Rattle.csv.specs.InnerQuestions.{bytesRefusal, fieldsRefusal}
+use Rattle.csv.specs.QuestionsLaws.{fieldRefusal}
 use Rattle.semigroups.specs.Calls.{overwritten}
 use Rattle.csv.proofs.Reading.{Left, Turn, behind, flatten-behind, turn, left-none, all-left}
 use Rattle.csv.proofs.Writing.{Writing, write-first, write-length, write-room, write-next, write-last, sets-overwritten}

@@ -10,14 +10,16 @@ use lib.Dec.{eqb}
 use lib.ListN.{length, drop}
 use borrow.Author.Tests.{eq-eqb, ne-eqb, not-true, not-false}
 use Rattle.semigroups.specs.Lists.{all, firstOf}
-use Rattle.semigroups.specs.Questions.{Refusal, no, firstNo}
+use Rattle.semigroups.specs.Questions.{Refusal, firstNo}
+use Rattle.semigroups.specs.QuestionsLaws.{no}
 use Rattle.semigroups.proofs.Questions.{failed-before, passed-before}
 use Rattle.semigroups.proofs.Booleans.{impossible}
-use Rattle.csv.specs.Decimals.{digits}
+use Rattle.csv.specs.InnerCursor.{digits, commaBehind, nextField, fieldFollows}
 use Rattle.csv.specs.Records.{rows}
-use Rattle.csv.specs.Cursor.{commaBehind, nextField, fieldFollows}
 use Rattle.csv.specs.Tables.{fieldsOf, orderOf}
-use Rattle.csv.specs.Questions.{bytesRefusal, fieldRefusal, fieldsQuestions, fieldsRefusal, isSquare, squareQuestion, gridRefusal}
+use Rattle.csv.specs.InnerQuestions.{bytesRefusal, fieldsRefusal, gridRefusal}
+use Rattle.csv.specs.QuestionsLaws.{fieldRefusal}
+use Rattle.csv.specs.Questions.{fieldsQuestions, isSquare, squareQuestion}
 use Rattle.csv.proofs.Fields.{no-fields, fields-first}
 use Rattle.csv.proofs.Reading.{Left, begins, Turn, behind, goesOn, flatten-behind, turn, left-true, left-none, all-left, next-later}
 

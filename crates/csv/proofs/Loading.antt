@@ -12,13 +12,15 @@ use lib.ListN.{length, length-append, length-map}
 use borrow.Author.Tests.{eqb-true, leb-true, le-leb, lt-leb}
 use Rattle.semigroups.specs.Lists.{all, firstOf, member}
 use Rattle.semigroups.specs.Tables.{isElement}
-use Rattle.semigroups.specs.Questions.{Question, ask, Refusal, no, firstNo}
+use Rattle.semigroups.specs.Questions.{Question, ask, Refusal, firstNo}
+use Rattle.semigroups.specs.QuestionsLaws.{no}
 use Rattle.semigroups.proofs.Lists.{is-element}
 use Rattle.semigroups.proofs.Booleans.{both, and-left, and-right}
 use Rattle.semigroups.proofs.Questions.{ask-passed, all-passed, failed-before, passed-before, both-passed, Listed, listed, listed-append}
 use Rattle.csv.specs.Records.{rows}
 use Rattle.csv.specs.Tables.{fieldsOf, orderOf, cellsOf}
-use Rattle.csv.specs.Questions.{longest, bytesQuestion, bytesRefusal, fieldQuestions, fieldsQuestions, fieldsRefusal, isSquare, squareQuestion, gridQuestions, gridRefusal, sizeQuestions, loadQuestions, loadRefusal}
+use Rattle.csv.specs.Questions.{longest, bytesQuestion, fieldQuestions, fieldsQuestions, isSquare, squareQuestion, gridQuestions, sizeQuestions, loadQuestions, loadRefusal}
+use Rattle.csv.specs.InnerQuestions.{bytesRefusal, fieldsRefusal, gridRefusal}
 use Rattle.semigroups.specs.Calls.{refused, gives, overwritten}
 use Rattle.csv.specs.Calls.{loadAnswer, cellsAfter}
 

@@ -11,7 +11,8 @@ use lib.ListN.{length, getD}
 use borrow.Author.Tests.{eqb-true, eq-eqb, not-false}
 use Rattle.semigroups.specs.Lists.{range, all}
 use Rattle.semigroups.specs.Tables.{isElement}
-use Rattle.semigroups.specs.Questions.{ask, firstNo, cellsQuestions, cellsRefusal}
+use Rattle.semigroups.specs.Questions.{ask, firstNo, cellsQuestions}
+use Rattle.semigroups.specs.QuestionsLaws.{cellsRefusal}
 use Rattle.semigroups.proofs.Booleans.{both, and-left, and-right, or-holds, not-of-true}
 use Rattle.semigroups.proofs.Lists.{all-at, all-of, mem-range, range-mem, find-none, none-find}
 use Rattle.semigroups.proofs.Questions.{all-passed}
@@ -19,8 +20,9 @@ use Rattle.semigroups.proofs.Passing.{asked, element-asked, room-asked, joined,
 use Rattle.csv.specs.Decimals.{isDigit}
 use Rattle.csv.specs.Records.{isBreak, rows}
 use Rattle.csv.specs.Tables.{fieldsOf, orderOf, tableText}
-use Rattle.csv.specs.Questions.{longest, breakAt, inBreak, isAllowed, firstOther, bytesQuestion, fieldsQuestions, fieldsRefusal, isSquare, squareQuestion, gridQuestions, sizeQuestions, loadRefusal, saveRefusal}
-use Rattle.csv.specs.Passing.{AllowedByte, a-digit, a-comma, a-cr, an-lf, Number, LoadPasses, SavePasses}
+use Rattle.csv.specs.Questions.{longest, breakAt, inBreak, isAllowed, firstOther, bytesQuestion, fieldsQuestions, isSquare, squareQuestion, gridQuestions, sizeQuestions, loadRefusal, saveRefusal}
+use Rattle.csv.specs.InnerQuestions.{fieldsRefusal}
+use Rattle.csv.specs.PassingLaws.{AllowedByte, a-digit, a-comma, a-cr, an-lf, Number, LoadPasses, SavePasses}
 use Rattle.csv.proofs.Records.{break-bytes}
 use Rattle.csv.proofs.Rows.{digit-range}
 use Rattle.csv.proofs.Fields.{is-digit, field-passes, field-passed, no-fields, fields-first, fields-passed}

@@ -11,10 +11,11 @@ use lib.Dec.{eqb, ltb}
 use lib.ListN.{length, getD, drop, length-append, length-drop, List·getD-append}
 use lib.Seq.{drop-drop, drop-append-le, drop-append-seam, getD-drop, getD-append-seam}
 use borrow.Author.Tests.{lt-ltb, le-ltb, ltb-true, ltb-false, eqb-true, eq-eqb}
-use Rattle.csv.specs.Decimals.{isDigit, digits}
-use Rattle.csv.specs.Records.{isBreak, endsInBreak, rows, recordText, rowsText}
-use Rattle.csv.specs.Cursor.{fieldEnd, commaBehind, nextField, fieldFollows}
-use Rattle.csv.specs.Questions.{bytesRefusal}
+use Rattle.csv.specs.Decimals.{isDigit}
+use Rattle.csv.specs.InnerCursor.{digits, fieldEnd, commaBehind, nextField, fieldFollows}
+use Rattle.csv.specs.Records.{isBreak, rows, recordText, rowsText}
+use Rattle.csv.specs.RoundsLaws.{endsInBreak}
+use Rattle.csv.specs.InnerQuestions.{bytesRefusal}
 use Rattle.csv.proofs.Records.{ends, closing, missing}
 use Rattle.csv.proofs.Bytes.{other-clean, no-other, ends-break}
 use Rattle.csv.proofs.Rows.{Digits, Rows, rowsText-cons, rowsText-rows, clean-rows, rows-some}

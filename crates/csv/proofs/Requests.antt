@@ -1,4 +1,4 @@
--- The requests (ii) and (iv) of 02 hold. Shown here: what becomes of a text that only its last line break makes too long, which numbers never come, and the
+-- RULES 19.2 and 19.6 hold. Shown here: what becomes of a text that only its last line break makes too long, which numbers never come, and the
 -- field behind a last comma. Assumes nothing.
 use mathlib.Core.Path.{_≡_, refl, sym, ap, _∙_}
 use mathlib.Core.Bool.{Bool, true, false, cond, and-false}
@@ -11,11 +11,13 @@ use lib.Dec.{eqb}
 use lib.ListN.{length, length-append, replicate, length-replicate}
 use Rattle.semigroups.specs.Lists.{all, firstOf, member}
 use Rattle.semigroups.specs.Tables.{isElement}
-use Rattle.semigroups.specs.Questions.{ask, Refusal, no, firstNo}
+use Rattle.semigroups.specs.Questions.{ask, Refusal, firstNo}
+use Rattle.semigroups.specs.QuestionsLaws.{no}
 use Rattle.semigroups.specs.Calls.{refused}
 use Rattle.semigroups.proofs.Booleans.{clash}
 use Rattle.semigroups.proofs.Questions.{passed-before, listed}
-use Rattle.csv.specs.Records.{isBreak, onto, records, endsInBreak, closed, fields, rows}
+use Rattle.csv.specs.Records.{isBreak, onto, records, fields, rows}
+use Rattle.csv.specs.RoundsLaws.{endsInBreak, closed}
 use Rattle.csv.specs.Tables.{fieldsOf}
 use Rattle.csv.specs.Questions.{longest, bytesQuestion, sizeQuestions, loadRefusal}
 use Rattle.csv.specs.Calls.{loadAnswer, cellsAfter}

@@ -12,13 +12,12 @@ use Rattle.semigroups.specs.Tables.{Filled}
 use Rattle.semigroups.specs.Questions.{Refusal}
 use Rattle.semigroups.proofs.Tables.{no-cells-refusal}
 use Rattle.semigroups.proofs.Calls.{gives-ne-refused}
-use Rattle.csv.specs.Records.{closed}
+use Rattle.csv.specs.RoundsLaws.{closed, SavedLoads, LoadedSaves, Buffers, given, textHeld, saved, loadedOrder, loadedCells, round, rounds, Unchanged, RoundsClose}
 use Rattle.csv.specs.Tables.{orderOf, cellsOf, tableText}
 use Rattle.csv.specs.Questions.{loadRefusal}
 use Rattle.semigroups.specs.Calls.{gives, givenUnless, overwritten}
-use Rattle.csv.specs.Passing.{LoadPasses, SavePasses}
+use Rattle.csv.specs.PassingLaws.{LoadPasses, SavePasses}
 use Rattle.csv.specs.Calls.{loadAnswer, cellsAfter, saveAnswer, textAfter}
-use Rattle.csv.specs.Rounds.{SavedLoads, LoadedSaves, Buffers, given, textHeld, saved, loadedOrder, loadedCells, round, rounds, Unchanged, Closed}
 use Rattle.csv.proofs.Writing.{overwritten-length, overwritten-twice}
 use Rattle.csv.proofs.Passing.{load-passes}
 use Rattle.csv.proofs.Loading.{Loadable, load-passed, load-given, cells-length}
@@ -180,7 +179,7 @@ rounds-first (suc r) b = ap round (rounds-first r b)
 -- Loading and saving an accepted text whose entries lie within its order closes it; doing so again, however often, changes no further byte.
 pub rounds-close : (b : Buffers) → LoadPasses (textHeld b) (length (b .cells))
     → ((k : ℕ) → k < length (cellsOf (textHeld b)) → getD (cellsOf (textHeld b)) k 0 ≤ orderOf (textHeld b)) → length (closed (textHeld b)) ≤ length (b .text)
-    → (r : ℕ) → Closed (textHeld b) b (rounds (suc r) b)
+    → (r : ℕ) → RoundsClose (textHeld b) b (rounds (suc r) b)
 rounds-close b p within room r =
     let t = textHeld b in
     let n = orderOf t in

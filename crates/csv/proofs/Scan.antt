@@ -10,10 +10,11 @@ use native.Mathlib.Omega.{arith}
 use lib.ListN.{length, getD, List·getD-eq-default}
 use borrow.Author.Tests.{le-leb, lt-leb, ne-eqb}
 use Rattle.semigroups.specs.Lists.{range, find, firstOf}
-use Rattle.semigroups.specs.Questions.{no}
+use Rattle.semigroups.specs.QuestionsLaws.{no}
 use Rattle.csv.specs.Decimals.{isDigit}
 use Rattle.csv.specs.Records.{isBreak}
-use Rattle.csv.specs.Questions.{breakAt, inBreak, isAllowed, firstOther, bytesRefusal}
+use Rattle.csv.specs.Questions.{breakAt, inBreak, isAllowed, firstOther}
+use Rattle.csv.specs.InnerQuestions.{bytesRefusal}
 
 -- The first other byte from place i on.
 unfoldable pub otherFrom : List ℕ → ℕ → Option ℕ

@@ -1,4 +1,4 @@
--- What a call that loads or saves says, and the bytes that it leaves, from all that is lent (01, "Text" and "The questions").
+-- What a call that loads or saves says, and the bytes that it leaves, from all that is lent (RULES 19 and 7).
 -- Assumes nothing.
 use mathlib.Core.List.{List}
 use Prim.Native.Nat.{ℕ}

@@ -1,4 +1,4 @@
--- Decimal numbers as bytes: digits are the bytes 48 to 57, the first digit counts most (01, "Text": decimal cells).
+-- Decimal numbers as bytes: digits are the bytes 48 to 57, the first digit counts most (RULES 19.1: decimal cells).
 -- Assumes nothing.
 use mathlib.Core.Bool.{Bool, _&&_, cond}
 use mathlib.Core.List.{List, [], _∷_, _++_}
@@ -8,11 +8,6 @@ use lib.Dec.{leb, ltb}
 -- Whether a byte is a digit.
 unfoldable pub isDigit : ℕ → Bool
 isDigit b = leb 48 b && leb b 57
-
--- The digits that a list of bytes begins with.
-unfoldable pub digits : List ℕ → List ℕ
-digits [] = []
-digits (b ∷ t) = let r = digits t in cond (isDigit b) (b ∷ r) []
 
 -- The number that v and the digits behind it make.
 unfoldable pub valueFrom : ℕ → List ℕ → ℕ

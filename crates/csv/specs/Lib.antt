@@ -1,11 +1,13 @@
 pub mod Every
 pub mod Decimals
 pub mod Records
-pub mod Cursor
 pub mod Tables
 pub mod Questions
-pub mod Passing
 pub mod Calls
-pub mod Rounds
+pub mod PassingLaws
+pub mod RoundsLaws
 pub mod Rules
+pub mod QuestionsLaws
 pub mod Requests
+pub mod InnerCursor
+pub mod InnerQuestions

@@ -1,5 +1,5 @@
--- The questions about loading and saving a text, in the order of 01, "The questions", with 24 before 23 (02, (iv)) and without 22 (02, (ii)).
--- Stricter than RFC 4180 by 01, "About loading a text": a length limit (20); digits, commas and line breaks alone, so no header, no quoted field
+-- The questions about loading and saving a text, in the order of RULES 7.3.
+-- Stricter than RFC 4180 by RULES 7.2: a length limit (20); digits, commas and line breaks alone, so no header, no quoted field
 -- and no space (21); decimal fields of 1 to 120 with no leading 0 (23 to 25); a square (26) of order 120 at most (1).
 -- Assumes nothing.
 use mathlib.Core.Bool.{Bool, _&&_, _||_, not}
@@ -42,24 +42,15 @@ firstOther t = find (λ p. not (isAllowed t p)) (range 0 (length t))
 abbrev pub bytesQuestion : List ℕ → Question
 bytesQuestion t = seek 21 (Option·map (λ p. p ∷ []) (firstOther t))
 
-unfoldable pub bytesRefusal : List ℕ → Option Refusal
-bytesRefusal t = firstNo (bytesQuestion t ∷ [])
-
 -- ---- the fields of a text
 
 -- About a field: 24, is its first byte other than 0? A field with no byte has none, and passes. 23, is it 1 to 3 bytes? 25, is it at most 120?
 abbrev pub fieldQuestions : List ℕ → List Question
 fieldQuestions f = ask 24 (not (eqb (getD f 0 0) 48)) ∷ ask 23 (isElement 3 (length f)) ∷ ask 25 (leb (value f) 120) ∷ []
 
-unfoldable pub fieldRefusal : List ℕ → Option Refusal
-fieldRefusal f = firstNo (fieldQuestions f)
-
 -- Each field in reading order, its three questions before the next field's.
 unfoldable pub fieldsQuestions : List (List ℕ) → List Question
 fieldsQuestions fs = flatMap fieldQuestions fs
-
-unfoldable pub fieldsRefusal : List (List ℕ) → Option Refusal
-fieldsRefusal fs = firstNo (fieldsQuestions fs)
 
 -- Whether there are n records, each with n fields.
 unfoldable pub isSquare : ℕ → List (List (List ℕ)) → Bool
@@ -72,9 +63,6 @@ squareQuestion n t = ask 26 (isSquare n (rows t))
 -- 24, 23 and 25 of each field; then 26 for an order n that is given.
 abbrev pub gridQuestions : ℕ → List ℕ → List Question
 gridQuestions n t = fieldsQuestions (fieldsOf t) ++ squareQuestion n t ∷ []
-
-unfoldable pub gridRefusal : ℕ → List ℕ → Option Refusal
-gridRefusal n t = firstNo (gridQuestions n t)
 
 -- ---- the calls
 

@@ -1,13 +1,12 @@
 -- Text as records and fields (RFC 4180, section 2): each record stands on its own line, closed by a line break, CR LF, the bytes 13 and 10;
--- "the last record in the file may or may not have an ending line break" (section 2, rule 2; 02, (ii)); its fields stand between commas, byte 44.
--- Two directions: the records and fields of a text, and the text of records and fields, which closes the last record too (01, "Text").
--- Stricter than RFC 4180 by 01, "Text": "RFC 4180 without a header and without quoted fields".
+-- "the last record in the file may or may not have an ending line break" (section 2, rule 2; RULES 19.2); its fields stand between commas, byte 44.
+-- Two directions: the records and fields of a text, and the text of records and fields, which closes the last record too (RULES 19.4).
+-- Stricter than RFC 4180 by RULES 19.1: "RFC 4180 without a header and without quoted fields".
 -- Assumes nothing.
 use mathlib.Core.Bool.{Bool, _&&_, cond}
 use mathlib.Core.List.{List, [], _∷_, _++_, map, flatMap}
-use Prim.Native.Nat.{ℕ, _-_}
+use Prim.Native.Nat.{ℕ}
 use lib.Dec.{eqb}
-use lib.ListN.{length, getD}
 
 -- Whether two bytes in a row are a line break.
 unfoldable pub isBreak : ℕ → ℕ → Bool
@@ -29,15 +28,6 @@ records (b ∷ c ∷ t) =
     let open-record = records (c ∷ t) in
     cond (isBreak b c) ([] ∷ closed) (onto b open-record)
 
--- Whether the last two bytes of a text are a line break.
-unfoldable pub endsInBreak : List ℕ → Bool
-endsInBreak t = isBreak (getD t (length t - 2) 0) (getD t (length t - 1) 0)
-
--- The text with the line break added that its last record lacks (02, (ii)). A text with no byte has no record.
-unfoldable pub closed : List ℕ → List ℕ
-closed [] = []
-closed (b ∷ t) = cond (endsInBreak (b ∷ t)) (b ∷ t) ((b ∷ t) ++ 13 ∷ 10 ∷ [])
-
 -- The fields of a record. A record with no byte is one field with no byte.
 unfoldable pub fields : List ℕ → List (List ℕ)
 fields [] = [] ∷ []
@@ -58,6 +48,6 @@ recordText (f ∷ fs) = f ++ flatMap (λ g. 44 ∷ g) fs
 unfoldable pub lineText : List (List ℕ) → List ℕ
 lineText r = recordText r ++ 13 ∷ 10 ∷ []
 
--- The text of records, each closed by a line break, the last one too (01, "Text").
+-- The text of records, each closed by a line break, the last one too (RULES 19.4).
 unfoldable pub rowsText : List (List (List ℕ)) → List ℕ
 rowsText rs = flatMap lineText rs

@@ -1,15 +1,15 @@
--- The rules of 01, "Text", as sentences about the definitions. Assumes nothing.
+-- The rules of RULES 19, as sentences about the definitions. Assumes nothing.
 use mathlib.Core.Path.{_≡_}
 use mathlib.Core.List.{List}
 use Prim.Native.Nat.{ℕ, _*_, _≤_, _<_}
 use lib.ListN.{length}
 use Rattle.semigroups.specs.Tables.{Filled}
 use Rattle.csv.specs.Decimals.{value, numeral}
-use Rattle.csv.specs.Records.{closed, rows, rowsText}
+use Rattle.csv.specs.RoundsLaws.{closed, Buffers, saved, rounds, Unchanged}
+use Rattle.csv.specs.Records.{rows, rowsText}
 use Rattle.csv.specs.Tables.{tableText}
 use Rattle.csv.specs.Questions.{longest}
-use Rattle.csv.specs.Passing.{SavePasses}
-use Rattle.csv.specs.Rounds.{Buffers, saved, rounds, Unchanged}
+use Rattle.csv.specs.PassingLaws.{SavePasses}
 
 pub record TextRules : Type 0 where
   -- The records and fields of a text make that text again, each record closed, the last one too.

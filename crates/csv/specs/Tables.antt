@@ -1,4 +1,4 @@
--- Tables as text (01, "Text"): a record for each row, a field for each cell. The order is the number of fields of the first record.
+-- Tables as text (RULES 19): a record for each row, a field for each cell. The order is the number of fields of the first record.
 -- Assumes nothing.
 use mathlib.Core.List.{List, [], map, flatten}
 use Prim.Native.Nat.{ℕ}

@@ -1,9 +1,10 @@
--- Demand 1 holds of the calls that 02 added and of the search among given pairs. Assumes nothing.
+-- Demand 1 holds of the calls that RULES 9, 11 and 15 to 20 add. Assumes nothing.
 use mathlib.Core.Path.{_≡_, ap}
 use mathlib.Core.List.{[], _∷_}
 use lib.ListN.{length, replicate}
 use Rattle.semigroups.specs.Tables.{product}
-use Rattle.semigroups.specs.Questions.{no, searchQuestions, searchRefusal, EarliestNo}
+use Rattle.semigroups.specs.QuestionsLaws.{no, EarliestNo}
+use Rattle.semigroups.specs.Questions.{searchQuestions, searchRefusal}
 use Rattle.semigroups.specs.Calls.{refused, gives}
 use Rattle.semigroups.specs.Maps.{Sought, first, sought}
 use Rattle.semigroups.specs.Trials as trials
@@ -17,10 +18,10 @@ use Rattle.semigroups.proofs.Calls.{refused-by}
 use Rattle.semigroups.proofs.Light.{generators-pass, generators-refused}
 use Rattle.semigroups.proofs.Subsemigroups.{subsemigroup-passes, subsemigroup-examples}
 use Rattle.semigroups.proofs.Copies.{copies-pass, copies-examples}
-use Rattle.generated.specs.Answers.{subsemigroupSays, partAfter, elementsAfter}
+use Rattle.generated.specs.Calls.{subsemigroupSays, partAfter, elementsAfter}
 use Rattle.generated.proofs.Parts.{subsemigroup-keeps}
 use Rattle.planning.specs.Degrees.{leastDegree, degreeQuestions, degreeRefusal}
-use Rattle.planning.specs.Answers.{degreeSays}
+use Rattle.planning.specs.Calls.{degreeSays}
 use Rattle.planning.proofs.Questions.{degree-passes, positions-kept}
 use Rattle.sheets.specs.Readings.{namesIn}
 use Rattle.sheets.specs.Names.{namesText, namesAt}
@@ -35,7 +36,7 @@ use Rattle.search.proofs.Limits.{limits-theorem}
 use Rattle.search.proofs.Among.{among-passes}
 use Rattle.search.proofs.AmongLaws.{among-laws}
 use Rattle.search.proofs.AmongExamples.{among-examples}
-use Rattle.copies.specs.Answers.{copiesSays, copiesScratch}
+use Rattle.copies.specs.Calls.{copiesSays, copiesScratch}
 use Rattle.copies.proofs.Answering.{copies-keep}
 use Rattle.demands.specs.Added.{AddedCalls}
 use Rattle.demands.proofs.Answers.{asks, answers}

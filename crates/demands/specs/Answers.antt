@@ -4,7 +4,8 @@ use mathlib.Core.Path.{_≡_}
 use mathlib.Core.Logic.{_⊎_, _↔_}
 use mathlib.Core.List.{List}
 use mathlib.Core.Option.{Option, none, some}
-use Rattle.semigroups.specs.Questions.{Question, Refusal, EarliestNo}
+use Rattle.semigroups.specs.Questions.{Question, Refusal}
+use Rattle.semigroups.specs.QuestionsLaws.{EarliestNo}
 use Rattle.semigroups.specs.Calls.{Answer, refused, gives}
 
 -- A call that asks questions and nothing else: it says the earliest failed question's refusal, and none exactly where what it needs holds.

@@ -1,13 +1,8 @@
 -- The layout of an answer as sixteen numbers. Assumes nothing.
-use mathlib.Core.List.{List, [], _∷_, _++_}
+use mathlib.Core.List.{List, _∷_, _++_}
 use Prim.Native.Nat.{ℕ, _-_}
 use lib.ListN.{length, replicate}
-use Rattle.tables.specs.declared.Refusal.{Refusal}
 
 -- A number, a side and all the values, then zeros: sixteen numbers in all where there are at most fourteen values.
 abbrev pub words : ℕ → ℕ → List ℕ → List ℕ
 words number side values = number ∷ side ∷ (values ++ replicate (14 - length values) 0)
-
--- A refusal, from its numbers.
-abbrev pub numbersWords : Refusal → List ℕ
-numbersWords r = words (r .number) (r .side) (r .first ∷ r .second ∷ r .third ∷ [])

@@ -30,7 +30,9 @@ use Rattle.tables.specs.Answers.{noRefusal, numberedSays}
 use Rattle.tables.specs.declared.Numbered.{Numbered}
 use Rattle.tables.specs.declared.Numbered.the-variants.{Number, Refused as NumberRefused}
 use Rattle.tables.proofs.Numbered as numbered
-use Rattle.files.specs.Files.{loadedQuestions, fileRefusal, FilePasses, fileAnswer}
+use Rattle.files.specs.Files.{loadedQuestions, fileRefusal}
+use Rattle.files.specs.FilesLaws.{FilePasses}
+use Rattle.files.specs.Answers.{fileAnswer}
 
 module _ (t : List ℕ) (room : ℕ) where
   pub loading-refused : {r : Refusal} → loadRefusal t room ≡ some r → fileRefusal t room ≡ some r

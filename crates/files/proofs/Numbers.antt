@@ -19,8 +19,8 @@ use Rattle.tables.proofs.Questions.{square-small}
 use Rattle.csv.specs.Tables.{orderOf}
 use Rattle.csv.specs.Questions.{sizeQuestions, loadQuestions}
 use Rattle.csv.proofs.Loading.{load-listed}
-use Rattle.files.specs.Files.{loadedQuestions, fileQuestions, fileRefusal, fileAnswer, room}
-use Rattle.files.specs.Answers.{numberOf}
+use Rattle.files.specs.Files.{loadedQuestions, fileQuestions, fileRefusal, room}
+use Rattle.files.specs.Answers.{fileAnswer, failedNumber}
 use Rattle.files.specs.Rules.{fileNumbers}
 
 -- Where the order passes there is room, so that 27 is as good as not asked.
@@ -40,7 +40,7 @@ file-numbers t =
 
 -- ---- with any room
 
-file-small : (t cells : List ℕ) → numberOf (fileAnswer t cells) < 100
+file-small : (t cells : List ℕ) → failedNumber (fileAnswer t cells) < 100
 unfolding fileAnswer fileRefusal all member
 file-small t cells = go (fileRefusal t (length cells)) refl
   where
@@ -52,10 +52,10 @@ file-small t cells = go (fileRefusal t (length cells)) refl
         listed-append all-numbers (loadQuestions t (length cells)) (loadedQuestions t)
         (load-listed all-numbers refl refl refl t (length cells) (listed all-numbers (sizeQuestions t (length cells)) refl)) (listed all-numbers (loadedQuestions t) refl)
 
-    go : (q : Option Refusal) → fileRefusal t (length cells) ≡ q → numberOf (givenUnless q (orderOf t)) < 100
+    go : (q : Option Refusal) → fileRefusal t (length cells) ≡ q → failedNumber (givenUnless q (orderOf t)) < 100
     go none e = omega arith
     go (some r) e = let h = leb-true (r .number) 99 (all-at (λ k. leb k 99) all-numbers refl (r .number) (member-mem (r .number) all-numbers (known r e))) in omega arith
 
 -- The number of the question that a file fails.
-pub failed-small : (t cells : List ℕ) (v : Numbered) {k : ℕ} → numberedSays v ≡ fileAnswer t cells → k ≡ numberOf (numberedSays v) → k < 100
-failed-small t cells v e q = subst (λ (x : ℕ). x < 100) (sym (q ∙ ap numberOf e)) (file-small t cells)
+pub failed-small : (t cells : List ℕ) (v : Numbered) {k : ℕ} → numberedSays v ≡ fileAnswer t cells → k ≡ failedNumber (numberedSays v) → k < 100
+failed-small t cells v e q = subst (λ (x : ℕ). x < 100) (sym (q ∙ ap failedNumber e)) (file-small t cells)

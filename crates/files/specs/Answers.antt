@@ -1,13 +1,20 @@
--- What programs say of a file that is refused (01, "Program `recue`"). Assumes nothing.
+-- What programs say of a file that is refused (RULES 21.1). Assumes nothing.
 use mathlib.Core.List.{List, [], _∷_}
 use Prim.Native.Nat.{ℕ}
-use Rattle.semigroups.specs.Calls.{Answer, refused, gives}
+use lib.ListN.{length}
+use Rattle.semigroups.specs.Calls.{Answer, refused, gives, givenUnless}
+use Rattle.csv.specs.Tables.{orderOf}
+use Rattle.files.specs.Files.{fileRefusal}
 
 -- The number of the question that fails; 0 where none fails.
-abbrev pub numberOf : Answer ℕ → ℕ
-numberOf (refused r) = r .number
-numberOf (gives n) = 0
+abbrev pub failedNumber : Answer ℕ → ℕ
+failedNumber (refused r) = r .number
+failedNumber (gives n) = 0
 
 -- "refused", as bytes
 abbrev pub refusedWord : List ℕ
 refusedWord = 114 ∷ 101 ∷ 102 ∷ 117 ∷ 115 ∷ 101 ∷ 100 ∷ []
+
+-- The order is given.
+unfoldable pub fileAnswer : List ℕ → List ℕ → Answer ℕ
+fileAnswer t cells = givenUnless (fileRefusal t (length cells)) (orderOf t)

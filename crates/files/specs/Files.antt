@@ -1,15 +1,11 @@
--- What a file with a table says (01, "Program `recue`"): its bytes are loaded as text, and questions 3 and 4 are asked of the table.
+-- What a file with a table says (RULES 21.1): its bytes are loaded as text, and questions 3 and 4 are asked of the table.
 -- Assumes nothing.
 use mathlib.Core.List.{List, [], _∷_, _++_}
 use mathlib.Core.Option.{Option}
 use Prim.Native.Nat.{ℕ}
-use lib.ListN.{length}
-use Rattle.semigroups.specs.Tables.{Accepted}
 use Rattle.semigroups.specs.Questions.{Question, Refusal, firstNo, cellQuestion, tripleQuestion}
 use Rattle.csv.specs.Tables.{orderOf, cellsOf}
 use Rattle.csv.specs.Questions.{loadQuestions}
-use Rattle.csv.specs.Passing.{LoadPasses}
-use Rattle.semigroups.specs.Calls.{Answer, givenUnless}
 
 -- About the table of a file that loads: 3, is every cell 1 to n? Then 4, is the table associative?
 abbrev pub loadedQuestions : List ℕ → List Question
@@ -21,15 +17,6 @@ fileQuestions t room = loadQuestions t room ++ loadedQuestions t
 
 unfoldable pub fileRefusal : List ℕ → ℕ → Option Refusal
 fileRefusal t room = firstNo (fileQuestions t room)
-
--- What passes them: a text that loads, with an accepted table on it.
-pub record FilePasses (t : List ℕ) (room : ℕ) : Type 0 where
-  pub loads : LoadPasses t room
-  pub table : Accepted (orderOf t) (cellsOf t)
-
--- The order is given.
-unfoldable pub fileAnswer : List ℕ → List ℕ → Answer ℕ
-fileAnswer t cells = givenUnless (fileRefusal t (length cells)) (orderOf t)
 
 -- Room for the cells of every table: those of order 120.
 abbrev pub room : ℕ

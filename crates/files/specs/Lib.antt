@@ -1,3 +1,4 @@
 pub mod Files
+pub mod FilesLaws
 pub mod Rules
 pub mod Answers

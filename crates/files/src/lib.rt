@@ -2,8 +2,7 @@
 ghost use mathlib.Core.Path.{_≡_};
 ghost use Rattle.tables.specs.Answers.{numberedSays};
 ghost use Rattle.csv.specs.Calls.{cellsAfter};
-ghost use Rattle.files.specs.Files.{fileAnswer};
-ghost use Rattle.files.specs.Answers.{numberOf};
+ghost use Rattle.files.specs.Answers.{fileAnswer, failedNumber};
 use tables::Numbered;
 use tables::Verdict;
 
@@ -27,7 +26,7 @@ pub fn load_then_check(text: &[u8], cells: &mut [u8]) -> Numbered
 
 // The number of the question that a file fails; 0 for an accepted file.
 pub fn failed_question(verdict: Numbered) -> usize
-    ensures answer { λ r. ⌜ r ≡ numberOf (numberedSays verdict) ⌝ }
+    ensures answer { λ r. ⌜ r ≡ failedNumber (numberedSays verdict) ⌝ }
 {
     match verdict {
         Numbered::Number(_) => 0,

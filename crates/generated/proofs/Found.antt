@@ -8,18 +8,20 @@ use native.Mathlib.Numerals.{add-one}
 use native.Mathlib.Omega.{arith}
 use lib.ListN.{length, take, getD, replicate, length-append, List·getD-append}
 use lib.Seq.{take-suc, take-all, getD-take, length-take-le}
-use Rattle.semigroups.specs.Lists.{NoRepeats}
-use Rattle.semigroups.specs.Tables.{Product, Element, Closed}
-use Rattle.semigroups.specs.Generated.{Inside, generated}
+use Rattle.semigroups.specs.ListsLaws.{NoRepeats}
+use Rattle.semigroups.specs.Tables.{Product, Element}
+use Rattle.semigroups.specs.TablesLaws.{Closed}
+use Rattle.semigroups.specs.GeneratedLaws.{Inside}
+use Rattle.semigroups.specs.Generated.{generated}
 use Rattle.semigroups.proofs.Booleans.{equal-or-not}
 use Rattle.semigroups.proofs.Lists.{mem-take}
 use Rattle.semigroups.proofs.FlatMap.{mem-flatMap, flatMap-mem}
 use Rattle.semigroups.proofs.NoRepeats.{mem-place, place-mem}
 use Rattle.semigroups.proofs.Generated.{same-length, generated-inside, generated-no-repeats, generated-closed, generated-holds, generated-smallest}
-use Rattle.tables.specs.Found.{indicator, adding, addingAll, Found}
+use Rattle.tables.specs.InnerFound.{indicator, adding, addingAll, Found}
 use Rattle.tables.proofs.Indicators.{indicator-same}
 use Rattle.tables.proofs.Found.{adding-last, all-keeps, all-longer, all-place, all-holds, mem-all, found-list, found-again, found-at}
-use Rattle.generated.specs.Found.{productsWith, productsUpTo}
+use Rattle.generated.specs.InnerFound.{productsWith, productsUpTo}
 
 -- ---- products of one entry
 

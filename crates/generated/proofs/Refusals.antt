@@ -1,6 +1,6 @@
 -- The refusals of a table with a list of its elements are brief. Assumes nothing.
 use native.Mathlib.Omega.{arith}
-use Rattle.tables.specs.Answers.{Brief}
+use Rattle.tables.specs.AnswersLaws.{Brief}
 use Rattle.tables.proofs.Refusals.{fault-brief}
 use Rattle.generated.specs.Answers.{generatorsFaultRefusal}
 use Rattle.generated.specs.declared.GeneratorsFault.{GeneratorsFault}

@@ -1,3 +1,5 @@
-pub mod Found
-pub mod Parts
 pub mod Answers
+pub mod Calls
+pub mod CallsLaws
+pub mod InnerFound
+pub mod InnerParts

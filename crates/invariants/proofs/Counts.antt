@@ -10,7 +10,7 @@ use lib.ListN.{length, getD, take, drop, length-drop}
 use lib.Seq.{getD-drop, take-all}
 use Rattle.semigroups.specs.Tables.{product, Element, Filled}
 use Rattle.semigroups.specs.Invariants.{diagonalFrequency, rowFrequency, columnFrequency, commuting}
-use Rattle.tables.specs.Counting.{occurrences, InRange}
+use Rattle.tables.specs.InnerCounting.{occurrences, InRange}
 use Rattle.tables.proofs.Counting.{counted, count-elements}
 -- The laws of counting at large stand in `tables`.
 pub use Rattle.tables.proofs.Counting.{count-elements-none, count-element-hit, count-element-miss, count-elements, frequency-at-most}

@@ -8,14 +8,15 @@ use native.Mathlib.Numerals.{add-one}
 use native.Mathlib.Omega.{arith}
 use lib.ListN.{length, getD, set, replicate, length-set, length-replicate}
 use lib.Seq.{getD-set-same, getD-set-other}
-use Rattle.semigroups.specs.Tables.{Product, product, Element, Closed, Associative, Filled}
+use Rattle.semigroups.specs.Tables.{Product, product, Element, Associative, Filled}
+use Rattle.semigroups.specs.TablesLaws.{Closed}
 use Rattle.semigroups.specs.Invariants.{power, index, period, indexPeriod}
 use Rattle.semigroups.proofs.Booleans.{equal-or-not, at-most-or-above}
 use Rattle.semigroups.proofs.Tables.{product-element}
 use Rattle.semigroups.proofs.IndexPeriod.{power-one, power-next, power-element, repeat-early, index-period, index-period-bound, index-period-of-first-repeat}
 use Rattle.semigroups.proofs.Idempotents.{multiple-between, idempotent-power-at}
-use Rattle.invariants.specs.PerElement.{perElement}
-use Rattle.invariants.specs.Powers.{settling, settled}
+use Rattle.tables.specs.InnerPerElement.{perElement}
+use Rattle.invariants.specs.InnerPowers.{settling, settled}
 use Rattle.tables.proofs.Values.{getD-zeros}
 use Rattle.invariants.proofs.PerElement.{per-element-at, fill-start, fill-step}
 

@@ -1,4 +1,4 @@
--- What the answers about an element mean (01, "The questions" and "Marks of an element"): the number of the failed question and the values said with
+-- What the answers about an element mean (RULES 7 and 4): the number of the failed question and the values said with
 -- it, or the numbers that were asked for. Assumes nothing.
 use mathlib.Core.Option.{Option, none, some}
 use Rattle.semigroups.specs.Questions.{Refusal}

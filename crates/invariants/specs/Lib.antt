@@ -1,3 +1,3 @@
-pub mod Powers
-pub mod PerElement
 pub mod Answers
+pub mod InnerPerElement
+pub mod InnerPowers

@@ -1,4 +1,4 @@
-// Invariants of the elements of a table (arXiv 1603.06204, sections 3 and 4), which 01 calls their marks: index, period and idempotent power, and the
+// Invariants of the elements of a table (arXiv 1603.06204, sections 3 and 4; RULES 4): index, period and idempotent power, and the
 // profile.
 // `index_period` and `profile` answer for one element of any cells, order and element, once the questions about them have passed.
 // `all_index_period_keys` and `all_counts` answer for every element of cells that fill a table.
@@ -7,10 +7,10 @@ ghost use Rattle.semigroups.specs.Tables.{product, Element, Filled, Associative
 ghost use Rattle.semigroups.specs.Questions.{elementRefusal};
 ghost use Rattle.semigroups.specs.Invariants.{indexPeriod, rowFrequency, columnFrequency, commuting, profile};
 ghost use Rattle.semigroups.specs.Calls.{givenUnless};
-ghost use Rattle.tables.specs.Counting.{occurrences, InRange};
+ghost use Rattle.tables.specs.InnerCounting.{occurrences, InRange};
 ghost use Rattle.invariants.specs.Answers.{elementVerdictRefusal, indexPeriodValue, indexPeriodSays, profileValue, profileSays};
-ghost use Rattle.invariants.specs.PerElement.{AllIndexPeriodKeys, AllLineCounts, AllCounts};
-ghost use Rattle.invariants.specs.Powers.{settled};
+ghost use Rattle.invariants.specs.InnerPerElement.{AllIndexPeriodKeys, AllLineCounts, AllCounts};
+ghost use Rattle.invariants.specs.InnerPowers.{settled};
 use tables::No;
 use tables::Verdict;
 use tables::counts::frequencies;
@@ -200,7 +200,7 @@ fn line_counts(cells: &[u8], n: usize) -> LineCounts
 
 // ---- the profile
 
-// The index-period and the counts of a profile (definition 4.1; 02, x).
+// The index-period and the counts of a profile (definition 4.1; RULES 4.5).
 pub struct ElementProfile {
     pub powers: IndexPeriod,
     pub frequency: usize,

@@ -3,7 +3,7 @@ use mathlib.Core.Path.{_≡_}
 use mathlib.Core.Bool.{true}
 use borrow.Author.Tests.{eq-eqb}
 use Rattle.plain.specs.declared.Said.{Said}
-use Rattle.judging.specs.Said.{sameSaid}
+use Rattle.judging.specs.InnerSaid.{sameSaid}
 
 -- What is said agrees with itself.
 pub same-said-itself : (a b : Said) → a ≡ b → sameSaid a b ≡ true

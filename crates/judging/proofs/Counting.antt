@@ -4,7 +4,7 @@ use mathlib.Core.Bool.{Bool, true, false}
 use Prim.Native.Nat.{ℕ, zero, suc, _+_}
 use native.Mathlib.Omega.{arith}
 use Rattle.judging.specs.declared.tally.Tally.{Tally}
-use Rattle.judging.specs.Tally.{up, counted, agreed}
+use Rattle.judging.specs.InnerTally.{up, counted, agreed}
 
 pub agreed-counted : (k : ℕ) (t : Tally) → agreed k (counted t true) ≡ agreed (suc k) t
 unfolding agreed

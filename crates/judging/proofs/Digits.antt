@@ -11,7 +11,7 @@ use lib.Seq.{sets}
 use Rattle.csv.specs.Decimals.{numeralWithin}
 use Rattle.csv.proofs.Writing.{write-first, write-last, sets-overwritten}
 use Rattle.lines.proofs.Lines.{written}
-use Rattle.judging.specs.Tally.{decimal, colon, agreeWord, differWord, tallyLine}
+use Rattle.judging.specs.InnerTally.{decimal, colon, agreeWord, differWord, tallyLine}
 use Rattle.judging.specs.declared.tally.Tally.{Tally}
 use Rattle.semigroups.specs.Calls.{overwritten}
 use Rattle.csv.proofs.Decimals.{numeral-short}

@@ -1,2 +1,2 @@
-pub mod Tally
-pub mod Said
+pub mod InnerSaid
+pub mod InnerTally

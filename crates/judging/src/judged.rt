@@ -2,9 +2,9 @@
 ghost use mathlib.Core.Path.{_≡_};
 ghost use mathlib.Core.Bool.{true};
 ghost use Rattle.semigroups.specs.Questions.{tableRefusal};
-ghost use Rattle.plain.specs.Said.{saidOf};
-ghost use Rattle.judging.specs.Said.{sameSaid};
-ghost use Rattle.judging.specs.Tally.{counted};
+ghost use Rattle.plain.specs.InnerSaid.{saidOf};
+ghost use Rattle.judging.specs.InnerSaid.{sameSaid};
+ghost use Rattle.judging.specs.InnerTally.{counted};
 use crate::said::said_of;
 use crate::said::same_said;
 use crate::tally::Tally;
@@ -20,7 +20,7 @@ pub fn compared(cells: &[u8], n: usize, tally: Tally) -> Tally
     counted(tally, same_said(said, judge(cells, n)))
 }
 
-// The four questions, compared with what 01 says of the table, and with the second search.
+// The four questions, compared with what RULES 23.2 says of the table, and with the second search.
 pub fn judged(cells: &[u8], n: usize, said: Said, tally: Tally) -> Tally
     ensures answer { λ r. ⌜ r ≡ counted (counted tally (sameSaid (saidOf (tableRefusal n (now (cells .entry)))) said)) true ⌝ }
 {

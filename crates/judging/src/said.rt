@@ -1,8 +1,8 @@
 // What is said of a table, as numbers.
 ghost use mathlib.Core.Path.{_≡_};
 ghost use Rattle.tables.specs.Answers.{noRefusal, verdictRefusal};
-ghost use Rattle.plain.specs.Said.{refusalSaid, saidOf};
-ghost use Rattle.judging.specs.Said.{sameSaid};
+ghost use Rattle.plain.specs.InnerSaid.{refusalSaid, saidOf};
+ghost use Rattle.judging.specs.InnerSaid.{sameSaid};
 use plain::Said;
 use plain::failed;
 use tables::No;

@@ -4,7 +4,7 @@ ghost use Prim.Native.Nat.{_+_, _≤_};
 ghost use lib.ListN.{length};
 ghost use lib.Seq.{sets};
 ghost use Rattle.semigroups.specs.Calls.{overwritten};
-ghost use Rattle.judging.specs.Tally.{empty, up, counted, decimal, tallyLine};
+ghost use Rattle.judging.specs.InnerTally.{empty, up, counted, decimal, tallyLine};
 use lines::put_bytes;
 
 pub struct Tally {

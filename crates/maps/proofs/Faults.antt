@@ -8,8 +8,10 @@ use borrow.Author.Tests.{eq-eqb, ne-eqb, lt-ltb, le-ltb}
 use lib.Dec.{eqb, ltb}
 use lib.ListN.{length, getD}
 use Rattle.semigroups.specs.Lists.{elements, at, find, firstOf, lists}
-use Rattle.semigroups.specs.Tables.{Product, Element, IsList, isElement, badCell, product}
-use Rattle.semigroups.specs.Questions.{Question, ask, Refusal, no, firstNo, tablesQuestions, tablesRefusal, checkRefusal}
+use Rattle.semigroups.specs.Tables.{Product, Element, isElement, badCell, product}
+use Rattle.semigroups.specs.TablesLaws.{IsList}
+use Rattle.semigroups.specs.Questions.{Question, ask, Refusal, firstNo, tablesQuestions, checkRefusal}
+use Rattle.semigroups.specs.QuestionsLaws.{no, tablesRefusal}
 use Rattle.semigroups.specs.Calls.{Answer, refused, gives}
 use Rattle.semigroups.specs.Maps.{isEmbedding}
 use Rattle.semigroups.specs.MapCheck.{Checked, holds, outside, equalImages, wrongProduct, unless, firstOutside, firstEqual, firstWrong, checkMap}
@@ -24,7 +26,8 @@ use types.Run.{OneOf, miss}
 use native.Mathlib.Omega.{arith}
 use Rattle.maps.specs.declared.MapAnswer.{MapAnswer}
 use Rattle.maps.specs.declared.MapAnswer.the-variants.{Refused, MapLength, Holds, Outside, EqualImages, WrongProduct}
-use Rattle.maps.specs.Answers.{mapCheck, mapAnswerSays}
+use Rattle.maps.specs.Calls.{mapCheck}
+use Rattle.maps.specs.Answers.{mapAnswerSays}
 use Rattle.maps.proofs.MapAnswer as answers
 
 -- ---- the tests of pairs

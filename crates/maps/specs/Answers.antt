@@ -1,21 +1,15 @@
--- What a call of the map check says, and what its answers mean (01, "Maps" and "The questions"). Assumes nothing.
+-- What a call of the map check says, and what its answers mean (RULES 12 and 7). Assumes nothing.
 use mathlib.Core.List.{List, [], _∷_}
 use mathlib.Core.Option.{Option, none, some}
 use Prim.Native.Nat.{ℕ}
-use lib.ListN.{length}
-use Rattle.semigroups.specs.Tables.{product}
-use Rattle.semigroups.specs.Questions.{no, naming, checkRefusal}
-use Rattle.semigroups.specs.Calls.{Answer, refused, gives, givenUnless}
-use Rattle.semigroups.specs.MapCheck.{Checked, holds, outside, equalImages, wrongProduct, checkMap}
+use Rattle.semigroups.specs.QuestionsLaws.{no, naming}
+use Rattle.semigroups.specs.Calls.{Answer, refused, gives}
+use Rattle.semigroups.specs.MapCheck.{Checked, holds, outside, equalImages, wrongProduct}
 use Rattle.tables.specs.Answers.{faultRefusal, sideNumber}
 use Rattle.maps.specs.declared.MapAnswer.{MapAnswer}
 use Rattle.maps.specs.declared.MapAnswer.the-variants.{Refused, MapLength, Holds, Outside, EqualImages, WrongProduct}
 use Rattle.maps.specs.declared.Pair.{Pair}
 use Rattle.maps.specs.declared.Pair.the-variants.{At, Nowhere}
-
--- What a call says of a map from the source, of order m, to the target, of order n: what the check says of it is given.
-unfoldable pub mapCheck : ℕ → List ℕ → ℕ → List ℕ → List ℕ → Answer Checked
-mapCheck m source n target f = givenUnless (checkRefusal m source n target (length f)) (checkMap m (product m source) n (product n target) f)
 
 -- The number, side and values of each refusal; the element or the pair of each fault.
 abbrev pub mapAnswerSays : MapAnswer → Answer Checked

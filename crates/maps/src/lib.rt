@@ -9,11 +9,13 @@ ghost use mathlib.Core.Path.{_≡_};
 ghost use Prim.Native.Nat.{ℕ, _≤_};
 ghost use lib.ListN.{length, take};
 ghost use Rattle.semigroups.specs.Lists.{at};
-ghost use Rattle.semigroups.specs.Tables.{Product, Element, Filled, IsList, product};
+ghost use Rattle.semigroups.specs.Tables.{Product, Element, Filled, product};
+ghost use Rattle.semigroups.specs.TablesLaws.{IsList};
 ghost use Rattle.semigroups.specs.Maps.{isEmbedding};
 ghost use Rattle.semigroups.specs.MapCheck.{firstEqual, firstWrong, checkMap};
 ghost use Rattle.semigroups.specs.Calls.{gives};
-ghost use Rattle.maps.specs.Answers.{mapCheck, mapAnswerSays, pairOption};
+ghost use Rattle.maps.specs.Calls.{mapCheck};
+ghost use Rattle.maps.specs.Answers.{mapAnswerSays, pairOption};
 
 pub enum MapAnswer {
     // Questions 1 to 4 of a table, and question 5.

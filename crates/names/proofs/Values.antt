@@ -12,7 +12,7 @@ use Rattle.semigroups.proofs.Booleans.{at-most-or-above}
 use Rattle.sheets.proofs.Numbers.{cut-length}
 use Rattle.sheets.proofs.Cursor.{Gathering, gather-first, gather-next, gather-last}
 use Rattle.names.specs.declared.Value.{Value}
-use Rattle.names.specs.Reading.{Holds}
+use Rattle.names.specs.InnerReading.{HoldsValue}
 
 -- ---- the first 41 of more bytes
 
@@ -34,13 +34,13 @@ cut-more s b h = go (at-most-or-above (length s) 40)
 
 -- ---- one byte more
 
-pub holds-full : (s : List ℕ) (v : Value) (b : ℕ) → 41 ≤ v .size → Holds s v → Holds (s ++ b ∷ []) v
+pub holds-full : (s : List ℕ) (v : Value) (b : ℕ) → 41 ≤ v .size → HoldsValue s v → HoldsValue (s ++ b ∷ []) v
 holds-full s v b h g =
     let z = g .size in
     let e = cut-full s b (omega arith) in
     record { bytes = g .bytes ∙ sym e; size = g .size ∙ ap length (sym e); room = g .room }
 
-pub holds-more : (s : List ℕ) (v : Value) (b : ℕ) → v .size < 41 → Holds s v → Holds (s ++ b ∷ []) (record { bytes = set (v .bytes) (v .size) b; size = v .size + 1; end = v .end })
+pub holds-more : (s : List ℕ) (v : Value) (b : ℕ) → v .size < 41 → HoldsValue s v → HoldsValue (s ++ b ∷ []) (record { bytes = set (v .bytes) (v .size) b; size = v .size + 1; end = v .end })
 holds-more s v b h g =
     let z = g .size in
     let r = g .room in
@@ -52,15 +52,15 @@ holds-more s v b h g =
       room = length-set (v .bytes) (v .size) b ∙ r;
     }
 
-pub holds-ended : (s : List ℕ) (v : Value) (e : ℕ) → Holds s v → Holds s (record { bytes = v .bytes; size = v .size; end = e })
+pub holds-ended : (s : List ℕ) (v : Value) (e : ℕ) → HoldsValue s v → HoldsValue s (record { bytes = v .bytes; size = v .size; end = e })
 holds-ended s v e g = record { bytes = g .bytes; size = g .size; room = g .room }
 
 -- No value has more than 41 bytes.
-pub too-many : (s : List ℕ) (v : Value) → Holds s v → 41 < v .size → ⊥
+pub too-many : (s : List ℕ) (v : Value) → HoldsValue s v → 41 < v .size → ⊥
 too-many s v g h = let z = g .size in let c = cut-length s in omega arith
 
 -- A short value is held whole.
-pub holds-short : (s : List ℕ) (v : Value) → Holds s v → length s ≤ 40 → (v .size ≡ length s) × (take (v .size) (v .bytes) ≡ s)
+pub holds-short : (s : List ℕ) (v : Value) → HoldsValue s v → length s ≤ 40 → (v .size ≡ length s) × (take (v .size) (v .bytes) ≡ s)
 holds-short s v g u =
     let whole = take-all 41 s (omega arith) in
     (g .size ∙ ap length whole, g .bytes ∙ whole)
@@ -71,20 +71,20 @@ holds-short s v g u =
 pub record Gathered (value : List ℕ → List ℕ) (size : List ℕ → ℕ) (t : List ℕ) (start i : ℕ) (v : Value) : Type 0 where
   pub so-far : List ℕ
   pub gathering : Gathering value size t start so-far i
-  pub holds : Holds so-far v
+  pub holds : HoldsValue so-far v
 
 module _ (value : List ℕ → List ℕ) (size : List ℕ → ℕ) (t : List ℕ) (start : ℕ) where
-  pub gathered-first : (v : Value) → start ≤ length t → Holds [] v → Gathered value size t start start v
+  pub gathered-first : (v : Value) → start ≤ length t → HoldsValue [] v → Gathered value size t start start v
   gathered-first v h g = record { so-far = []; gathering = gather-first value size t start h; holds = g }
 
   module _ (i : ℕ) (v : Value) (g : Gathered value size t start i v) where
     pub gathered-next : (r : Value) (j b : ℕ) → i ≤ j → j ≤ length t → (value (drop i t) ≡ b ∷ value (drop j t)) × (i + size (drop i t) ≡ j + size (drop j t))
-        → ((s : List ℕ) → Holds s v → Holds (s ++ b ∷ []) r) → Gathered value size t start j r
+        → ((s : List ℕ) → HoldsValue s v → HoldsValue (s ++ b ∷ []) r) → Gathered value size t start j r
     gathered-next r j b l u h f =
         record { so-far = g .so-far ++ b ∷ []; gathering = gather-next value size t start (g .so-far) i (g .gathering) j b l u h; holds = f (g .so-far) (g .holds) }
 
-    pub gathered-last : (r : Value) (k : ℕ) → (value (drop i t) ≡ []) × (size (drop i t) ≡ k) → r .end ≡ i + k → ((s : List ℕ) → Holds s v → Holds s r)
-        → Holds (value (drop start t)) r × (r .end ≡ start + size (drop start t))
+    pub gathered-last : (r : Value) (k : ℕ) → (value (drop i t) ≡ []) × (size (drop i t) ≡ k) → r .end ≡ i + k → ((s : List ℕ) → HoldsValue s v → HoldsValue s r)
+        → HoldsValue (value (drop start t)) r × (r .end ≡ start + size (drop start t))
     gathered-last r k h e f =
         let last = gather-last value size t start (g .so-far) i (g .gathering) k (h .0) (h .1) in
-        (subst (λ (l : List ℕ). Holds l r) (last .0) (f (g .so-far) (g .holds)), e ∙ last .1)
+        (subst (λ (l : List ℕ). HoldsValue l r) (last .0) (f (g .so-far) (g .holds)), e ∙ last .1)

@@ -10,14 +10,14 @@ ghost use lib.ListN.{length, drop};
 ghost use lib.Seq.{sets};
 ghost use Rattle.semigroups.specs.Calls.{overwritten};
 ghost use Rattle.tables.specs.Answers.{numberedSays};
-ghost use Rattle.sheets.specs.Grammar.{isPrintable, isTextData, isQuotable, Passes, sheetRows};
+ghost use Rattle.sheets.specs.Grammar.{isPrintable, isTextData, isQuotable, IsSheet, sheetRows};
 ghost use Rattle.sheets.specs.Readings.{Reading, rowsNames};
 ghost use Rattle.sheets.specs.Names.{isName, isNumber, needsQuotes, doubled, nameText, namesText, namesAt};
 ghost use Rattle.sheets.specs.Calls.{loadNamesAnswer, namesAfter, lengthsAfter, saveNamesAnswer, sheetAfter};
-ghost use Rattle.sheets.specs.Automaton.{afterField, bareStep, openingStep, step, accepting, isDead, accepts, place};
-ghost use Rattle.sheets.specs.Cursor.{bareValue, quotedValue, quotedSize, valueAt, sizeAt};
+ghost use Rattle.sheets.specs.InnerAutomaton.{afterField, bareStep, openingStep, stateAfter, accepting, isDead, accepts, place};
+ghost use Rattle.sheets.specs.InnerCursor.{bareValue, quotedValue, quotedSize, valueAt, sizeAt};
 ghost use Rattle.names.specs.declared.State.the-variants.{Quoted, Shut, Cr, Bare};
-ghost use Rattle.names.specs.Reading.{partOf, stateOf, formPlace, Holds, Judges, JudgesNames, Fits, Nameable};
+ghost use Rattle.names.specs.InnerReading.{partOf, stateOf, formPlace, HoldsValue, Judges, JudgesNames, Fits, Nameable};
 use tables::No;
 use tables::Numbered;
 use tables::limits::ORDER;
@@ -116,7 +116,7 @@ fn opening_step(part: Part, b: u8) -> State
 }
 
 fn quoted_step(part: Part, b: u8) -> State
-    ensures answer { λ r. ⌜ stateOf r ≡ step (stateOf (Quoted part)) b ⌝ }
+    ensures answer { λ r. ⌜ stateOf r ≡ stateAfter (stateOf (Quoted part)) b ⌝ }
 {
     if b == 34 {
         return State::Shut(part);
@@ -128,7 +128,7 @@ fn quoted_step(part: Part, b: u8) -> State
 }
 
 fn shut_step(part: Part, b: u8) -> State
-    ensures answer { λ r. ⌜ stateOf r ≡ step (stateOf (Shut part)) b ⌝ }
+    ensures answer { λ r. ⌜ stateOf r ≡ stateAfter (stateOf (Shut part)) b ⌝ }
 {
     if b == 34 {
         return State::Quoted(part);
@@ -137,7 +137,7 @@ fn shut_step(part: Part, b: u8) -> State
 }
 
 fn cr_step(b: u8) -> State
-    ensures answer { λ r. ⌜ stateOf r ≡ step (stateOf Cr) b ⌝ }
+    ensures answer { λ r. ⌜ stateOf r ≡ stateAfter (stateOf Cr) b ⌝ }
 {
     if b == 10 {
         return State::Line;
@@ -147,7 +147,7 @@ fn cr_step(b: u8) -> State
 
 // The state behind one more byte.
 fn step(state: State, b: u8) -> State
-    ensures answer { λ r. ⌜ stateOf r ≡ step (stateOf state) b ⌝ }
+    ensures answer { λ r. ⌜ stateOf r ≡ stateAfter (stateOf state) b ⌝ }
 {
     match state {
         State::Opening(part) => opening_step(part, b),
@@ -236,7 +236,7 @@ struct Value {
 impl Value {
     // The value of no byte, of a field at place 0.
     fn empty() -> Self
-        ensures value { λ r. ⌜ Holds [] r ⌝ }
+        ensures value { λ r. ⌜ HoldsValue [] r ⌝ }
         ensures end { λ r. ⌜ r .end ≡ 0 ⌝ }
     {
         Value {
@@ -248,7 +248,7 @@ impl Value {
 
     // With one byte more, unless there are 41; the place stays.
     fn with(self, b: u8) -> Self
-        ensures value { λ r. ⌜ ((s : List ℕ) → Holds s self → Holds (s ++ b ∷ []) r) ⌝ }
+        ensures value { λ r. ⌜ ((s : List ℕ) → HoldsValue s self → HoldsValue (s ++ b ∷ []) r) ⌝ }
         ensures end { λ r. ⌜ r .end ≡ self .end ⌝ }
     {
         let at = self.size;
@@ -263,7 +263,7 @@ impl Value {
 
     // The same, of a field with this place behind it.
     fn ending(self, end: usize) -> Self
-        ensures value { λ r. ⌜ ((s : List ℕ) → Holds s self → Holds s r) ⌝ }
+        ensures value { λ r. ⌜ ((s : List ℕ) → HoldsValue s self → HoldsValue s r) ⌝ }
         ensures end { λ r. ⌜ r .end ≡ end ⌝ }
     {
         let mut ended = self;
@@ -273,7 +273,7 @@ impl Value {
 
     // Whether it is the number k; whether it is a name.
     fn is_number(self, k: usize) -> bool
-        ensures answer { λ r. ⌜ ((s : List ℕ) → Holds s self → r ≡ isNumber k s) ⌝ }
+        ensures answer { λ r. ⌜ ((s : List ℕ) → HoldsValue s self → r ≡ isNumber k s) ⌝ }
     {
         let bytes = self.bytes;
         let size = self.size;
@@ -284,7 +284,7 @@ impl Value {
     }
 
     fn is_name(self) -> bool
-        ensures answer { λ r. ⌜ ((s : List ℕ) → Holds s self → r ≡ isName s) ⌝ }
+        ensures answer { λ r. ⌜ ((s : List ℕ) → HoldsValue s self → r ≡ isName s) ⌝ }
     {
         let bytes = self.bytes;
         let size = self.size;
@@ -298,7 +298,7 @@ impl Value {
 // The field with no quote marks around it that begins at `at`.
 fn read_bare(text: &[u8], at: usize) -> Value
     requires { ⌜ at ≤ length (now text) ⌝ }
-    ensures value { λ r. ⌜ Holds (bareValue (drop at (now (text .entry)))) r ⌝ }
+    ensures value { λ r. ⌜ HoldsValue (bareValue (drop at (now (text .entry)))) r ⌝ }
     ensures end { λ r. ⌜ r .end ≡ at + length (bareValue (drop at (now (text .entry)))) ⌝ }
 {
     let mut value = Value::empty();
@@ -324,7 +324,7 @@ fn read_bare(text: &[u8], at: usize) -> Value
 // The field whose opening quote mark stands before `at`.
 fn read_quoted(text: &[u8], at: usize) -> Value
     requires { ⌜ at ≤ length (now text) ⌝ }
-    ensures value { λ r. ⌜ Holds (quotedValue (drop at (now (text .entry)))) r ⌝ }
+    ensures value { λ r. ⌜ HoldsValue (quotedValue (drop at (now (text .entry)))) r ⌝ }
     ensures end { λ r. ⌜ r .end ≡ at + quotedSize (drop at (now (text .entry))) ⌝ }
 {
     let mut value = Value::empty();
@@ -354,7 +354,7 @@ fn read_quoted(text: &[u8], at: usize) -> Value
 // The field that begins at `at`.
 fn read_field(text: &[u8], at: usize) -> Value
     requires { ⌜ at ≤ length (now text) ⌝ }
-    ensures value { λ r. ⌜ Holds (valueAt (drop at (now (text .entry)))) r ⌝ }
+    ensures value { λ r. ⌜ HoldsValue (valueAt (drop at (now (text .entry)))) r ⌝ }
     ensures end { λ r. ⌜ r .end ≡ at + sizeAt (drop at (now (text .entry))) ⌝ }
 {
     if text.len() <= at {
@@ -436,8 +436,8 @@ enum Judged {
 
 // Questions 42 and 41 of each record; then how many names there are, and how many bytes they have.
 fn judge_records(text: &[u8]) -> Judged
-    requires { ⌜ Passes (now text) ⌝ }
-    ensures answer { λ r. ⌜ ((p : Passes (now (text .entry))) → Judges (sheetRows (p .sheet)) r) ⌝ }
+    requires { ⌜ IsSheet (now text) ⌝ }
+    ensures answer { λ r. ⌜ ((p : IsSheet (now (text .entry))) → Judges (sheetRows (p .sheet)) r) ⌝ }
 {
     let mut at: usize = 0;
     let mut k: usize = 1;
@@ -465,10 +465,10 @@ fn judge_records(text: &[u8]) -> Judged
 
 // Writes the names of the records to `names`, one after another, and their lengths to `lengths`.
 fn write_names(text: &[u8], names: &mut [u8], lengths: &mut [u8])
-    requires form { ⌜ Passes (now text) ⌝ }
-    requires fits { ⌜ ((p : Passes (now text)) → Fits (sheetRows (p .sheet)) (length (now names)) (length (now lengths))) ⌝ }
-    ensures names { λ _. ⌜ ((p : Passes (now (text .entry))) → now (names .exit) ≡ overwritten (flatten (rowsNames (sheetRows (p .sheet)))) (now (names .entry))) ⌝ }
-    ensures lengths { λ _. ⌜ ((p : Passes (now (text .entry))) → now (lengths .exit) ≡ overwritten (map length (rowsNames (sheetRows (p .sheet)))) (now (lengths .entry))) ⌝ }
+    requires form { ⌜ IsSheet (now text) ⌝ }
+    requires fits { ⌜ ((p : IsSheet (now text)) → Fits (sheetRows (p .sheet)) (length (now names)) (length (now lengths))) ⌝ }
+    ensures names { λ _. ⌜ ((p : IsSheet (now (text .entry))) → now (names .exit) ≡ overwritten (flatten (rowsNames (sheetRows (p .sheet)))) (now (names .entry))) ⌝ }
+    ensures lengths { λ _. ⌜ ((p : IsSheet (now (text .entry))) → now (lengths .exit) ≡ overwritten (map length (rowsNames (sheetRows (p .sheet)))) (now (lengths .entry))) ⌝ }
 {
     let mut at: usize = 0;
     let mut start: usize = 0;

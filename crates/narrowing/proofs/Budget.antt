@@ -5,7 +5,7 @@ use Prim.Native.Nat.{ℕ, _-_}
 use lib.Dec.{leb}
 use Rattle.semigroups.specs.Trials.{Work}
 use Rattle.backtrack.specs.declared.Outcome.{Outcome}
-use Rattle.backtrack.specs.State.{foundIn, exhausted, remaining, within, outcomeOf}
+use Rattle.backtrack.specs.InnerState.{foundIn, exhausted, remaining, within, outcomeOf}
 
 pub not-stopped : (limit : ℕ) (w : Work) (r : Outcome) → r ≡ outcomeOf (within limit w) → r .stopped ≡ false → record { ok = r .ok; image = r .image } ≡ foundIn (w .found)
 unfolding within outcomeOf

@@ -10,15 +10,15 @@ use borrow.Author.Tests.{eqb-true, eq-eqb}
 use lib.Dec.{eqb}
 use lib.ListN.{replicate, getD-replicate}
 use Rattle.semigroups.specs.Lists.{at}
-use Rattle.semigroups.specs.Tables.{Product, Element, Closed}
-use Rattle.semigroups.specs.Maps.{Embedding}
-use Rattle.semigroups.specs.Search.{Among}
+use Rattle.semigroups.specs.Tables.{Product, Element}
+use Rattle.semigroups.specs.TablesLaws.{Closed}
+use Rattle.semigroups.specs.MapsLaws.{Embedding, Among}
 use Rattle.semigroups.proofs.Booleans.{both, and-left, and-right, untrue, clash, equal-or-not}
 use Rattle.rows.specs.declared.Row.{Row}
-use Rattle.rows.specs.Rows.{bit, inRow, isEmpty, rowOf, has, word, packedRow, masked, Shrinks, Forced}
+use Rattle.rows.specs.InnerRows.{hasBit, inRow, isEmpty, rowOf, has, word, packedRow, masked, Shrinks, Forced}
 use Rattle.rows.proofs.Words.{word-same}
 use Rattle.rows.proofs.Rows.{row, row-low, row-high, in-packed-row, none-in-empty, has-masked, other-masked, shrinks-has, forced-has}
-use Rattle.narrowing.specs.Rows.{digit, pattern, narrowed, stays, Narrows}
+use Rattle.narrowing.specs.InnerRows.{digit, pattern, narrowed, stays, Narrows}
 
 -- Two tests of equality agree where the equalities do.
 same-equality : (a b c d : ℕ) → (a ≡ b → c ≡ d) → (c ≡ d → a ≡ b) → eqb a b ≡ eqb c d
@@ -63,14 +63,14 @@ module _ (s t : Product) (lo hi : List ℕ) (l x c : ℕ) (looks : ℕ) (is : lo
   unfolding narrowed stays has
   same-test y = rw (is, was, of-left, of-right)
 
-  pub low-narrowed : (k : ℕ) → k ≤ 60 → word (λ y. bit (old .lo) (y - 1) && stays t x looks left right y) 1 k ≡ word (narrowed s t (has lo hi) l x c) 1 k
+  pub low-narrowed : (k : ℕ) → k ≤ 60 → word (λ y. hasBit (old .lo) (y - 1) && stays t x looks left right y) 1 k ≡ word (narrowed s t (has lo hi) l x c) 1 k
   low-narrowed k h =
-      word-same (λ y. bit (old .lo) (y - 1) && stays t x looks left right y) (narrowed s t (has lo hi) l x c) 1 k
+      word-same (λ y. hasBit (old .lo) (y - 1) && stays t x looks left right y) (narrowed s t (has lo hi) l x c) 1 k
       (λ j b. ap (λ (w : Bool). w && stays t x looks left right (1 + j)) (row-low old (1 + j) (omega arith)) ∙ same-test (1 + j))
 
-  pub high-narrowed : (k : ℕ) → word (λ y. bit (old .hi) (y - 61) && stays t x looks left right y) 61 k ≡ word (narrowed s t (has lo hi) l x c) 61 k
+  pub high-narrowed : (k : ℕ) → word (λ y. hasBit (old .hi) (y - 61) && stays t x looks left right y) 61 k ≡ word (narrowed s t (has lo hi) l x c) 61 k
   high-narrowed k =
-      word-same (λ y. bit (old .hi) (y - 61) && stays t x looks left right y) (narrowed s t (has lo hi) l x c) 61 k
+      word-same (λ y. hasBit (old .hi) (y - 61) && stays t x looks left right y) (narrowed s t (has lo hi) l x c) 61 k
       (λ j b. ap (λ (w : Bool). w && stays t x looks left right (61 + j)) (row-high old (61 + j) (omega arith)) ∙ same-test (61 + j))
 
 -- ---- rows narrowed one after another: those before c are done

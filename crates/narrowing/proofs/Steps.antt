@@ -11,19 +11,20 @@ use lib.ListN.{length, getD, take, drop}
 use lib.Seq.{split-at, take-suc, take-all}
 use Rattle.semigroups.specs.Lists.{elements, at, all, earlier, lists}
 use Rattle.semigroups.specs.Tables.{Product, Element}
-use Rattle.semigroups.specs.Maps.{Embedding, isEmbedding, Ask, first, next, beyond}
-use Rattle.semigroups.specs.Search.{wanted, Among}
+use Rattle.semigroups.specs.MapsLaws.{Embedding, Among}
+use Rattle.semigroups.specs.Maps.{isEmbedding, Ask, first, next, beyond}
+use Rattle.semigroups.specs.InnerSearch.{isWanted}
 use Rattle.semigroups.proofs.Booleans.{clash}
 use Rattle.semigroups.proofs.Lists.{find-same}
 use Rattle.semigroups.proofs.ListOrder.{earlier-irreflexive, earlier-skip, earlier-head, earlier-above}
 use Rattle.semigroups.proofs.Completions.{behind, findBehind, find-entry, firstFrom, first-start, first-skip, first-hit, first-end}
 use Rattle.semigroups.proofs.Search.{nothing-behind, whole-behind}
-use Rattle.backtrack.specs.State.{bounded}
+use Rattle.backtrack.specs.InnerState.{bounded}
 use Rattle.backtrack.proofs.Steps.{lowest}
 
 module _ (m : ℕ) (s : Product) (n : ℕ) (t : Product) (start : ℕ → ℕ → Bool) where
   abbrev want : Ask → List ℕ → Bool
-  want ask = wanted m s n t start ask
+  want ask = isWanted m s n t start ask
 
   -- ---- one call, where p is placed and `after` bounds it while `tight`
 
@@ -81,7 +82,7 @@ module _ (m : ℕ) (s : Product) (n : ℕ) (t : Product) (start : ℕ → ℕ �
           where
             loosed : (e : tight ≡ true) → getD after (length p) 0 < x → findBehind (want (next after)) n d (p ++ x ∷ []) ≡ findBehind (want first) n d (p ++ x ∷ [])
             loosed e l =
-                unfold findBehind behind wanted in
+                unfold findBehind behind isWanted in
                 find-same (want (next after)) (want first) (behind (p ++ x ∷ []) (lists d n)) (λ f k.
                 let r = Memᴰ·of-map {A = List ℕ} {B = List ℕ} (λ q. (p ++ x ∷ []) ++ q) (lists d n) k in
                 ap (λ (b : Bool). isEmbedding m s n t f && (all (λ i. start i (at f i)) (elements m) && b))

@@ -1,2 +1,2 @@
-pub mod Rows
-pub mod State
+pub mod InnerRows
+pub mod InnerState

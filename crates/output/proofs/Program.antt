@@ -1,4 +1,4 @@
--- What the definition of the whole output says: which file speaks, how much of a file decides, which numbers can come, and 01's example.
+-- What the definition of the whole output says: which file speaks, how much of a file decides, which numbers can come, and the example of RULES 21.4.
 -- Assumes nothing.
 use mathlib.Core.Path.{_≡_, refl, ap, ap₂, sym, _∙_}
 use mathlib.Core.List.{List, [], flatMap, flatten}
@@ -8,7 +8,8 @@ use native.Mathlib.Omega.{arith}
 use lib.ListN.{length, take, drop, length-append}
 use Rattle.semigroups.specs.Lists.{range, elements, at, all, find, keep, firstOf, member, distinct, lists}
 use Rattle.semigroups.specs.Tables.{product, isElement, associates, badCell, badTriple}
-use Rattle.semigroups.specs.Questions.{Refusal, no}
+use Rattle.semigroups.specs.Questions.{Refusal}
+use Rattle.semigroups.specs.QuestionsLaws.{no}
 use Rattle.semigroups.specs.Maps.{isHomomorphism, isEmbedding, maps, earliest}
 use Rattle.csv.specs.Decimals.{isDigit, value, valueFrom, numeralWithin, numeral}
 use Rattle.csv.specs.Records.{isBreak, onto, records, fields, rows, recordText, lineText, rowsText}
@@ -16,11 +17,12 @@ use Rattle.csv.specs.Tables.{fieldsOf, orderOf, cellsOf}
 use Rattle.csv.specs.Questions.{breakAt, inBreak, isAllowed, firstOther, fieldsQuestions, isSquare}
 use Rattle.semigroups.specs.Calls.{refused, overwritten}
 use Rattle.output.specs.Records.{firstRecord, pairRecord, pairRecords, foundRecords, noneRecords, refusedRecord, refusedRecords}
-use Rattle.files.specs.Files.{fileRefusal, fileAnswer, room}
+use Rattle.files.specs.Files.{fileRefusal, room}
+use Rattle.files.specs.Answers.{fileAnswer}
 use Rattle.files.proofs.Files.{Holds, refused-file}
 use Rattle.files.proofs.Length.{Cut, whole, too-much, cut}
 use Rattle.output.specs.Program.{answerRecords, recueRecords, recueOutput}
-use Rattle.output.specs.Example.{sourceFile, targetFile, printed}
+use Rattle.output.specs.Examples.{sourceFile, targetFile, recuePrinted}
 
 -- ---- which file speaks
 
@@ -78,8 +80,8 @@ first-bytes-decide source target = by-source (cut source)
     by-source (whole e) = ap (λ (s : List ℕ). recueOutput s (take 57721 target)) e ∙ by-target source (cut target)
     by-source (too-much e f) = source-refused (take 57721 source) (take 57721 target) (no 20 []) e ∙ sym (source-refused source target (no 20 []) f)
 
--- ---- 01's example
+-- ---- the example of RULES 21.4
 
-pub example : recueOutput sourceFile targetFile ≡ printed
-unfolding recueOutput recueRecords answerRecords sourceFile targetFile printed fileRefusal firstRecord pairRecord pairRecords foundRecords noneRecords refusedRecord refusedRecords isDigit value valueFrom numeralWithin numeral isBreak onto records fields rows recordText lineText rowsText fieldsOf orderOf cellsOf breakAt inBreak isAllowed firstOther fieldsQuestions isSquare range elements at all find keep member distinct lists product isElement associates badCell badTriple firstOf isHomomorphism isEmbedding maps earliest orElse flatMap flatten
+pub example : recueOutput sourceFile targetFile ≡ recuePrinted
+unfolding recueOutput recueRecords answerRecords sourceFile targetFile recuePrinted fileRefusal firstRecord pairRecord pairRecords foundRecords noneRecords refusedRecord refusedRecords isDigit value valueFrom numeralWithin numeral isBreak onto records fields rows recordText lineText rowsText fieldsOf orderOf cellsOf breakAt inBreak isAllowed firstOther fieldsQuestions isSquare range elements at all find keep member distinct lists product isElement associates badCell badTriple firstOf isHomomorphism isEmbedding maps earliest orElse flatMap flatten
 example = refl

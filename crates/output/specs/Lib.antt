@@ -1,3 +1,3 @@
 pub mod Records
 pub mod Program
-pub mod Example
+pub mod Examples

@@ -1,4 +1,4 @@
--- What the program prints, record by record (01, "Program `recue`"). As text the records follow RFC 4180 (Records of crate csv).
+-- What the program prints, record by record (RULES 21.3). As text the records follow RFC 4180 (Records of crate csv).
 -- Assumes nothing.
 use mathlib.Core.List.{List, [], _∷_, map}
 use Prim.Native.Nat.{ℕ}

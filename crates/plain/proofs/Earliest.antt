@@ -8,10 +8,10 @@ use Rattle.semigroups.specs.Lists.{find, earlier, lists}
 use Rattle.semigroups.specs.Tables.{Product}
 use Rattle.semigroups.specs.Maps.{Kind, isEmbedding, isIsomorphism, isMap, maps, next, earliest}
 use Rattle.semigroups.proofs.Lists.{find-keep}
-use Rattle.plain.specs.Enumeration.{kindOf}
+use Rattle.plain.specs.InnerEnumeration.{plainKind}
 
 module _ (m : ℕ) (s : Product) (n : ℕ) (t : Product) where
-  pub kind-test : (isomorphisms : Bool) (f : List ℕ) → ((not isomorphisms || eqb m n) && isEmbedding m s n t f) ≡ isMap (kindOf isomorphisms) m s n t f
+  pub kind-test : (isomorphisms : Bool) (f : List ℕ) → ((not isomorphisms || eqb m n) && isEmbedding m s n t f) ≡ isMap (plainKind isomorphisms) m s n t f
   unfolding isIsomorphism
   kind-test true f = refl
   kind-test false f = refl

@@ -12,12 +12,13 @@ use lib.Seq.{take-all, drop-cons, drop-set-lt, getD-set-same}
 use borrow.Author.Tests.{ne-eqb}
 use lib.Dec.{ltb}
 use Rattle.semigroups.specs.Lists.{at, find, earlier, lists}
-use Rattle.semigroups.specs.Tables.{Element, IsList}
+use Rattle.semigroups.specs.Tables.{Element}
+use Rattle.semigroups.specs.TablesLaws.{IsList}
 use Rattle.semigroups.proofs.NoRepeats.{place-mem, place-unique}
 use Rattle.semigroups.proofs.ListOrder.{earlier-tail, lists-increasing, increasing-no-repeats, mem-lists, length-lists}
 use Rattle.semigroups.proofs.Tables.{list-at}
 use Rattle.semigroups.proofs.Digits.{digits, list-place, drop-digit, last-digit}
-use Rattle.plain.specs.Enumeration.{numbered}
+use Rattle.plain.specs.InnerEnumeration.{numbered}
 
 -- ---- how many lists there are
 

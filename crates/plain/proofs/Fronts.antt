@@ -5,8 +5,8 @@ use Prim.Native.Nat.{ℕ, _^_, _≤_, _<_}
 use native.Mathlib.Omega.{arith}
 use lib.ListN.{length, take, drop}
 use lib.Seq.{length-take-le, take-at}
-use Rattle.semigroups.specs.Tables.{IsList}
-use Rattle.plain.specs.Enumeration.{numbered}
+use Rattle.semigroups.specs.TablesLaws.{IsList}
+use Rattle.plain.specs.InnerEnumeration.{numbered}
 use Rattle.plain.proofs.Enumeration.{numbered-list}
 
 module _ (size room : ℕ) (h : size ≤ room) (l : List ℕ) (e : length l ≡ room) where

@@ -4,13 +4,14 @@ use mathlib.Core.Option.{Option, none, some, Option·getD}
 use mathlib.Core.Path.{_≡_, refl, _∙_, sym, ap}
 use Prim.Native.Nat.{ℕ}
 use native.Mathlib.Omega.{arith}
-use Rattle.semigroups.specs.Questions.{Refusal, Refused, tableRefusal, wrong-order, wrong-size, wrong-cell, wrong-triple, cellsRefusal}
+use Rattle.semigroups.specs.Questions.{Refusal, tableRefusal}
+use Rattle.semigroups.specs.QuestionsLaws.{Refused, wrong-order, wrong-size, wrong-cell, wrong-triple, cellsRefusal}
 use Rattle.semigroups.specs.Tables.{Accepted, badCell}
 use Rattle.semigroups.proofs.Lists.{find-some, mem-range}
 use Rattle.semigroups.proofs.Tables.{accepted, refused}
 use Rattle.tables.proofs.Questions.{cells-refused}
 use Rattle.plain.specs.declared.Said.{Said}
-use Rattle.plain.specs.Said.{refusalSaid, saidOf}
+use Rattle.plain.specs.InnerSaid.{refusalSaid, saidOf}
 
 -- Questions count from 1.
 number-positive : {n : ℕ} {cells : List ℕ} {r : Refusal} → Refused n cells r → r .number ≡ 0 → ⊥

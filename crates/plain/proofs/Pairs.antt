@@ -9,13 +9,15 @@ use native.Mathlib.Omega.{arith}
 use borrow.Author.Tests.{eqb-true, eq-eqb}
 use lib.Dec.{eqb}
 use Rattle.semigroups.specs.Lists.{at, find, lists}
-use Rattle.semigroups.specs.Tables.{Product, Element, IsList}
-use Rattle.semigroups.specs.Maps.{Embedding, isEmbedding}
+use Rattle.semigroups.specs.Tables.{Product, Element}
+use Rattle.semigroups.specs.TablesLaws.{IsList}
+use Rattle.semigroups.specs.MapsLaws.{Embedding}
+use Rattle.semigroups.specs.Maps.{isEmbedding}
 use Rattle.semigroups.proofs.Booleans.{clash, untrue, unfalse, both, and-left, and-right, or-holds, or-fails, not-of-true, not-of-false}
 use Rattle.semigroups.proofs.ListOrder.{find-nowhere}
 use Rattle.semigroups.proofs.Tables.{pair-list, list-at}
 use Rattle.semigroups.proofs.Maps.{is-embedding, embedding-is}
-use Rattle.plain.specs.Enumeration.{keeps}
+use Rattle.plain.specs.InnerEnumeration.{keeps}
 
 module _ (m : ℕ) (s : Product) (n : ℕ) (t : Product) (f : List ℕ) where
   -- The pair does not pass.

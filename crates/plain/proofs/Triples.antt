@@ -7,10 +7,10 @@ use Prim.Native.Nat.{ℕ, _+_, _≤_, _<_, _^_}
 use lib.ListN.{getD}
 use Rattle.semigroups.specs.Lists.{at}
 use Rattle.semigroups.specs.Tables.{Product, associates, badTriple}
-use Rattle.semigroups.specs.Questions.{no}
+use Rattle.semigroups.specs.QuestionsLaws.{no}
 use Rattle.semigroups.proofs.Booleans.{not-of-true, not-of-false}
-use Rattle.plain.specs.Enumeration.{numbered}
-use Rattle.plain.specs.Said.{saidOf}
+use Rattle.plain.specs.InnerEnumeration.{numbered}
+use Rattle.plain.specs.InnerSaid.{saidOf}
 use Rattle.plain.specs.declared.Said.{Said}
 use Rattle.plain.proofs.Enumeration.{remaining, search-begin, search-skip, search-hit, search-end}
 

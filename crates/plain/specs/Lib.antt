@@ -1,2 +1,2 @@
-pub mod Enumeration
-pub mod Said
+pub mod InnerEnumeration
+pub mod InnerSaid

@@ -6,11 +6,13 @@ ghost use mathlib.Core.Option.{Option·map, Option·getD};
 ghost use Prim.Native.Nat.{_^_, _≤_, _<_};
 ghost use lib.ListN.{length, drop, replicate};
 ghost use Rattle.semigroups.specs.Lists.{at, earlier};
-ghost use Rattle.semigroups.specs.Tables.{Element, Filled, IsList, product, associates, badCell, badTriple};
-ghost use Rattle.semigroups.specs.Questions.{no, tableRefusal};
+ghost use Rattle.semigroups.specs.Tables.{Element, Filled, product, associates, badCell, badTriple};
+ghost use Rattle.semigroups.specs.TablesLaws.{IsList};
+ghost use Rattle.semigroups.specs.QuestionsLaws.{no};
+ghost use Rattle.semigroups.specs.Questions.{tableRefusal};
 ghost use Rattle.semigroups.specs.Maps.{isEmbedding, isMap, maps, next, earliest};
-ghost use Rattle.plain.specs.Enumeration.{numbered, keeps, isFound, kindOf};
-ghost use Rattle.plain.specs.Said.{saidOf};
+ghost use Rattle.plain.specs.InnerEnumeration.{numbered, keeps, isFound, plainKind};
+ghost use Rattle.plain.specs.InnerSaid.{saidOf};
 
 // The product i·j: rows and columns count from 1.
 pub fn product(cells: &[u8], n: usize, i: usize, j: usize) -> usize
@@ -220,7 +222,7 @@ fn is_embedding(source: &[u8], m: usize, target: &[u8], n: usize, map: &[u8]) ->
 // Whether it is a map of the kind asked: an isomorphism, or an embedding.
 fn is_map(isomorphisms: bool, source: &[u8], m: usize, target: &[u8], n: usize, map: &[u8]) -> bool
     requires { ⌜ Filled m (now source) ⌝ ∗ ⌜ Filled n (now target) ⌝ ∗ ⌜ IsList m n (now map) ⌝ }
-    ensures answer { λ r. ⌜ r ≡ isMap (kindOf isomorphisms) m (product m (now (source .entry))) n (product n (now (target .entry))) (now (map .entry)) ⌝ }
+    ensures answer { λ r. ⌜ r ≡ isMap (plainKind isomorphisms) m (product m (now (source .entry))) n (product n (now (target .entry))) (now (map .entry)) ⌝ }
 {
     (!isomorphisms | (m == n)) & is_embedding(source, m, target, n, map)
 }
@@ -236,7 +238,7 @@ fn is_later_map(
     k: usize,
 ) -> bool
     requires { ⌜ Filled m (now source) ⌝ ∗ ⌜ Filled n (now target) ⌝ ∗ ⌜ m ≤ 9 ⌝ ∗ ⌜ length (now after) ≡ m ⌝ ∗ ⌜ k < n ^ m ⌝ }
-    ensures answer { λ r. ⌜ r ≡ (isMap (kindOf isomorphisms) m (product m (now (source .entry))) n (product n (now (target .entry))) (numbered m n k) && earlier (now (after .entry)) (numbered m n k)) ⌝ }
+    ensures answer { λ r. ⌜ r ≡ (isMap (plainKind isomorphisms) m (product m (now (source .entry))) n (product n (now (target .entry))) (numbered m n k) && earlier (now (after .entry)) (numbered m n k)) ⌝ }
 {
     let list = list_number(m, n, k);
     is_map(isomorphisms, source, m, target, n, &list[..m]) & earlier(after, &list[..m])
@@ -254,8 +256,8 @@ pub fn next_map(
 ) -> bool
     requires { ⌜ Filled m (now source) ⌝ ∗ ⌜ Filled n (now target) ⌝ ∗ ⌜ m ≤ 9 ⌝ }
     requires { ⌜ (length (now after) ≡ m) × (length (now map) ≡ m) ⌝ }
-    ensures found { λ r. ⌜ r ≡ isFound (earliest (next (now (after .entry))) (maps (kindOf isomorphisms) m (product m (now (source .entry))) n (product n (now (target .entry))))) ⌝ }
-    ensures map { λ _. ⌜ now (map .exit) ≡ Option·getD (earliest (next (now (after .entry))) (maps (kindOf isomorphisms) m (product m (now (source .entry))) n (product n (now (target .entry))))) (now (map .entry)) ⌝ }
+    ensures found { λ r. ⌜ r ≡ isFound (earliest (next (now (after .entry))) (maps (plainKind isomorphisms) m (product m (now (source .entry))) n (product n (now (target .entry))))) ⌝ }
+    ensures map { λ _. ⌜ now (map .exit) ≡ Option·getD (earliest (next (now (after .entry))) (maps (plainKind isomorphisms) m (product m (now (source .entry))) n (product n (now (target .entry))))) (now (map .entry)) ⌝ }
 {
     let total = number_of_lists(m, n);
     let mut k: usize = 0;

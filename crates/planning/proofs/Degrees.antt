@@ -7,7 +7,8 @@ use native.Mathlib.Omega.{arith}
 use lib.ListN.{length, getD}
 use Rattle.semigroups.specs.Lists.{elements, at}
 use Rattle.semigroups.specs.Tables.{Product, cellPlace, Element}
-use Rattle.semigroups.specs.Maps.{Embedding, embeddings}
+use Rattle.semigroups.specs.MapsLaws.{Embedding}
+use Rattle.semigroups.specs.Maps.{embeddings}
 use Rattle.semigroups.specs.Transformations.{transformationOrder, transformation, numberOf, transformationProduct}
 use Rattle.semigroups.proofs.Lists.{mem-elements, elements-mem, sorted-range, ext-at}
 use Rattle.semigroups.proofs.ListOrder.{earliest-unique}
@@ -15,7 +16,8 @@ use Rattle.semigroups.proofs.Completions.{first-answer, no-answer}
 use Rattle.semigroups.proofs.Tables.{list-at, length-grid, grid-at, grid-only}
 use Rattle.semigroups.proofs.Maps.{first-earliest, first-none, embedding-agrees}
 use Rattle.semigroups.proofs.Transformations.{transformation-list, number-transformation, product-point}
-use Rattle.planning.specs.Degrees.{degreeProduct, Fit, fit, firstAt, leastFit, leastDegree, position, landings, fitPositions, EmbedsAt, IsLeastDegree, LandingPositions, LeastDegreeTheorem, NoDegreeTheorem, PositionsTheorem}
+use Rattle.planning.specs.Degrees.{degreeProduct, Fit, fit, firstAt, leastFit, leastDegree, position, landings, fitPositions}
+use Rattle.planning.specs.DegreesLaws.{EmbedsAt, IsLeastDegree, LandingPositions, LeastDegreeTheorem, NoDegreeTheorem, PositionsTheorem}
 use Rattle.planning.proofs.Agreement.{table-agrees}
 
 -- ---- the least degree

@@ -7,16 +7,19 @@ use mathlib.Core.Option.{Option, none, some, Option·map, orElse}
 use Prim.Native.Nat.{ℕ}
 use native.Mathlib.Omega.{arith}
 use Rattle.semigroups.specs.Lists.{range, elements, at, all, find, firstOf, sum, count, member, earlier, lists}
-use Rattle.semigroups.specs.Tables.{Product, product, grid, Closed, isElement, associates, badCell, badTriple}
+use Rattle.semigroups.specs.Tables.{Product, product, grid, isElement, associates, badCell, badTriple}
+use Rattle.semigroups.specs.TablesLaws.{Closed}
 use Rattle.semigroups.specs.Questions.{tableRefusal}
 use Rattle.semigroups.specs.Maps.{first, after}
-use Rattle.semigroups.specs.Search.{fits, passes, admits, search}
+use Rattle.semigroups.specs.Trials.{fits, passes}
+use Rattle.semigroups.specs.InnerSearch.{admits, search}
 use Rattle.semigroups.specs.Transformations.{transformations, transformationOrder, transformation, numberOf, transformationProduct}
 use Rattle.semigroups.specs.Cases.{Table, one, swap, left, right, mat5}
 use Rattle.semigroups.proofs.Tables.{accepted, accepted-closed}
 use Rattle.semigroups.proofs.Completions.{firstOf-same}
 use Rattle.semigroups.proofs.Search.{search-earliest}
-use Rattle.planning.specs.Degrees.{Fit, fit, firstAt, leastFit, leastDegree, position, landings, fitPositions, degreeRefusal, IsLeastDegree}
+use Rattle.planning.specs.Degrees.{Fit, fit, firstAt, leastFit, leastDegree, position, landings, fitPositions, degreeRefusal}
+use Rattle.planning.specs.DegreesLaws.{IsLeastDegree}
 use Rattle.planning.specs.Examples.{cyclic4, leastFitOf, DegreeExamples, DegreeQuestionExamples}
 use Rattle.planning.proofs.Agreement.{first-by-product}
 use Rattle.planning.proofs.Larger.{larger-degree}

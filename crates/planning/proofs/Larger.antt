@@ -7,8 +7,10 @@ use Prim.Native.Nat.{ℕ, zero, suc, _+_, _-_}
 use native.Mathlib.Omega.{arith}
 use lib.ListN.{length, length-map}
 use Rattle.semigroups.specs.Lists.{elements, at}
-use Rattle.semigroups.specs.Tables.{Product, Element, IsList, Closed}
-use Rattle.semigroups.specs.Maps.{Embedding, after}
+use Rattle.semigroups.specs.Tables.{Product, Element}
+use Rattle.semigroups.specs.TablesLaws.{IsList, Closed}
+use Rattle.semigroups.specs.MapsLaws.{Embedding}
+use Rattle.semigroups.specs.Maps.{after}
 use Rattle.semigroups.specs.Transformations.{transformationOrder, transformation, numberOf, transformationProduct}
 use Rattle.semigroups.proofs.Booleans.{equal-or-not}
 use Rattle.semigroups.proofs.Lists.{length-elements, at-map, at-elements, at-front, at-seam, ext-at, length-snoc}
@@ -16,7 +18,8 @@ use Rattle.semigroups.proofs.Tables.{list-at}
 use Rattle.semigroups.proofs.Maps.{embedding-agrees}
 use Rattle.semigroups.proofs.Composition.{at-after, length-after, after-embeds}
 use Rattle.semigroups.proofs.Transformations.{transformation-list, number-transformation, transformation-number, product-composite, transformations-closed}
-use Rattle.planning.specs.Degrees.{degreeProduct, EmbedsAt, NextDegreeTheorem, LargerDegreeTheorem}
+use Rattle.planning.specs.Degrees.{degreeProduct}
+use Rattle.planning.specs.DegreesLaws.{EmbedsAt, NextDegreeTheorem, LargerDegreeTheorem}
 use Rattle.planning.proofs.Agreement.{agrees-table}
 
 -- ---- one point more

@@ -10,7 +10,8 @@ use lib.Dec.{leb}
 use lib.ListN.{length}
 use Rattle.semigroups.specs.Lists.{firstOf}
 use Rattle.semigroups.specs.Tables.{product}
-use Rattle.semigroups.specs.Questions.{Question, ask, Refusal, no, tableQuestions, tableRefusal}
+use Rattle.semigroups.specs.Questions.{Question, ask, Refusal, tableQuestions, tableRefusal}
+use Rattle.semigroups.specs.QuestionsLaws.{no}
 use Rattle.semigroups.specs.Calls.{Answer, refused, gives, givenUnless, overwritten, writtenUnless}
 use Rattle.semigroups.specs.Transformations.{transformationOrder}
 use Rattle.semigroups.proofs.Maps.{embedding-order}
@@ -18,8 +19,10 @@ use Rattle.semigroups.proofs.Questions.{failed-before, passed-before}
 use Rattle.semigroups.proofs.Passing.{room-asked, joined, table-passes}
 use Rattle.semigroups.proofs.Calls.{refused-keeps}
 use Rattle.semigroups.proofs.Booleans.{impossible}
-use Rattle.planning.specs.Degrees.{degreeProduct, Fit, leastFit, leastDegree, fitPositions, degreeRefusal, DegreePasses}
-use Rattle.planning.specs.Answers.{degreeSays, positionsAfter, PositionsKept}
+use Rattle.planning.specs.Degrees.{degreeProduct, Fit, leastFit, leastDegree, fitPositions, degreeRefusal}
+use Rattle.planning.specs.DegreesLaws.{DegreePasses}
+use Rattle.planning.specs.Calls.{degreeSays, positionsAfter}
+use Rattle.planning.specs.CallsLaws.{PositionsKept}
 use Rattle.planning.proofs.Degrees.{no-fit}
 use Rattle.planning.proofs.Searching.{order-most}
 use Rattle.planning.proofs.Trying.{Placed}

@@ -1,12 +1,13 @@
--- Worked examples of the least degree (02, xiii), computed from the definitions. Assumes nothing.
+-- Worked examples of the least degree (RULES 17), computed from the definitions. Assumes nothing.
 use mathlib.Core.Path.{_≡_}
 use mathlib.Core.List.{List, [], _∷_}
 use mathlib.Core.Option.{Option, none, some}
 use Prim.Native.Nat.{ℕ}
 use Rattle.semigroups.specs.Tables.{product}
-use Rattle.semigroups.specs.Questions.{no}
+use Rattle.semigroups.specs.QuestionsLaws.{no}
 use Rattle.semigroups.specs.Cases.{Table, one, swap, left, right, mat5}
-use Rattle.planning.specs.Degrees.{Fit, fit, leastFit, leastDegree, fitPositions, degreeRefusal, EmbedsAt, LandingPositions}
+use Rattle.planning.specs.Degrees.{Fit, fit, leastFit, leastDegree, fitPositions, degreeRefusal}
+use Rattle.planning.specs.DegreesLaws.{EmbedsAt, LandingPositions}
 
 -- The group of order 4 that one element generates: no transformation of three points has four different powers.
 abbrev pub cyclic4 : Table

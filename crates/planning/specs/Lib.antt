@@ -1,3 +1,6 @@
 pub mod Degrees
+pub mod DegreesLaws
 pub mod Examples
 pub mod Answers
+pub mod Calls
+pub mod CallsLaws

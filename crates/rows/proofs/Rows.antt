@@ -18,7 +18,7 @@ use Rattle.semigroups.specs.Tables.{Element}
 use Rattle.semigroups.specs.Scratch.{marked}
 use Rattle.semigroups.proofs.Booleans.{and-left, and-right, at-most-or-above, equal-or-not}
 use Rattle.rows.specs.declared.Row.{Row}
-use Rattle.rows.specs.Rows.{bit, inRow, isEmpty, rowOf, has, packedRow, masked, singleRow, Inside, Only, Shrinks, Forced, Marked}
+use Rattle.rows.specs.InnerRows.{hasBit, inRow, isEmpty, rowOf, has, packedRow, masked, singleRow, Inside, Only, Shrinks, Forced, Marked}
 use Rattle.rows.proofs.Words.{bit-of-word, bit-past, single-word, other-word}
 use Rattle.rows.proofs.Masks.{and-bit, inside-inside, inside-mask, inside-old, inside-bit, ones-zero, ones-power}
 
@@ -28,13 +28,13 @@ row a b = record { lo = a; hi = b }
 -- ---- the two words of a row
 
 module _ (row : Row) (y : ℕ) where
-  pub row-low : y ≤ 60 → bit (row .lo) (y - 1) ≡ inRow row y
+  pub row-low : y ≤ 60 → hasBit (row .lo) (y - 1) ≡ inRow row y
   unfolding inRow
-  row-low h = sym (ap (λ (b : Bool). cond b (bit (row .lo) (y - 1)) (bit (row .hi) (y - 61))) (le-leb y 60 h))
+  row-low h = sym (ap (λ (b : Bool). cond b (hasBit (row .lo) (y - 1)) (hasBit (row .hi) (y - 61))) (le-leb y 60 h))
 
-  pub row-high : 60 < y → bit (row .hi) (y - 61) ≡ inRow row y
+  pub row-high : 60 < y → hasBit (row .hi) (y - 61) ≡ inRow row y
   unfolding inRow
-  row-high h = sym (ap (λ (b : Bool). cond b (bit (row .lo) (y - 1)) (bit (row .hi) (y - 61))) (lt-leb y 60 h))
+  row-high h = sym (ap (λ (b : Bool). cond b (hasBit (row .lo) (y - 1)) (hasBit (row .hi) (y - 61))) (lt-leb y 60 h))
 
 -- A packed row holds the test.
 pub in-packed-row : (n : ℕ) (p : ℕ → Bool) (y : ℕ) → Element n y → inRow (packedRow n p) y ≡ p y
@@ -61,7 +61,7 @@ all-packed-row n p y hy =
 
 -- An empty row has no element.
 pub none-in-empty : (row : Row) (y : ℕ) → isEmpty row ≡ true → inRow row y ≡ false
-unfolding isEmpty inRow bit
+unfolding isEmpty inRow hasBit
 none-in-empty row y h =
     let lo = eqb-true (row .lo) 0 (and-left (eqb (row .lo) 0) (eqb (row .hi) 0) h) in
     let hi = eqb-true (row .hi) 0 (and-right (eqb (row .lo) 0) (eqb (row .hi) 0) h) in
@@ -136,7 +136,7 @@ single-unique v w hv hw e = eqb-true v w (sym (in-single w hw v hv) ∙ ap (λ (
 pub in-masked : (a b : Row) (y : ℕ) → inRow (row (bitAnd (a .lo) (b .lo)) (bitAnd (a .hi) (b .hi))) y ≡ (inRow a y && inRow b y)
 unfolding inRow
 in-masked a b y =
-    elim (leb y 60) as (λ c. cond c (bit (bitAnd (a .lo) (b .lo)) (y - 1)) (bit (bitAnd (a .hi) (b .hi)) (y - 61)) ≡ (cond c (bit (a .lo) (y - 1)) (bit (a .hi) (y - 61)) && cond c (bit (b .lo) (y - 1)) (bit (b .hi) (y - 61))))
+    elim (leb y 60) as (λ c. cond c (hasBit (bitAnd (a .lo) (b .lo)) (y - 1)) (hasBit (bitAnd (a .hi) (b .hi)) (y - 61)) ≡ (cond c (hasBit (a .lo) (y - 1)) (hasBit (a .hi) (y - 61)) && cond c (hasBit (b .lo) (y - 1)) (hasBit (b .hi) (y - 61))))
     [ true ↦ and-bit (a .lo) (b .lo) (y - 1) | false ↦ and-bit (a .hi) (b .hi) (y - 61) ]
 
 -- A masked entry, also past the end, where both are 0.

@@ -1,2 +1,2 @@
-pub mod Rows
-pub mod Room
+pub mod InnerRoom
+pub mod InnerRows

@@ -5,11 +5,13 @@ use mathlib.Core.List.{List, []}
 use mathlib.Core.Option.{none}
 use Prim.Native.Nat.{ℕ, _<_}
 use Rattle.semigroups.specs.Lists.{elements, at, all, find, keep, lists}
-use Rattle.semigroups.specs.Tables.{Product, product, Element, Closed, Accepted}
+use Rattle.semigroups.specs.Tables.{Product, product, Element, Accepted}
+use Rattle.semigroups.specs.TablesLaws.{Closed}
 use Rattle.semigroups.specs.Scratch.{marked}
-use Rattle.semigroups.specs.Calls.{scratchAfter}
-use Rattle.semigroups.specs.Maps.{Embedding, isEmbedding, embeddings, maps, Ask, beyond, earliest}
-use Rattle.semigroups.specs.Search.{search, wanted}
+use Rattle.semigroups.specs.InnerCalls.{scratchAfter}
+use Rattle.semigroups.specs.MapsLaws.{Embedding}
+use Rattle.semigroups.specs.Maps.{isEmbedding, embeddings, maps, Ask, beyond, earliest}
+use Rattle.semigroups.specs.InnerSearch.{search, isWanted}
 use Rattle.semigroups.proofs.Booleans.{same-truth}
 use Rattle.semigroups.proofs.Lists.{each-at, each-of, find-keep, keep-agree}
 use Rattle.semigroups.proofs.Tables.{accepted-closed}
@@ -18,9 +20,9 @@ use Rattle.semigroups.proofs.Maps.{mem-maps, no-embedding}
 use Rattle.semigroups.proofs.Search.{search-behind}
 use Rattle.semigroups.proofs.Candidates.{index-period-sound, marked-candidate}
 use Rattle.semigroups.proofs.Trials.{counted-finds}
-use Rattle.backtrack.specs.State.{bounded}
+use Rattle.backtrack.specs.InnerState.{bounded}
 use Rattle.search.specs.Allowed.{allows, allowed, allowedCandidate}
-use Rattle.search.specs.Searching.{markedWork}
+use Rattle.search.specs.InnerSearching.{markedWork}
 
 -- Marks that agree on the pairs of f allow it or not alike.
 pub allows-alike : (m : ℕ) (c d : ℕ → ℕ → Bool) (f : List ℕ) → ((i : ℕ) → Element m i → c i (at f i) ≡ d i (at f i))
@@ -33,10 +35,10 @@ allows-alike m c d f h =
 -- Whatever the marks, the search finds the earliest embedding asked for among those whose pairs are marked.
 search-kept : (m : ℕ) (s : Product) (n : ℕ) (t : Product) → Closed m s → (c : ℕ → ℕ → Bool) (ask : Ask)
     → search s t c ask n m [] ≡ earliest ask (keep (λ f. all (λ i. c i (at f i)) (elements m)) (maps embeddings m s n t))
-unfolding earliest maps wanted
+unfolding earliest maps isWanted
 search-kept m s n t closed c ask =
     let inside : List ℕ → Bool = λ f. all (λ i. c i (at f i)) (elements m) in
-    search-behind m s n t c ask closed ∙ sym (find-all (wanted m s n t c ask) n m)
+    search-behind m s n t c ask closed ∙ sym (find-all (isWanted m s n t c ask) n m)
     ∙ sym (find-keep (isEmbedding m s n t) (λ f. inside f && beyond ask f) (lists m n))
     ∙ sym (find-keep inside (beyond ask) (keep (isEmbedding m s n t) (lists m n)))
 

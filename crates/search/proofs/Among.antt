@@ -11,16 +11,19 @@ use lib.ListN.{length}
 use Rattle.semigroups.specs.Lists.{firstOf}
 use Rattle.semigroups.specs.Tables.{product, Accepted}
 use Rattle.semigroups.specs.Scratch.{scratchSize}
-use Rattle.semigroups.specs.Questions.{Question, ask, Refusal, no, searchQuestions, searchRefusal}
-use Rattle.semigroups.specs.Passing.{SearchPasses}
-use Rattle.semigroups.specs.Calls.{refused, gives, scratchAfter, mapUnless}
+use Rattle.semigroups.specs.Questions.{Question, ask, Refusal, searchQuestions, searchRefusal}
+use Rattle.semigroups.specs.QuestionsLaws.{no}
+use Rattle.semigroups.specs.PassingLaws.{SearchPasses}
+use Rattle.semigroups.specs.Calls.{refused, gives, mapUnless}
+use Rattle.semigroups.specs.InnerCalls.{scratchAfter}
 use Rattle.semigroups.specs.Maps.{Ask, sought}
 use Rattle.semigroups.proofs.Questions.{failed-before, passed-before}
 use Rattle.semigroups.proofs.Passing.{search-passes, room-asked, joined}
 use Rattle.search.specs.Answers.{soughtIf}
 use Rattle.search.specs.Calls.{Lent, called}
 use Rattle.search.specs.Allowed.{allowedCandidate}
-use Rattle.search.specs.Among.{amongRefusal, refusalAmong, answerAmong, leavingAmong, answeredAmong, callAmong}
+use Rattle.search.specs.Among.{amongRefusal, refusalAmong, answerAmong, leavingAmong, callAmong}
+use Rattle.search.specs.InnerAmong.{answeredAmong}
 use Rattle.search.specs.AmongLaws.{PassesAmong}
 
 -- ---- the questions

@@ -8,7 +8,8 @@ use Prim.Native.Nat.{ℕ}
 use native.Mathlib.Omega.{arith}
 use borrow.Author.Tests.{not-true, eq-eqb, eqb-true}
 use lib.Dec.{eqb}
-use Rattle.semigroups.specs.Lists.{range, elements, at, all, find, keep, sum, firstOf, least, member, distinct, earlier, lists, count, Earliest}
+use Rattle.semigroups.specs.Lists.{range, elements, at, all, find, keep, sum, firstOf, least, member, distinct, earlier, lists, count}
+use Rattle.semigroups.specs.ListsLaws.{Earliest}
 use Rattle.semigroups.specs.Tables.{product, grid, isElement, associates, badCell, badTriple}
 use Rattle.semigroups.specs.Scratch.{packedByte, bit, scratchSize, pairMarks, marks, marked}
 use Rattle.semigroups.specs.Invariants.{power, periodFrom, index, period, idempotentPower, indexPeriod, sameIndexPeriod}

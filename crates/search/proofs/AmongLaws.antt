@@ -9,12 +9,15 @@ use native.Mathlib.Nat.{suc-mul, zero-mul, mul-zero, zero-div}
 use native.Mathlib.Omega.{arith}
 use borrow.Author.Tests.{eqb-true}
 use lib.ListN.{length, getD, List·getD-eq-default}
-use Rattle.semigroups.specs.Lists.{at, keep, earlier, Sorted, Earliest}
+use Rattle.semigroups.specs.Lists.{at, keep, earlier}
+use Rattle.semigroups.specs.ListsLaws.{Sorted, Earliest}
 use Rattle.semigroups.specs.Tables.{Product, product, cellPlace}
 use Rattle.semigroups.specs.Scratch.{bit, scratchSize, marked}
 use Rattle.semigroups.specs.Questions.{Refusal}
-use Rattle.semigroups.specs.Calls.{refused, gives, mapUnless, overwritten, scratchAfter}
-use Rattle.semigroups.specs.Maps.{Embedding, embeddings, maps, Ask, first, next, beyond, earliest, Sought, found, nothing, sought}
+use Rattle.semigroups.specs.Calls.{refused, gives, mapUnless, overwritten}
+use Rattle.semigroups.specs.InnerCalls.{scratchAfter}
+use Rattle.semigroups.specs.MapsLaws.{Embedding}
+use Rattle.semigroups.specs.Maps.{embeddings, maps, Ask, first, next, beyond, earliest, Sought, found, nothing, sought}
 use Rattle.semigroups.specs.Candidates.{candidate}
 use Rattle.semigroups.proofs.Booleans.{clash, at-most-or-above}
 use Rattle.semigroups.proofs.Lists.{ext-at, each-at, each-of, find-some, find-none, find-first, mem-keep, keep-mem, sorted-keep, keep-agree}
@@ -23,7 +26,7 @@ use Rattle.semigroups.proofs.Maps.{maps-increasing, mem-maps, maps-mem}
 use Rattle.semigroups.proofs.Calls.{found-ne-nothing, gives-ne-refused, refused-by}
 use Rattle.candidates.proofs.Marks.{scratch-same}
 use Rattle.search.specs.Calls.{Lent, Called, called, refusalOf, answerOf, marksOf, call}
-use Rattle.search.specs.Wanted.{Wanted}
+use Rattle.search.specs.WantedLaws.{Wanted}
 use Rattle.search.specs.Allowed.{allows, allowed}
 use Rattle.search.specs.Among.{refusalAmong, answerAmong, marksAmong, leavingAmong, callAmong}
 use Rattle.search.specs.AmongLaws.{PassesAmong, Allows, WantedAmong, AllMarked, OnlyOf, Fewer, SamePairs, AmongLaws}

@@ -13,7 +13,7 @@ use Rattle.search.specs.declared.Limit.the-variants.{Trials}
 use Rattle.search.specs.declared.Searched.{Searched}
 use Rattle.search.specs.Calls.{Lent, called, refusalOf, leaving}
 use Rattle.search.specs.Limited.{firstWork, limitedCall}
-use Rattle.search.specs.Searching.{endedUnless, searchedSays, searched}
+use Rattle.search.specs.InnerSearching.{endedUnless, searchedSays, searched}
 
 module _ (kind : Kind) (limit : ℕ) (l : Lent) where
   -- A refused call says its refusal, and not one lent byte is changed.

@@ -17,13 +17,13 @@ use Rattle.semigroups.proofs.Search.{search-map}
 use Rattle.semigroups.proofs.Trials.{counted-finds, limited-ends, limited-stops}
 use Rattle.backtrack.specs.declared.Found.{Found}
 use Rattle.backtrack.specs.declared.Outcome.{Outcome}
-use Rattle.backtrack.specs.State.{foundIn, bounded, remaining, within, outcomeOf}
+use Rattle.backtrack.specs.InnerState.{foundIn, bounded, remaining, within, outcomeOf}
 use Rattle.backtrack.proofs.Extending.{none-found}
 use Rattle.backtrack.proofs.Limits.{within-stopped, within-ended}
 use Rattle.search.specs.declared.Limit.{Limit}
 use Rattle.search.specs.declared.Limit.the-variants.{Unlimited, Trials}
 use Rattle.search.specs.Answers.{soughtIf}
-use Rattle.search.specs.Searching.{saidUnder, foundUnder, markedWork}
+use Rattle.search.specs.InnerSearching.{saidUnder, foundUnder, markedWork}
 
 -- ---- what is found
 

@@ -12,18 +12,19 @@ use lib.Seq.{length-take-le, drop-cons, drop-append-seam, getD-append-seam}
 use Rattle.semigroups.specs.Lists.{range}
 use Rattle.semigroups.specs.Tables.{Element, cellPlace}
 use Rattle.semigroups.specs.Scratch.{bit, scratchSize, marks, marked}
-use Rattle.semigroups.specs.Calls.{overwritten, scratchAfter}
+use Rattle.semigroups.specs.Calls.{overwritten}
+use Rattle.semigroups.specs.InnerCalls.{scratchAfter}
 use Rattle.semigroups.proofs.Lists.{length-range, getD-range, getD-map}
 use Rattle.semigroups.proofs.Writing.{written, written-none, written-all, length-written, write-next}
 use Rattle.semigroups.proofs.Packing.{bit-small}
 use Rattle.semigroups.proofs.Candidates.{byte-below, length-marks, are-marks, marks-exactly, marked-candidate}
-use Rattle.rows.specs.Rows as rows
+use Rattle.rows.specs.InnerRows as rows
 use Rattle.rows.proofs.Masks.{and-bit}
-use Rattle.search.specs.Masks.{masked}
+use Rattle.search.specs.InnerMasks.{masked}
 
 -- A bit of a masked byte is set where it is in both.
 and-bits : (a b r : ℕ) → eqb (bit (bitAnd a b) r) 1 ≡ (eqb (bit a r) 1 && eqb (bit b r) 1)
-unfolding bit rows.bit
+unfolding bit rows.hasBit
 and-bits a b r = and-bit a b r
 
 module _ (size : ℕ) (pairs scratch : List ℕ) where

@@ -6,20 +6,21 @@ use mathlib.Core.Option.{Option, none}
 use Prim.Native.Nat.{ℕ}
 use native.Mathlib.Omega.{arith}
 use Rattle.semigroups.specs.Tables.{product, Accepted}
-use Rattle.semigroups.specs.Calls.{Answer, gives, scratchAfter, mapUnless}
+use Rattle.semigroups.specs.Calls.{Answer, gives, mapUnless}
+use Rattle.semigroups.specs.InnerCalls.{scratchAfter}
 use Rattle.semigroups.specs.Maps.{Kind, Sought, nothing, sought}
 use Rattle.semigroups.specs.Candidates.{candidate}
 use Rattle.semigroups.specs.Trials.{Work, work, Limited, stopped, ended}
 use Rattle.semigroups.proofs.Booleans.{impossible}
 use Rattle.semigroups.proofs.Trials.{limited-ends}
-use Rattle.backtrack.specs.State.{bounded}
+use Rattle.backtrack.specs.InnerState.{bounded}
 use Rattle.search.specs.declared.Limit.{Limit}
 use Rattle.search.specs.declared.Limit.the-variants.{Unlimited, Trials}
 use Rattle.search.specs.declared.Searched.{Searched}
 use Rattle.search.specs.Answers.{soughtIf}
-use Rattle.search.specs.Calls.{Lent, Called, called, leaving, answered, answerOf}
+use Rattle.search.specs.Calls.{Lent, Called, called, leaving, answerOf}
+use Rattle.search.specs.InnerSearching.{answered, endedUnless, searchedSays, saidUnder, foundUnder, searched}
 use Rattle.search.specs.Limited.{workOf}
-use Rattle.search.specs.Searching.{endedUnless, searchedSays, saidUnder, foundUnder, searched}
 use Rattle.search.proofs.Works.{work-finds}
 
 -- Where no work is done there is nothing, whatever the limit.

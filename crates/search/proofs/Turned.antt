@@ -6,17 +6,19 @@ use mathlib.Core.Option.{none}
 use Prim.Native.Nat.{ℕ, _*_, _≤_}
 use lib.ListN.{length, take}
 use lib.Seq.{length-take-le}
-use Rattle.semigroups.specs.Tables.{product, turnedCells, Accepted}
-use Rattle.semigroups.specs.Calls.{gives, overwritten, scratchAfter, mapUnless}
+use Rattle.semigroups.specs.Tables.{product, Accepted}
+use Rattle.semigroups.specs.TablesLaws.{turnedCells}
+use Rattle.semigroups.specs.Calls.{gives, overwritten, mapUnless}
+use Rattle.semigroups.specs.InnerCalls.{scratchAfter}
 use Rattle.semigroups.specs.Maps.{isomorphisms, reversed}
 use Rattle.semigroups.specs.Trials.{Work}
 use Rattle.semigroups.specs.Candidates.{candidate}
 use Rattle.semigroups.proofs.Turned.{turned-front, turned-accepted}
 use Rattle.candidates.proofs.Marks.{scratch-same}
-use Rattle.backtrack.specs.State.{bounded}
+use Rattle.backtrack.specs.InnerState.{bounded}
 use Rattle.search.specs.declared.Limit.{Limit}
 use Rattle.search.specs.Calls.{lend, called}
-use Rattle.search.specs.Searching.{saidUnder, foundUnder, searched}
+use Rattle.search.specs.InnerSearching.{saidUnder, foundUnder, searched}
 use Rattle.search.proofs.Works.{same-candidate, turned-work}
 
 pub turned-call : (next : Bool) (limit : Limit) (m : ℕ) (source : List ℕ) (n : ℕ) (target bytes scratch : List ℕ) → Accepted n target

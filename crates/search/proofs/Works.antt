@@ -7,12 +7,13 @@ use Prim.Native.Nat.{ℕ, _+_}
 use native.Mathlib.Omega.{arith}
 use borrow.Author.Tests.{leb-false, eqb-true, eqb-false}
 use Rattle.semigroups.specs.Lists.{find}
-use Rattle.semigroups.specs.Tables.{Product, product, turned, turnedCells, Element, Closed, Accepted}
+use Rattle.semigroups.specs.Tables.{Product, product, turned, Element, Accepted}
+use Rattle.semigroups.specs.TablesLaws.{turnedCells, Closed}
 use Rattle.semigroups.specs.Scratch.{marked}
-use Rattle.semigroups.specs.Calls.{scratchAfter}
+use Rattle.semigroups.specs.InnerCalls.{scratchAfter}
 use Rattle.semigroups.specs.Maps.{Kind, embeddings, isomorphisms, reversed, maps, Ask, earliest}
 use Rattle.semigroups.specs.Candidates.{candidate}
-use Rattle.semigroups.specs.Search.{search}
+use Rattle.semigroups.specs.InnerSearch.{search}
 use Rattle.semigroups.specs.Trials.{Work, work, counted}
 use Rattle.semigroups.proofs.Tables.{accepted-closed}
 use Rattle.semigroups.proofs.Turned.{cells-turn, turned-accepted}
@@ -21,10 +22,10 @@ use Rattle.semigroups.proofs.Reversed.{no-reversed, reversed-maps, reversed-can
 use Rattle.semigroups.proofs.Candidates.{index-period-sound, profile-sound, marked-candidate}
 use Rattle.semigroups.proofs.Search.{search-earliest}
 use Rattle.semigroups.proofs.Trials.{counted-finds, counted-same, counted-agrees}
-use Rattle.backtrack.specs.State.{bounded}
-use Rattle.search.specs.Kinds.{straight, orderFits}
+use Rattle.backtrack.specs.InnerState.{bounded}
+use Rattle.search.specs.InnerSearching.{straight, markedWork}
+use Rattle.search.specs.Kinds.{orderFits}
 use Rattle.search.specs.Limited.{readBy, workOf}
-use Rattle.search.specs.Searching.{markedWork}
 
 -- ---- where the orders rule a map out
 

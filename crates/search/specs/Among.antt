@@ -1,8 +1,8 @@
 -- A call of a search for embeddings among given pairs: from all that is lent to all that is said and every byte that is left.
--- No byte of the pairs changes. Neither paper has this call or question 70.
+-- No byte of the pairs changes (RULES 11).
 -- Assumes nothing.
 use mathlib.Core.List.{List, [], _∷_, _++_}
-use mathlib.Core.Option.{Option, none}
+use mathlib.Core.Option.{Option}
 use Prim.Native.Nat.{ℕ}
 use lib.Dec.{leb}
 use lib.ListN.{length}
@@ -36,10 +36,6 @@ marksAmong pairs l = marks (l .m) (l .n) (allowedCandidate (l .m) (product (l .m
 -- What a call says and leaves: its refusal, or whether there is the embedding asked for, that embedding, and the marks.
 abbrev pub leavingAmong : List ℕ → Lent → Option Refusal → Option (List ℕ) → Called Sought
 leavingAmong pairs l refusal answer = called (givenUnless refusal (sought answer)) (mapUnless refusal answer (l .mapBytes)) (writtenUnless refusal (marksAmong pairs l) (l .scratch))
-
--- A call that no question refuses.
-unfoldable pub answeredAmong : Ask → List ℕ → Lent → Called Sought
-answeredAmong ask pairs l = leavingAmong pairs l none (answerAmong ask pairs l)
 
 -- A call of a search among given pairs.
 unfoldable pub callAmong : Ask → List ℕ → Lent → Called Sought

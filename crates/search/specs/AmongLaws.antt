@@ -7,15 +7,18 @@ use mathlib.Core.List.{List, [], _∷_}
 use mathlib.Core.Option.{some}
 use Prim.Native.Nat.{ℕ, _≤_}
 use lib.ListN.{length}
-use Rattle.semigroups.specs.Lists.{at, earlier, Earliest}
+use Rattle.semigroups.specs.Lists.{at, earlier}
+use Rattle.semigroups.specs.ListsLaws.{Earliest}
 use Rattle.semigroups.specs.Tables.{product, Element}
 use Rattle.semigroups.specs.Scratch.{scratchSize, marked}
-use Rattle.semigroups.specs.Questions.{Refusal, no}
+use Rattle.semigroups.specs.Questions.{Refusal}
+use Rattle.semigroups.specs.QuestionsLaws.{no}
 use Rattle.semigroups.specs.Calls.{refused, gives}
-use Rattle.semigroups.specs.Maps.{Embedding, embeddings, Ask, first, next, found, nothing}
+use Rattle.semigroups.specs.MapsLaws.{Embedding}
+use Rattle.semigroups.specs.Maps.{embeddings, Ask, first, next, found, nothing}
 use Rattle.semigroups.specs.Cases.{left}
 use Rattle.search.specs.Calls.{Lent, lend, called, call}
-use Rattle.search.specs.Wanted.{Passes, Wanted}
+use Rattle.search.specs.WantedLaws.{Passes, Wanted}
 use Rattle.search.specs.Among.{refusalAmong, callAmong}
 
 -- What a search needs, and at least the bytes of pairs that m × n bits take.

@@ -1,13 +1,16 @@
--- What the answers of a search mean (01, "The questions"; 02, (vi)): what is said, and for each refusal the number, the side and the values.
+-- What the answers of a search mean (RULES 7 and 9.4): what is said, and for each refusal the number, the side and the values.
 -- Assumes nothing.
 use mathlib.Core.Bool.{Bool, true, false}
 use mathlib.Core.List.{[]}
 use mathlib.Core.Option.{Option, none, some}
-use Rattle.semigroups.specs.Questions.{Refusal, no, naming}
-use Rattle.semigroups.specs.Calls.{Answer, refused, gives}
 use Rattle.semigroups.specs.Maps as maps
+use Rattle.semigroups.specs.Questions.{Refusal}
+use Rattle.semigroups.specs.QuestionsLaws.{no, naming}
+use Rattle.semigroups.specs.Calls.{Answer, refused, gives}
 use Rattle.semigroups.specs.Trials.{Limited, stopped, ended}
 use Rattle.tables.specs.Answers.{faultRefusal, sideNumber}
+use Rattle.search.specs.declared.Kind.{Kind}
+use Rattle.search.specs.declared.Kind.the-variants.{Embeddings, Isomorphisms, Reversed}
 use Rattle.search.specs.declared.SearchFault.{SearchFault}
 use Rattle.search.specs.declared.SearchFault.the-variants.{Table, MapLength, ScratchLength, PairsLength}
 use Rattle.search.specs.declared.Questions.{Questions}
@@ -16,6 +19,11 @@ use Rattle.search.specs.declared.SearchAnswer.{SearchAnswer}
 use Rattle.search.specs.declared.SearchAnswer.the-variants as answer
 use Rattle.search.specs.declared.LimitedAnswer.{LimitedAnswer}
 use Rattle.search.specs.declared.LimitedAnswer.the-variants as limited
+
+abbrev pub kindOf : Kind → maps.Kind
+kindOf Embeddings = maps.embeddings
+kindOf Isomorphisms = maps.isomorphisms
+kindOf Reversed = maps.reversed
 
 -- 1 to 4 name their side and carry the cell or the triple; 5, 6 and 70 name none and carry nothing.
 abbrev pub searchFaultRefusal : SearchFault → Refusal

@@ -1,22 +1,10 @@
--- The kinds of maps (01, "Maps"; 02, (ix)), and which orders they fit. Assumes nothing.
-use mathlib.Core.Bool.{Bool, true, false}
+-- The kinds of maps (RULES 5; RULES 10), and which orders they fit. Assumes nothing.
+use mathlib.Core.Bool.{Bool}
 use Prim.Native.Nat.{ℕ}
 use lib.Dec.{eqb, leb}
 use Rattle.semigroups.specs.Maps as maps
-use Rattle.search.specs.declared.Kind.{Kind}
-use Rattle.search.specs.declared.Kind.the-variants.{Embeddings, Isomorphisms, Reversed}
 
-abbrev pub kindOf : Kind → maps.Kind
-kindOf Embeddings = maps.embeddings
-kindOf Isomorphisms = maps.isomorphisms
-kindOf Reversed = maps.reversed
-
--- The kinds for which the target is searched as it stands: embeddings, or with true isomorphisms.
-abbrev pub straight : Bool → maps.Kind
-straight false = maps.embeddings
-straight true = maps.isomorphisms
-
--- Whether tables of orders m and n can have a map of the kind: m is at most n for embeddings, and equal for isomorphisms and reversed ones (01, "Maps").
+-- Whether tables of orders m and n can have a map of the kind: m is at most n for embeddings, and equal for isomorphisms and reversed ones (RULES 5).
 abbrev pub orderFits : maps.Kind → ℕ → ℕ → Bool
 orderFits maps.embeddings m n = leb m n
 orderFits maps.isomorphisms m n = eqb m n

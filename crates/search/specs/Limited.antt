@@ -1,4 +1,4 @@
--- A call of a search with a limit (02, (vi)), and the work that it takes. One definition for every kind.
+-- A call of a search with a limit (RULES 9.4), and the work that it takes. One definition for every kind.
 -- Assumes nothing.
 use mathlib.Core.Bool.{cond}
 use mathlib.Core.List.{List, []}
@@ -11,7 +11,7 @@ use Rattle.semigroups.specs.Trials.{Work, work, counted, Limited, limited, foun
 use Rattle.search.specs.Kinds.{orderFits}
 use Rattle.search.specs.Calls.{Lent, Called, refusalOf, leaving}
 
--- The target's product as a search of the kind tests it: for reversed maps each product's image in the reversed order (02, (ix)).
+-- The target's product as a search of the kind tests it: for reversed maps each product's image in the reversed order (RULES 10).
 abbrev pub readBy : Kind → Product → Product
 readBy embeddings t = t
 readBy isomorphisms t = t

@@ -11,9 +11,12 @@ use lib.Dec.{eqb}
 use lib.ListN.{length, getD, drop, length-map, length-append, length-drop, List·getD-append, List·getD-eq-default}
 use lib.Seq.{ext-getD}
 use Rattle.semigroups.specs.Lists.{range, elements, sum}
-use Rattle.semigroups.specs.Tables.{Product, Element, Closed, cellPlace, grid}
-use Rattle.semigroups.specs.Scratch.{packedByte, bit, scratchSize, pairMarks, marks, marked, AreMarks}
-use Rattle.semigroups.specs.Calls.{scratchAfter, ScratchExamples}
+use Rattle.semigroups.specs.Tables.{Product, Element, cellPlace, grid}
+use Rattle.semigroups.specs.TablesLaws.{Closed}
+use Rattle.semigroups.specs.Scratch.{packedByte, bit, scratchSize, pairMarks, marks, marked}
+use Rattle.semigroups.specs.ScratchLaws.{AreMarks}
+use Rattle.semigroups.specs.InnerCalls.{scratchAfter}
+use Rattle.semigroups.specs.CallsExamples.{ScratchExamples}
 use Rattle.semigroups.specs.Invariants.{index, period, indexPeriod, sameIndexPeriod}
 use Rattle.semigroups.specs.Maps.{embeddings, isomorphisms}
 use Rattle.semigroups.specs.Candidates.{candidate}

@@ -9,7 +9,8 @@ use Prim.Native.Nat.{ℕ, suc, _+_, _-_, _≤_, _<_}
 use native.Mathlib.Nat.{add-sub-cancel}
 use native.Mathlib.Numerals.{add-one}
 use native.Mathlib.Omega.{arith}
-use Rattle.semigroups.specs.Lists.{range, elements, all, find, firstOf, lists, Sorted}
+use Rattle.semigroups.specs.Lists.{range, elements, all, find, firstOf, lists}
+use Rattle.semigroups.specs.ListsLaws.{Sorted}
 use Rattle.semigroups.proofs.FlatMap.{find-flatMap}
 
 -- Every list of the given ones behind p.

@@ -3,13 +3,13 @@
 use mathlib.Core.Path.{_≡_, refl, sym, ap, _∙_, subst}
 use mathlib.Core.List.{List, [], _∷_, _++_, map, List·Memᴰ·head, List·Memᴰ·tail}
 use Prim.Native.Nat.{ℕ, zero, suc, _+_, _-_, _*_, _/_, _%_, _^_, _≤_, _<_}
-use native.Mathlib.Nat.{zero-mul, suc-mul, add-mul, mul-assoc, mul-le-mul-right, mul-add-div-right, div-eq-of-lt, mul-add-mod-self-right, mod-eq-of-lt}
-use native.Mathlib.Nat.{pow-zero, pow-succ'}
+use native.Mathlib.Nat.{zero-mul, suc-mul, add-mul, mul-assoc, mul-le-mul-right, mul-add-div-right, div-eq-of-lt, mul-add-mod-self-right, mod-eq-of-lt, pow-zero, pow-succ'}
 use native.Mathlib.Omega.{arith}
 use lib.ListN.{length, take, getD, length-map}
 use lib.Seq.{take-suc}
 use Rattle.semigroups.specs.Lists.{elements, at, lists}
-use Rattle.semigroups.specs.Tables.{Element, IsList}
+use Rattle.semigroups.specs.Tables.{Element}
+use Rattle.semigroups.specs.TablesLaws.{IsList}
 use Rattle.semigroups.proofs.Lists.{length-elements, at-elements}
 use Rattle.semigroups.proofs.FlatMap.{getD-flatMap}
 use Rattle.semigroups.proofs.ListOrder.{length-lists}

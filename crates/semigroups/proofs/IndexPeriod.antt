@@ -10,9 +10,11 @@ use native.Mathlib.Omega.{arith}
 use borrow.Author.Tests.{eq-eqb, eqb-true, leb-true, le-leb}
 use lib.Dec.{eqb, leb}
 use Rattle.semigroups.specs.Lists.{at}
-use Rattle.semigroups.specs.Tables.{Product, Element, Closed}
-use Rattle.semigroups.specs.Invariants.{power, periodFrom, index, period, IsIndexPeriod, indexPeriod, sameIndexPeriod}
-use Rattle.semigroups.specs.Maps.{Embedding}
+use Rattle.semigroups.specs.Tables.{Product, Element}
+use Rattle.semigroups.specs.TablesLaws.{Closed}
+use Rattle.semigroups.specs.Invariants.{power, periodFrom, index, period, indexPeriod, sameIndexPeriod}
+use Rattle.semigroups.specs.InvariantsLaws.{IsIndexPeriod}
+use Rattle.semigroups.specs.MapsLaws.{Embedding}
 use Rattle.semigroups.proofs.Booleans.{both, at-most-or-above}
 use Rattle.semigroups.proofs.Lists.{least-first, least-passes}
 use Rattle.semigroups.proofs.NoRepeats.{collide}

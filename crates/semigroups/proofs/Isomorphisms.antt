@@ -7,10 +7,13 @@ use Prim.Native.Nat.{ℕ, _≤_, _<_}
 use native.Mathlib.Nat.{le-antisymm}
 use native.Mathlib.Omega.{arith}
 use lib.ListN.{length, getD, length-map}
-use Rattle.semigroups.specs.Lists.{at, NoRepeats}
-use Rattle.semigroups.specs.Tables.{Product, IsList, Closed}
-use Rattle.semigroups.specs.Maps.{Embedding, embeddings, isomorphisms, maps, identity, after, inverse}
-use Rattle.semigroups.specs.Isomorphisms.{IsGroup, EachOnce}
+use Rattle.semigroups.specs.Lists.{at}
+use Rattle.semigroups.specs.ListsLaws.{NoRepeats}
+use Rattle.semigroups.specs.Tables.{Product}
+use Rattle.semigroups.specs.TablesLaws.{IsList, Closed}
+use Rattle.semigroups.specs.MapsLaws.{Embedding, identity, inverse}
+use Rattle.semigroups.specs.Maps.{embeddings, isomorphisms, maps, after}
+use Rattle.semigroups.specs.IsomorphismsLaws.{IsGroup, EachOnce}
 use Rattle.semigroups.proofs.Lists.{ext-at}
 use Rattle.semigroups.proofs.Tables.{list-at}
 use Rattle.semigroups.proofs.NoRepeats.{length-inside, mem-place, place-mem, place-unique, places-no-repeats, map-no-repeats}

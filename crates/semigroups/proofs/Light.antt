@@ -10,12 +10,18 @@ use native.Mathlib.Omega.{arith}
 use borrow.Author.Tests.{eqb-true, eqb-false, eq-eqb, not-true, not-false}
 use lib.Dec.{eqb}
 use lib.ListN.{length}
-use Rattle.semigroups.specs.Lists.{range, elements, at, all, find, firstOf, keep, member, earlier, lists, Earliest}
-use Rattle.semigroups.specs.Tables.{Product, product, Element, Closed, Filled, Accepted, isElement, associates, badCell}
-use Rattle.semigroups.specs.Questions.{Question, ask, seek, Refusal, no, firstNo, cellsQuestions, cellsRefusal, tableRefusal, Refused, wrong-order, wrong-size, wrong-cell}
-use Rattle.semigroups.specs.Questions as full
-use Rattle.semigroups.specs.Generated.{Inside, setOf, products, grown, generated}
-use Rattle.semigroups.specs.Light.{Generates, AssociativeThrough, FailingThrough, badTripleThrough, generatorsRefusal, GeneratorsRefused, wrong-cells, wrong-entry, not-generated, wrong-triple, GeneratorsPass, LightsLaw, LightsTheorem, LightsExamples}
+use Rattle.semigroups.specs.Lists.{range, elements, at, all, find, firstOf, keep, member, earlier, lists}
+use Rattle.semigroups.specs.ListsLaws.{Earliest}
+use Rattle.semigroups.specs.Tables.{Product, product, Element, Filled, Accepted, isElement, associates, badCell}
+use Rattle.semigroups.specs.TablesLaws.{Closed}
+use Rattle.semigroups.specs.Questions.{Question, ask, seek, Refusal, firstNo, cellsQuestions, tableRefusal}
+use Rattle.semigroups.specs.QuestionsLaws.{no, cellsRefusal, Refused, wrong-order, wrong-size, wrong-cell}
+use Rattle.semigroups.specs.QuestionsLaws as full
+use Rattle.semigroups.specs.GeneratedLaws.{Inside}
+use Rattle.semigroups.specs.Generated.{setOf, products, grown, generated}
+use Rattle.semigroups.specs.LightLaws.{Generates, AssociativeThrough, FailingThrough, GeneratorsRefused, wrong-cells, wrong-entry, not-generated, wrong-triple, GeneratorsPass, LightsLaw, LightsTheorem}
+use Rattle.semigroups.specs.Light.{badTripleThrough, generatorsRefusal}
+use Rattle.semigroups.specs.LightExamples.{LightsExamples}
 use Rattle.semigroups.proofs.Booleans.{clash, untrue, both, and-left, and-right, not-of-false, impossible}
 use Rattle.semigroups.proofs.Lists.{none-find, member-mem, mem-member, all-at, all-of, is-element, element-is}
 use Rattle.semigroups.proofs.ListOrder.{mem-lists, find-earliest, find-nowhere, earliest-unique}

@@ -11,8 +11,10 @@ use native.Mathlib.Omega.{arith}
 use borrow.Author.Tests.{eqb-true, eq-eqb, ne-eqb, ltb-true, lt-ltb, le-ltb}
 use lib.Dec.{eqb, ltb}
 use lib.ListN.{length, getD, length-map}
-use Rattle.semigroups.specs.Lists.{range, elements, find, earlier, lists, Increasing, Earlier, Earliest, NoRepeats}
-use Rattle.semigroups.specs.Tables.{Element, IsList}
+use Rattle.semigroups.specs.Lists.{range, elements, find, earlier, lists}
+use Rattle.semigroups.specs.ListsLaws.{Increasing, Earlier, Earliest, NoRepeats}
+use Rattle.semigroups.specs.Tables.{Element}
+use Rattle.semigroups.specs.TablesLaws.{IsList}
 use Rattle.semigroups.proofs.Booleans.{clash, untrue, trichotomy}
 use Rattle.semigroups.proofs.Lists.{mem-elements, elements-mem, length-range, find-some, find-none, find-first, sorted-map, sorted-weaken, sorted-range}
 use Rattle.semigroups.proofs.FlatMap.{mem-flatMap, flatMap-mem, sorted-flatMap, length-flatMap}
@@ -68,7 +70,7 @@ place-earlier (x ∷ a) (y ∷ b) (suc p) h g s l =
     ap (λ (v : ℕ). earlier (v ∷ a) (y ∷ b)) (s 0 (omega arith)) ∙ earlier-tail y a b
     ∙ place-earlier a b p (omega arith) (omega arith) (λ k u. s (suc k) (omega arith)) l
 
--- The test says what 01 words.
+-- The test says what RULES 6.1 words.
 pub earlier-exactly : (a b : List ℕ) → (earlier a b ≡ true) ↔ Earlier a b
 earlier-exactly a b = (earlier-place a b, λ w. place-earlier a b (w .place) (w .in-first) (w .in-second) (w .same-before) (w .smaller))
 

@@ -10,10 +10,12 @@ use native.Mathlib.Omega.{arith}
 use borrow.Author.Tests.{eqb-true, eqb-false, eq-eqb, ltb-true, lt-ltb, not-true, not-false}
 use lib.Dec.{eqb, ltb}
 use lib.ListN.{length}
-use Rattle.semigroups.specs.Lists.{range, elements, at, Earliest}
+use Rattle.semigroups.specs.Lists.{range, elements, at}
+use Rattle.semigroups.specs.ListsLaws.{Earliest}
 use Rattle.semigroups.specs.Tables.{Product, Element, isElement}
-use Rattle.semigroups.specs.Maps.{Embedding}
-use Rattle.semigroups.specs.MapCheck.{Checked, holds, outside, equalImages, wrongProduct, unless, firstOutside, firstEqual, firstWrong, checkMap, EqualPair, WrongPair, IsChecked, an-embedding, an-outsider, an-equal-pair, a-wrong-pair}
+use Rattle.semigroups.specs.MapsLaws.{Embedding}
+use Rattle.semigroups.specs.MapCheck.{Checked, holds, outside, equalImages, wrongProduct, unless, firstOutside, firstEqual, firstWrong, checkMap}
+use Rattle.semigroups.specs.MapCheckLaws.{EqualPair, WrongPair, IsChecked, an-embedding, an-outsider, an-equal-pair, a-wrong-pair}
 use Rattle.semigroups.proofs.Booleans.{clash, untrue, both, and-left, and-right, not-of-false, trichotomy}
 use Rattle.semigroups.proofs.Lists.{mem-elements, elements-mem, is-element, element-is, find-some, find-none, find-first, sorted-range}
 use Rattle.semigroups.proofs.ListOrder.{earliest-unique, find-earliest, find-nowhere}

@@ -11,9 +11,12 @@ use native.Mathlib.Omega.{arith}
 use borrow.Author.Tests.{eqb-true, eq-eqb}
 use lib.Dec.{eqb}
 use lib.ListN.{length}
-use Rattle.semigroups.specs.Lists.{elements, at, all, distinct, earlier, lists, Increasing, Earliest}
-use Rattle.semigroups.specs.Tables.{Product, Element, IsList, isElement, turned}
-use Rattle.semigroups.specs.Maps.{Homomorphism, Embedding, Isomorphism, isHomomorphism, isEmbedding, isIsomorphism, Kind, embeddings, isomorphisms, IsMap, isMap, maps, Ask, first, next, beyond, earliest, ReversedIsomorphism, reversed}
+use Rattle.semigroups.specs.Lists.{elements, at, all, distinct, earlier, lists}
+use Rattle.semigroups.specs.ListsLaws.{Increasing, Earliest}
+use Rattle.semigroups.specs.Tables.{Product, Element, isElement, turned}
+use Rattle.semigroups.specs.TablesLaws.{IsList}
+use Rattle.semigroups.specs.MapsLaws.{Homomorphism, Embedding, Isomorphism, IsMap, ReversedIsomorphism}
+use Rattle.semigroups.specs.Maps.{isHomomorphism, isEmbedding, isIsomorphism, Kind, embeddings, isomorphisms, isMap, maps, Ask, first, next, beyond, earliest, reversed}
 use Rattle.semigroups.proofs.Booleans.{clash, same-truth, both, and-left, and-right}
 use Rattle.semigroups.proofs.Lists.{all-at, all-of, pairs-at, pairs-of, is-element, element-is, find-some, find-none, find-first, keep-same, mem-keep, keep-mem, sorted-keep}
 use Rattle.semigroups.proofs.NoRepeats.{distinct-places, distinct-of, one-to-one, one-to-one-no-repeats, within-mem, no-more, no-fewer, onto, place-mem}

@@ -9,9 +9,10 @@ use borrow.Author.Tests.{eqb-true, eq-eqb, leb-true, le-leb}
 use lib.Dec.{eqb, leb}
 use Rattle.semigroups.specs.Tables.{Element, Filled, Accepted, isElement}
 use Rattle.semigroups.specs.Scratch.{scratchSize}
-use Rattle.semigroups.specs.Questions.{Question, ask, onSide, naming, firstNo, cellsRefusal, tableQuestions, tableRefusal, elementRefusal, tablesQuestions, tablesRefusal, checkQuestions, checkRefusal, searchRefusal}
+use Rattle.semigroups.specs.Questions.{Question, ask, onSide, firstNo, tableQuestions, tableRefusal, elementRefusal, tablesQuestions, checkQuestions, checkRefusal, searchRefusal}
+use Rattle.semigroups.specs.QuestionsLaws.{naming, cellsRefusal, tablesRefusal}
 use Rattle.semigroups.specs.Transformations.{transformationOrder, transformationRefusal}
-use Rattle.semigroups.specs.Passing.{ElementPasses, CheckPasses, SearchPasses, TransformationsPass}
+use Rattle.semigroups.specs.PassingLaws.{ElementPasses, CheckPasses, SearchPasses, TransformationsPass}
 use Rattle.semigroups.proofs.Lists.{is-element, element-is}
 use Rattle.semigroups.proofs.Questions.{ask-passed, all-passed, first-sided, passed-before, both-passed}
 use Rattle.semigroups.proofs.Tables.{filled, no-cells-refusal, accepted, no-refusal}

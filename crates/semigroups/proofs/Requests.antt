@@ -1,4 +1,4 @@
--- The requests of 02 about tables and maps hold: each field is a law of its subject, with instances beside it there. Assumes nothing.
+-- The rules about tables and maps that were requested after the base hold: each field is a law of its subject, with instances beside it there. Assumes nothing.
 use mathlib.Core.Path.{_≡_}
 use mathlib.Core.Bool.{true, _&&_}
 use borrow.Author.Tests.{eqb-true}

@@ -6,13 +6,16 @@ use mathlib.Core.List.{List, [], flatMap}
 use Prim.Native.Nat.{ℕ}
 use lib.ListN.{length}
 use Rattle.semigroups.specs.Lists.{range, elements, at, all, keep, sum, count, member, distinct, earlier, lists}
-use Rattle.semigroups.specs.Tables.{Product, product, grid, turned, turnedCells, Element, Closed, Associative, isElement}
+use Rattle.semigroups.specs.Tables.{Product, product, grid, turned, Element, Associative, isElement}
+use Rattle.semigroups.specs.TablesLaws.{turnedCells, Closed}
 use Rattle.semigroups.specs.Invariants.{profile, sameProfile}
-use Rattle.semigroups.specs.Maps.{Embedding, Isomorphism, ReversedIsomorphism, isHomomorphism, isEmbedding, isIsomorphism, isomorphisms, reversed, maps, after}
+use Rattle.semigroups.specs.MapsLaws.{Embedding, Isomorphism, ReversedIsomorphism}
+use Rattle.semigroups.specs.Maps.{isHomomorphism, isEmbedding, isIsomorphism, isomorphisms, reversed, maps, after}
 use Rattle.semigroups.specs.Candidates.{candidate}
 use Rattle.semigroups.specs.Transformations.{transformations, transformationOrder, transformation, numberOf, transformationProduct, transformationCells}
 use Rattle.semigroups.specs.Cases.{two}
-use Rattle.semigroups.specs.Reversed.{ReversedTheorem, ReversedExamples}
+use Rattle.semigroups.specs.ReversedLaws.{ReversedTheorem}
+use Rattle.semigroups.specs.ReversedExamples.{ReversedExamples}
 use Rattle.semigroups.proofs.Booleans.{same-truth, equal-or-not}
 use Rattle.semigroups.proofs.Lists.{keep-same}
 use Rattle.semigroups.proofs.Tables.{accepted-closed}
@@ -104,7 +107,7 @@ module _ (k : ℕ) (r : Product) (m : ℕ) (s : Product) (n : ℕ) (t : Product)
         embedding = after-embeds k r m s n (turned t) closed g f (reversed-isomorphism m s n t g G .embedding) (F .embedding);
       })
 
--- ---- what 02 says
+-- ---- what RULES 10 says
 
 pub reversed-theorem : ReversedTheorem
 reversed-theorem =

@@ -1,4 +1,4 @@
--- The rules of 01 hold for any tables and any degree: each field is a law of its subject. Shown here are that the profile counts what it says, and that no
+-- The rules hold for any tables and any degree: each field is a law of its subject. Shown here are that the profile counts what it says, and that no
 -- kind of candidates loses a map. Assumes nothing.
 use mathlib.Core.Path.{_≡_, refl, sym, ap, _∙_, subst}
 use mathlib.Core.Bool.{Bool, true}
@@ -10,13 +10,18 @@ use borrow.Author.Tests.{eq-eqb, eqb-true}
 use lib.Dec.{eqb}
 use lib.ListN.{length, getD, length-map}
 use lib.Seq.{ext-getD}
-use Rattle.semigroups.specs.Lists.{range, elements, at, all, find, keep, sum, count, least, NoRepeats, lists, IsCount}
-use Rattle.semigroups.specs.Tables.{Product, product, turned, Element, Closed, Accepted, isElement}
-use Rattle.semigroups.specs.Invariants.{power, periodFrom, index, period, idempotentPower, indexPeriod, frequency, diagonalFrequency, rowFrequency, columnFrequency, commuting, IndexPeriod, Profile, profile, sameProfile, sameIndexPeriod, IsIndexPeriod, IsIdempotentPower, IsProfile, CommutingExamples}
-use Rattle.semigroups.specs.Maps.{Embedding, Isomorphism, Kind, embeddings, isomorphisms, reversed, IsMap}
-use Rattle.semigroups.specs.MapCheck.{Checked, holds, wrongProduct, firstOutside, firstEqual, firstWrong, checkMap, IsChecked}
+use Rattle.semigroups.specs.Lists.{range, elements, at, all, find, keep, sum, count, least, lists}
+use Rattle.semigroups.specs.ListsLaws.{NoRepeats, IsCount}
+use Rattle.semigroups.specs.Tables.{Product, product, turned, Element, Accepted, isElement}
+use Rattle.semigroups.specs.TablesLaws.{Closed}
+use Rattle.semigroups.specs.Invariants.{power, periodFrom, index, period, idempotentPower, indexPeriod, frequency, diagonalFrequency, rowFrequency, columnFrequency, commuting, IndexPeriod, Profile, profile, sameProfile, sameIndexPeriod}
+use Rattle.semigroups.specs.InvariantsLaws.{IsIndexPeriod, IsIdempotentPower, IsProfile}
+use Rattle.semigroups.specs.InvariantsExamples.{CommutingExamples}
+use Rattle.semigroups.specs.MapsLaws.{Embedding, Isomorphism, IsMap, Among}
+use Rattle.semigroups.specs.Maps.{Kind, embeddings, isomorphisms, reversed}
+use Rattle.semigroups.specs.MapCheck.{Checked, holds, wrongProduct, firstOutside, firstEqual, firstWrong, checkMap}
+use Rattle.semigroups.specs.MapCheckLaws.{IsChecked}
 use Rattle.semigroups.specs.Candidates.{candidate}
-use Rattle.semigroups.specs.Search.{Among}
 use Rattle.semigroups.specs.Transformations.{transformations, transformationOrder}
 use Rattle.semigroups.specs.Rules.{MarkRules, MapRules, TransformationRules, TableRules}
 use Rattle.semigroups.specs.Cases.{mat5}

@@ -12,9 +12,12 @@ use borrow.Author.Tests.{eqb-true, eq-eqb, leb-true, leb-false, le-leb, not-true
 use lib.Dec.{eqb, leb}
 use lib.ListN.{length, length-append}
 use Rattle.semigroups.specs.Lists.{range, elements, at, all, member, earlier, lists}
-use Rattle.semigroups.specs.Tables.{Product, Element, Closed}
-use Rattle.semigroups.specs.Maps.{Embedding, isEmbedding, embeddings, maps, Ask, first, next, beyond, earliest}
-use Rattle.semigroups.specs.Search.{notBefore, fits, passes, admits, search, wanted, earliestBehind, Among, Placed}
+use Rattle.semigroups.specs.Tables.{Product, Element}
+use Rattle.semigroups.specs.TablesLaws.{Closed}
+use Rattle.semigroups.specs.MapsLaws.{Embedding, Among}
+use Rattle.semigroups.specs.Maps.{isEmbedding, embeddings, maps, Ask, first, next, beyond, earliest}
+use Rattle.semigroups.specs.Trials.{notBefore, fits, passes}
+use Rattle.semigroups.specs.InnerSearch.{admits, search, isWanted, earliestBehind, Placed}
 use Rattle.semigroups.proofs.Booleans.{clash, untrue, both, and-left, and-right, not-of-false}
 use Rattle.semigroups.proofs.Lists.{mem-elements, at-suc, at-front, at-seam, length-snoc, each-at, each-of, pairs-at, pairs-of, find-some, none-find, find-same, find-keep, sorted-append, not-member, unmember}
 use Rattle.semigroups.proofs.NoRepeats.{one-to-one, mem-place, place-mem}
@@ -97,14 +100,14 @@ late (next b) p q e =
 
 module _ (m : ℕ) (s : Product) (n : ℕ) (t : Product) (candidate : ℕ → ℕ → Bool) (ask : Ask) where
   abbrev asked : List ℕ → Bool
-  asked = wanted m s n t candidate ask
+  asked = isWanted m s n t candidate ask
 
   pub as-behind : (d : ℕ) (p : List ℕ) → earliestBehind m s n t candidate ask d p ≡ findBehind asked n d p
   unfolding earliestBehind findBehind behind
   as-behind d p = refl
 
   wanted-parts : (f : List ℕ) → asked f ≡ true → Embedding m s n t f × Among m candidate f × (beyond ask f ≡ true)
-  unfolding wanted
+  unfolding isWanted
   wanted-parts f w =
       let a = isEmbedding m s n t f in
       let b = all (λ i. candidate i (at f i)) (elements m) in
@@ -124,7 +127,7 @@ module _ (m : ℕ) (s : Product) (n : ℕ) (t : Product) (candidate : ℕ → �
 
   -- A whole list with its images among the candidates.
   pub whole-behind : (p : List ℕ) → Among m candidate p → findBehind asked n 0 p ≡ cond (isEmbedding m s n t p && beyond ask p) (some p) none
-  unfolding wanted
+  unfolding isWanted
   whole-behind p among =
       find-whole asked n p
       ∙ ap {B = Option (List ℕ)} (λ (b : Bool). cond (isEmbedding m s n t p && (b && beyond ask p)) (some p) none) (each-of m (λ i. candidate i (at p i)) among)
@@ -211,8 +214,8 @@ module _ (m : ℕ) (s : Product) (n : ℕ) (t : Product) (closed : Closed m s) w
   Sound candidate = (f : List ℕ) → Embedding m s n t f → Among m candidate f
 
   module _ (candidate : ℕ → ℕ → Bool) (sound : Sound candidate) (ask : Ask) where
-    all-among : (f : List ℕ) → wanted m s n t candidate ask f ≡ (isEmbedding m s n t f && beyond ask f)
-    unfolding wanted
+    all-among : (f : List ℕ) → isWanted m s n t candidate ask f ≡ (isEmbedding m s n t f && beyond ask f)
+    unfolding isWanted
     all-among f = go (isEmbedding m s n t f) refl
       where
         go : (b : Bool) → isEmbedding m s n t f ≡ b → (b && (all (λ i. candidate i (at f i)) (elements m) && beyond ask f)) ≡ (b && beyond ask f)
@@ -223,6 +226,6 @@ module _ (m : ℕ) (s : Product) (n : ℕ) (t : Product) (closed : Closed m s) w
     pub search-earliest : search s t candidate ask n m [] ≡ earliest ask (maps embeddings m s n t)
     unfolding earliest maps
     search-earliest =
-        search-behind m s n t candidate ask closed ∙ sym (find-all (wanted m s n t candidate ask) n m)
-        ∙ find-same (wanted m s n t candidate ask) (λ f. isEmbedding m s n t f && beyond ask f) (lists m n) (λ f k. all-among f)
+        search-behind m s n t candidate ask closed ∙ sym (find-all (isWanted m s n t candidate ask) n m)
+        ∙ find-same (isWanted m s n t candidate ask) (λ f. isEmbedding m s n t f && beyond ask f) (lists m n) (λ f k. all-among f)
         ∙ sym (find-keep (isEmbedding m s n t) (beyond ask) (lists m n))

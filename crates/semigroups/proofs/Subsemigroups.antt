@@ -9,12 +9,18 @@ use native.Mathlib.Omega.{arith}
 use borrow.Author.Tests.{eqb-true, eq-eqb, leb-true, le-leb, lt-leb}
 use lib.Dec.{eqb, leb}
 use lib.ListN.{length}
-use Rattle.semigroups.specs.Lists.{range, elements, at, all, find, firstOf, keep, least, member, lists, NoRepeats}
-use Rattle.semigroups.specs.Tables.{Product, product, grid, Element, Closed, Associative, Accepted, isElement, associates, badCell, badTriple}
-use Rattle.semigroups.specs.Questions.{Question, ask, Refusal, no, firstNo, tableQuestions, tableRefusal}
-use Rattle.semigroups.specs.Maps.{Embedding}
-use Rattle.semigroups.specs.Generated.{Inside, setOf, products, grown, generated}
-use Rattle.semigroups.specs.Subsemigroups.{numberIn, renumbered, partCells, subsemigroupRefusal, SubsemigroupPasses, Subsemigroup, SubsemigroupTheorem, SubsemigroupExamples}
+use Rattle.semigroups.specs.Lists.{range, elements, at, all, find, firstOf, keep, least, member, lists}
+use Rattle.semigroups.specs.ListsLaws.{NoRepeats}
+use Rattle.semigroups.specs.Tables.{Product, product, grid, Element, Associative, Accepted, isElement, associates, badCell, badTriple}
+use Rattle.semigroups.specs.TablesLaws.{Closed}
+use Rattle.semigroups.specs.Questions.{Question, ask, Refusal, firstNo, tableQuestions, tableRefusal}
+use Rattle.semigroups.specs.QuestionsLaws.{no}
+use Rattle.semigroups.specs.MapsLaws.{Embedding}
+use Rattle.semigroups.specs.GeneratedLaws.{Inside}
+use Rattle.semigroups.specs.Generated.{setOf, products, grown, generated}
+use Rattle.semigroups.specs.Subsemigroups.{numberIn, renumbered, partCells, subsemigroupRefusal}
+use Rattle.semigroups.specs.SubsemigroupsLaws.{SubsemigroupPasses, Subsemigroup, SubsemigroupTheorem}
+use Rattle.semigroups.specs.SubsemigroupsExamples.{SubsemigroupExamples}
 use Rattle.semigroups.specs.Cases.{mat5}
 use Rattle.semigroups.proofs.Booleans.{untrue, both, and-left, and-right}
 use Rattle.semigroups.proofs.Lists.{length-elements, elements-mem, at-suc, least-first, all-at, all-of, is-element, element-is}

@@ -7,8 +7,10 @@ use Prim.Native.Nat.{ℕ, zero, suc, _+_, _-_, _*_, _^_, _≤_, _<_}
 use native.Mathlib.Nat.{pow-le-pow-left, pow-le-pow-right, one-le-pow}
 use native.Mathlib.Omega.{arith}
 use lib.ListN.{length, getD}
-use Rattle.semigroups.specs.Lists.{elements, at, sum, count, earlier, lists, Increasing}
-use Rattle.semigroups.specs.Tables.{product, grid, Element, IsList, Closed, Associative, Accepted}
+use Rattle.semigroups.specs.Lists.{elements, at, sum, count, earlier, lists}
+use Rattle.semigroups.specs.ListsLaws.{Increasing}
+use Rattle.semigroups.specs.Tables.{product, grid, Element, Associative, Accepted}
+use Rattle.semigroups.specs.TablesLaws.{IsList, Closed}
 use Rattle.semigroups.specs.Maps.{after}
 use Rattle.semigroups.specs.Transformations.{transformations, transformationOrder, transformation, numberOf, transformationProduct, transformationCells}
 use Rattle.semigroups.proofs.Lists.{mem-elements}

@@ -17,10 +17,11 @@ use Rattle.semigroups.specs.Tables.{Product, Element, product, grid}
 use Rattle.semigroups.specs.Invariants.{power, periodFrom, index, period, idempotentPower, indexPeriod, sameIndexPeriod}
 use Rattle.semigroups.specs.Maps.{Ask, after, sought}
 use Rattle.semigroups.specs.Candidates.{candidate}
-use Rattle.semigroups.specs.Search.{notBefore, fits, passes, admits, search}
+use Rattle.semigroups.specs.Trials.{notBefore, fits, passes, Work, work, followed, andThen, inTurn, tried, workAt, counted, stopped, ended, limited, foundWithin}
+use Rattle.semigroups.specs.InnerSearch.{admits, search}
 use Rattle.semigroups.specs.Transformations.{transformations, transformationOrder, transformation, numberOf, transformationProduct, transformationCells}
 use Rattle.semigroups.specs.Cases.{two}
-use Rattle.semigroups.specs.Trials.{Work, work, followed, andThen, inTurn, tried, workAt, counted, stopped, ended, limited, foundWithin, OutsideExample, TrialsExamples}
+use Rattle.semigroups.specs.TrialsExamples.{OutsideExample, TrialsExamples}
 use Rattle.semigroups.proofs.Booleans.{same-truth}
 use Rattle.semigroups.proofs.Lists.{mem-elements, length-snoc, pairs-at, pairs-of}
 use Rattle.semigroups.proofs.NoRepeats.{place-mem}

@@ -10,9 +10,11 @@ use lib.Dec.{eqb}
 use lib.ListN.{length, take, drop}
 use lib.Seq.{take-at}
 use Rattle.semigroups.specs.Lists.{elements, count}
-use Rattle.semigroups.specs.Tables.{Product, product, turned, turnedCells, Element, Closed, Associative, Accepted}
+use Rattle.semigroups.specs.Tables.{Product, product, turned, Element, Associative, Accepted}
+use Rattle.semigroups.specs.TablesLaws.{turnedCells, Closed}
 use Rattle.semigroups.specs.Calls.{overwritten}
-use Rattle.semigroups.specs.Invariants.{power, index, period, IsIndexPeriod, idempotentPower, indexPeriod, frequency, diagonalFrequency, rowFrequency, columnFrequency, commuting, profile, exchanged}
+use Rattle.semigroups.specs.Invariants.{power, index, period, idempotentPower, indexPeriod, frequency, diagonalFrequency, rowFrequency, columnFrequency, commuting, profile, exchanged}
+use Rattle.semigroups.specs.InvariantsLaws.{IsIndexPeriod}
 use Rattle.semigroups.proofs.Booleans.{same-truth}
 use Rattle.semigroups.proofs.Lists.{mem-elements}
 use Rattle.semigroups.proofs.Sums.{sum-same, count-same, sum-swap}

@@ -10,12 +10,14 @@ use native.Mathlib.Omega.{arith}
 use borrow.Author.Tests.{leb-true, leb-false}
 use lib.Dec.{leb}
 use lib.ListN.{length, getD, replicate, length-replicate}
-use Rattle.semigroups.specs.Lists.{find, earlier, Increasing}
-use Rattle.semigroups.specs.Tables.{Product, Element, IsList}
+use Rattle.semigroups.specs.Lists.{find, earlier}
+use Rattle.semigroups.specs.ListsLaws.{Increasing}
+use Rattle.semigroups.specs.Tables.{Product, Element}
+use Rattle.semigroups.specs.TablesLaws.{IsList}
 use Rattle.semigroups.specs.Maps.{Kind, maps, next, earliest, found, nothing, sought}
 use Rattle.semigroups.specs.Questions.{Refusal}
 use Rattle.semigroups.specs.Calls.{gives, mapUnless}
-use Rattle.semigroups.specs.Walks.{Outcome, held, nextOutcome, counted, claimed, walk, claim, answered, finally}
+use Rattle.semigroups.specs.WalksLaws.{Outcome, held, nextOutcome, counted, claimed, walk, claim, answered, finally}
 use Rattle.semigroups.proofs.Booleans.{trichotomy}
 use Rattle.semigroups.proofs.Lists.{none-find}
 use Rattle.semigroups.proofs.NoRepeats.{mem-place, place-mem, sorted-places}

@@ -1,4 +1,4 @@
--- The worked table of 01: thirteen cases, each a query and its result. The results come from the definitions that contracts cite.
+-- The worked cases (RULES 23.2): thirteen, each a query and its result. The results come from the definitions that contracts cite.
 -- Assumes nothing.
 use mathlib.Core.Path.{_≡_}
 use mathlib.Core.List.{List, [], _∷_, map, List·Memᴰ}
@@ -7,7 +7,8 @@ use Prim.Native.Nat.{ℕ}
 use lib.ListN.{length, replicate}
 use Rattle.semigroups.specs.Lists.{elements}
 use Rattle.semigroups.specs.Tables.{product, Accepted}
-use Rattle.semigroups.specs.Questions.{Refusal, no, tableRefusal}
+use Rattle.semigroups.specs.Questions.{Refusal, tableRefusal}
+use Rattle.semigroups.specs.QuestionsLaws.{no}
 use Rattle.semigroups.specs.Invariants.{IndexPeriod, Profile, indexPeriod, profile}
 use Rattle.semigroups.specs.Maps.{Kind, embeddings, isomorphisms, maps, Ask, first, next, earliest}
 use Rattle.semigroups.specs.Transformations.{transformationOrder, transformationCells}
@@ -96,7 +97,7 @@ pub record Worked : Type 0 where
   pub results : (c : Case) → List·Memᴰ c cases → result (c .asks) ≡ c .says
   -- Each table that is named is accepted.
   pub accepted : (t : Table) → List·Memᴰ t tables → Accepted (t .order) (t .cells)
-  -- The degree 2 table has the cells that 01 prints.
+  -- The degree 2 table has the cells that RULES 23.1 prints.
   pub two-printed : two ≡ record { order = 4; cells = 1 ∷ 1 ∷ 4 ∷ 4 ∷ 1 ∷ 2 ∷ 3 ∷ 4 ∷ 1 ∷ 3 ∷ 2 ∷ 4 ∷ 1 ∷ 4 ∷ 1 ∷ 4 ∷ [] }
-  -- The tables of transformations (01): orders 1, 4, 27; cells 1, 16, 729.
+  -- The tables of transformations (RULES 14.3): orders 1, 4, 27; cells 1, 16, 729.
   pub degrees-printed : map (λ d. transformationOrder d ∷ length (transformationCells d) ∷ []) (elements 3) ≡ (1 ∷ 1 ∷ []) ∷ (4 ∷ 16 ∷ []) ∷ (27 ∷ 729 ∷ []) ∷ []

@@ -1,13 +1,10 @@
--- Invariants of an element (arXiv 1603.06204, sections 3 and 4), which 01 calls its marks: powers, index and period, idempotent power, profile.
+-- Invariants of an element (arXiv 1603.06204, sections 3 and 4; RULES 4): powers, index and period, idempotent power, profile.
 -- Assumes nothing.
-use mathlib.Core.Path.{_≡_}
-use mathlib.Core.Bool.{Bool, false, _&&_}
-use mathlib.Core.List.{List, [], _∷_}
-use Prim.Native.Nat.{ℕ, zero, suc, _+_, _≤_, _<_}
+use mathlib.Core.Bool.{Bool, _&&_}
+use Prim.Native.Nat.{ℕ, zero, suc, _+_}
 use lib.Dec.{eqb, leb}
-use lib.ListN.{length, getD}
-use Rattle.semigroups.specs.Lists.{elements, sum, count, least, IsCount}
-use Rattle.semigroups.specs.Tables.{Product, product, Element}
+use Rattle.semigroups.specs.Lists.{elements, sum, count, least}
+use Rattle.semigroups.specs.Tables.{Product}
 
 -- Power k of a: the first power is a, each further one is the last one times a. Power 0, which nothing asks for, is a too.
 unfoldable pub power : Product → ℕ → ℕ → ℕ
@@ -29,31 +26,11 @@ index n s a = least n (λ p. leb (periodFrom n s a p) n)
 unfoldable pub period : ℕ → Product → ℕ → ℕ
 period n s a = periodFrom n s a (index n s a)
 
--- Definition 3.2: p and r are the smallest values from 1 on such that power p + r equals power p.
-pub record IsIndexPeriod (s : Product) (a p r : ℕ) : Type 0 where
-  pub index-from-one : 1 ≤ p
-  pub period-from-one : 1 ≤ r
-  pub repeats : power s a (p + r) ≡ power s a p
-  pub least-index : (p′ r′ : ℕ) → 1 ≤ p′ → 1 ≤ r′ → power s a (p′ + r′) ≡ power s a p′ → p ≤ p′
-  pub least-period : (p′ r′ : ℕ) → 1 ≤ p′ → 1 ≤ r′ → power s a (p′ + r′) ≡ power s a p′ → r ≤ r′
-
 -- ---- the idempotent power
 
--- The first of the powers 1 to n of a that is its own square: the cue that a repeat settles on (02, i).
+-- The first of the powers 1 to n of a that is its own square: the cue that a repeat settles on (RULES 4.3).
 unfoldable pub idempotentPower : ℕ → Product → ℕ → ℕ
 idempotentPower n s a = power s a (least n (λ k. eqb (s (power s a k) (power s a k)) (power s a k)))
-
--- e is a power of a, and e·e = e.
-pub record IsIdempotentPower (s : Product) (a e : ℕ) : Type 0 where
-  pub exponent : ℕ
-  pub from-one : 1 ≤ exponent
-  pub is-power : power s a exponent ≡ e
-  pub idempotent : s e e ≡ e
-
--- e is the one such power: among all powers, whatever their exponents, there is no other.
-pub record TheIdempotentPower (s : Product) (a e : ℕ) : Type 0 where
-  pub is-one : IsIdempotentPower s a e
-  pub only : (d : ℕ) → IsIdempotentPower s a d → d ≡ e
 
 -- ---- the index-period
 
@@ -87,7 +64,7 @@ rowFrequency n s a = count (λ j. eqb (s a j) a) (elements n)
 unfoldable pub columnFrequency : ℕ → Product → ℕ → ℕ
 columnFrequency n s a = count (λ i. eqb (s i a) a) (elements n)
 
--- How many elements b have a·b = b·a (02, x).
+-- How many elements b have a·b = b·a (RULES 4.5).
 unfoldable pub commuting : ℕ → Product → ℕ → ℕ
 commuting n s a = count (λ b. eqb (s a b) (s b a)) (elements n)
 
@@ -112,7 +89,7 @@ profile n s a =
       commuting = commuting n s a;
     }
 
--- The profile with row and column counts exchanged (02, ix).
+-- The profile with row and column counts exchanged (RULES 10.3).
 abbrev pub exchanged : Profile → Profile
 exchanged v = record { powers = v .powers; frequency = v .frequency; diagonal = v .diagonal; row = v .column; column = v .row; commuting = v .commuting }
 
@@ -125,29 +102,3 @@ sameProfile a b =
     && (eqb (a .row) (b .row)
     && (eqb (a .column) (b .column)
     && eqb (a .commuting) (b .commuting)))))
-
--- ---- in plain words
-
--- v is the profile of element a of the table of order n with these cells: index and period, the idempotent power, and how many places of the whole table
--- hold a, how many of the diagonal, of row a and of column a, and how many elements commute with a.
-pub record IsProfile (n : ℕ) (cells : List ℕ) (a : ℕ) (v : Profile) : Type 0 where
-  pub index-period : IsIndexPeriod (product n cells) a (v .powers .index) (v .powers .period)
-  pub idempotent : IsIdempotentPower (product n cells) a (v .powers .idempotent)
-  pub in-table : IsCount (λ k. (k < length cells) × (getD cells k 0 ≡ a)) (v .frequency)
-  pub on-diagonal : IsCount (λ i. Element n i × (product n cells i i ≡ a)) (v .diagonal)
-  pub in-row : IsCount (λ j. Element n j × (product n cells a j ≡ a)) (v .row)
-  pub in-column : IsCount (λ i. Element n i × (product n cells i a ≡ a)) (v .column)
-  pub commute : IsCount (λ b. Element n b × (product n cells a b ≡ product n cells b a)) (v .commuting)
-
--- ---- examples
-
--- The two tables of order 3 in which 3 is its own square alone, `1,1,1/1,1,1/1,1,3` and `1,1,1/1,1,1/1,2,3`: their elements 3 have index, period and all
--- four frequencies equal, and only the count of commuting elements tells them apart (02, x).
-abbrev pub CommutingExamples : Type 0
-CommutingExamples =
-    let s = product 3 (1 ∷ 1 ∷ 1 ∷ 1 ∷ 1 ∷ 1 ∷ 1 ∷ 1 ∷ 3 ∷ []) in
-    let t = product 3 (1 ∷ 1 ∷ 1 ∷ 1 ∷ 1 ∷ 1 ∷ 1 ∷ 2 ∷ 3 ∷ []) in
-    let powers : IndexPeriod = record { index = 1; period = 1; idempotent = 3 } in
-    (profile 3 s 3 ≡ record { powers = powers; frequency = 1; diagonal = 1; row = 1; column = 1; commuting = 3 })
-    × (profile 3 t 3 ≡ record { powers = powers; frequency = 1; diagonal = 1; row = 1; column = 1; commuting = 2 })
-    × (sameProfile (profile 3 s 3) (profile 3 t 3) ≡ false)

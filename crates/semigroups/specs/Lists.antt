@@ -1,14 +1,12 @@
 -- Lists of numbers: the lists of a given length in list order, the earlier of two lists, and the first entry that passes a test.
 -- Where a definition binds its recursive call by `let`, that call is computed only if it is needed.
 -- Assumes nothing.
-use mathlib.Core.Path.{_≡_}
 use mathlib.Core.Bool.{Bool, true, false, _&&_, _||_, not, cond}
-use mathlib.Core.Logic.{_⊎_, _↔_}
-use mathlib.Core.List.{List, [], _∷_, map, flatMap, List·Memᴰ}
+use mathlib.Core.List.{List, [], _∷_, map, flatMap}
 use mathlib.Core.Option.{Option, none, some, Option·getD, orElse}
-use Prim.Native.Nat.{ℕ, zero, suc, _+_, _-_, _<_}
+use Prim.Native.Nat.{ℕ, zero, suc, _+_, _-_}
 use lib.Dec.{eqb, ltb}
-use lib.ListN.{length, getD}
+use lib.ListN.{getD}
 
 -- ---- numbers in a row
 
@@ -17,7 +15,7 @@ unfoldable pub range : ℕ → ℕ → List ℕ
 range i zero = []
 range i (suc k) = i ∷ range (suc i) k
 
--- The numbers 1 to n: the elements of a table of order n (01, "Tables and elements").
+-- The numbers 1 to n: the elements of a table of order n (RULES 3.2).
 unfoldable pub elements : ℕ → List ℕ
 elements n = range 1 n
 
@@ -73,7 +71,7 @@ distinct (x ∷ l) = let r = distinct l in not (member x l) && r
 
 -- ---- list order
 
--- List a is earlier than list b when, at the first entry where they differ, a's is smaller (01, "Maps").
+-- List a is earlier than list b when, at the first entry where they differ, a's is smaller (RULES 6.1).
 unfoldable pub earlier : List ℕ → List ℕ → Bool
 earlier [] b = false
 earlier (x ∷ a) [] = false
@@ -83,38 +81,3 @@ earlier (x ∷ a) (y ∷ b) = let r = earlier a b in cond (eqb x y) r (ltb x y)
 unfoldable pub lists : ℕ → ℕ → List (List ℕ)
 lists zero n = [] ∷ []
 lists (suc m) n = let r = lists m n in flatMap (λ x. map (λ l. x ∷ l) r) (elements n)
-
--- ---- plain statements
-
--- Each entry stands in the relation R to every entry behind it.
-abbrev pub Sorted : {A : Type 0} → (A → A → Type 0) → List A → Type 0
-Sorted R [] = Unit {0}
-Sorted {A} R (x ∷ l) = ((y : A) → List·Memᴰ y l → R x y) × Sorted R l
-
--- No entry equals one behind it.
-abbrev pub NoRepeats : {A : Type 0} → List A → Type 0
-NoRepeats {A} l = Sorted (λ (x y : A). x ≡ y → ⊥) l
-
--- There are k numbers with the property P: a list of them, each once, has k entries.
-pub record IsCount (P : ℕ → Type 0) (k : ℕ) : Type 0 where
-  pub those : List ℕ
-  pub once : NoRepeats those
-  pub exactly : (x : ℕ) → List·Memᴰ x those ↔ P x
-  pub size : length those ≡ k
-
--- Each list is earlier than every list behind it.
-abbrev pub Increasing : List (List ℕ) → Type 0
-Increasing l = Sorted (λ a b. earlier a b ≡ true) l
-
--- List a is earlier than list b: at the first place where they differ, counted from 0, a's entry is smaller.
-pub record Earlier (a b : List ℕ) : Type 0 where
-  pub place : ℕ
-  pub in-first : place < length a
-  pub in-second : place < length b
-  pub same-before : (k : ℕ) → k < place → getD a k 0 ≡ getD b k 0
-  pub smaller : getD a place 0 < getD b place 0
-
--- e is the earliest list with the property P.
-pub record Earliest (P : List ℕ → Type 0) (e : List ℕ) : Type 0 where
-  pub has : P e
-  pub before-others : (g : List ℕ) → P g → (g ≡ e) ⊎ (earlier e g ≡ true)

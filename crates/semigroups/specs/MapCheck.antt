@@ -1,14 +1,12 @@
--- The map check (01, "Maps"): "holds", or the earliest fault of m bytes as an embedding.
+-- The map check (RULES 12): "holds", or the earliest fault of m bytes as an embedding.
 -- Assumes nothing.
-use mathlib.Core.Path.{_≡_}
 use mathlib.Core.Bool.{_&&_, not}
 use mathlib.Core.List.{List}
 use mathlib.Core.Option.{Option, none, some}
-use Prim.Native.Nat.{ℕ, _<_}
+use Prim.Native.Nat.{ℕ}
 use lib.Dec.{eqb, ltb}
-use Rattle.semigroups.specs.Lists.{elements, at, find, lists, Earliest}
-use Rattle.semigroups.specs.Tables.{Product, Element, IsList, isElement}
-use Rattle.semigroups.specs.Maps.{Embedding}
+use Rattle.semigroups.specs.Lists.{elements, at, find, lists}
+use Rattle.semigroups.specs.Tables.{Product, isElement}
 
 -- What a map check says of m bytes.
 pub data Checked : Type 0 where
@@ -43,24 +41,3 @@ module _ (m : ℕ) (s : Product) (n : ℕ) (t : Product) (f : List ℕ) where
       let products = unless wrongProduct firstWrong holds in
       let images = unless equalImages firstEqual products in
       unless outside firstOutside images
-
--- ---- plain statements
-
--- The pair l of elements, the first smaller, has equal images.
-pub record EqualPair (m : ℕ) (f l : List ℕ) : Type 0 where
-  pub pair : IsList 2 m l
-  pub rising : at l 1 < at l 2
-  pub equal : at f (at l 1) ≡ at f (at l 2)
-
--- The product of the pair l of elements does not go to the product of their images.
-pub record WrongPair (m : ℕ) (s t : Product) (f l : List ℕ) : Type 0 where
-  pub pair : IsList 2 m l
-  pub wrong : at f (s (at l 1) (at l 2)) ≡ t (at f (at l 1)) (at f (at l 2)) → ⊥
-
--- What a map check's answer means: an embedding, or the earliest fault, with no fault of an earlier kind.
-pub data IsChecked (m : ℕ) (s : Product) (n : ℕ) (t : Product) (f : List ℕ) : Checked → Type 0 where
-  an-embedding : Embedding m s n t f → IsChecked m s n t f holds
-  an-outsider : (i : ℕ) → Element m i → (Element n (at f i) → ⊥) → ((j : ℕ) → Element m j → j < i → Element n (at f j)) → IsChecked m s n t f (outside i)
-  an-equal-pair : (l : List ℕ) → ((i : ℕ) → Element m i → Element n (at f i)) → Earliest (EqualPair m f) l → IsChecked m s n t f (equalImages l)
-  a-wrong-pair : (l : List ℕ) → ((i : ℕ) → Element m i → Element n (at f i)) → ((i j : ℕ) → Element m i → Element m j → at f i ≡ at f j → i ≡ j) → Earliest (WrongPair m s t f) l
-      → IsChecked m s n t f (wrongProduct l)

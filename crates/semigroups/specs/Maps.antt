@@ -1,45 +1,16 @@
--- Maps from a table of order m with product s to one of order n with product t (arXiv 1603.06204, section 2; 01, "Maps").
+-- Maps from a table of order m with product s to one of order n with product t (arXiv 1603.06204, section 2; RULES 5).
 -- A map is the list of its m images. The full lists come from the products alone, and from nothing that a search found.
 -- Assumes nothing.
-use mathlib.Core.Path.{_≡_}
 use mathlib.Core.Bool.{Bool, true, _&&_}
 use mathlib.Core.List.{List, map}
 use mathlib.Core.Option.{Option, none, some}
 use Prim.Native.Nat.{ℕ}
 use lib.Dec.{eqb}
 use lib.ListN.{length}
-use Rattle.semigroups.specs.Lists.{elements, at, all, find, keep, least, distinct, earlier, lists}
-use Rattle.semigroups.specs.Tables.{Product, turned, Element, isElement}
-
--- ---- plain statements
+use Rattle.semigroups.specs.Lists.{elements, at, all, find, keep, distinct, earlier, lists}
+use Rattle.semigroups.specs.Tables.{Product, turned, isElement}
 
 module _ (m : ℕ) (s : Product) (n : ℕ) (t : Product) where
-  -- The image of i·j is the image of i times the image of j.
-  pub record Homomorphism (f : List ℕ) : Type 0 where
-    pub size : length f ≡ m
-    pub within : (i : ℕ) → Element m i → Element n (at f i)
-    pub keeps-product : (i j : ℕ) → Element m i → Element m j → at f (s i j) ≡ t (at f i) (at f j)
-
-  -- A homomorphism with no two images equal.
-  pub record Embedding (f : List ℕ) : Type 0 where
-    pub homomorphism : Homomorphism f
-    pub one-to-one : (i j : ℕ) → Element m i → Element m j → at f i ≡ at f j → i ≡ j
-
-  -- An embedding with m = n.
-  pub record Isomorphism (f : List ℕ) : Type 0 where
-    pub same-order : m ≡ n
-    pub embedding : Embedding f
-
-  -- A reversed isomorphism: one to one, onto, and the image of i·j is the image of j times the image of i (02, ix).
-  pub record ReversedIsomorphism (f : List ℕ) : Type 0 where
-    pub size : length f ≡ m
-    pub within : (i : ℕ) → Element m i → Element n (at f i)
-    pub one-to-one : (i j : ℕ) → Element m i → Element m j → at f i ≡ at f j → i ≡ j
-    pub onto : (v : ℕ) → Element n v → (i : ℕ) × Element m i × (at f i ≡ v)
-    pub reverses-product : (i j : ℕ) → Element m i → Element m j → at f (s i j) ≡ t (at f j) (at f i)
-
-  -- ---- tests that compute
-
   unfoldable pub isHomomorphism : List ℕ → Bool
   isHomomorphism f =
       let products = all (λ i. all (λ j. eqb (at f (s i j)) (t (at f i) (at f j))) (elements m)) (elements m) in
@@ -58,11 +29,6 @@ pub data Kind : Type 0 where
   embeddings : Kind
   isomorphisms : Kind
   reversed : Kind
-
-abbrev pub IsMap : Kind → ℕ → Product → ℕ → Product → List ℕ → Type 0
-IsMap embeddings = Embedding
-IsMap isomorphisms = Isomorphism
-IsMap reversed = ReversedIsomorphism
 
 -- A reversed isomorphism is an isomorphism onto the turned product.
 abbrev pub isMap : Kind → ℕ → Product → ℕ → Product → List ℕ → Bool
@@ -98,16 +64,8 @@ abbrev pub sought : Option (List ℕ) → Sought
 sought (some f) = found
 sought none = nothing
 
--- ---- identity, composite, inverse (01, "Walks")
-
--- Byte i is i.
-unfoldable pub identity : ℕ → List ℕ
-identity n = elements n
+-- ---- identity, composite, inverse (RULES 5.8)
 
 -- a done after b, their composite: byte i is a's byte at the place that b's byte i names.
 unfoldable pub after : List ℕ → List ℕ → List ℕ
 after a b = map (at a) b
-
--- The inverse, which 01 calls the reverse, of a map of n elements onto themselves: the byte at the place that a's byte i names is i.
-unfoldable pub inverse : ℕ → List ℕ → List ℕ
-inverse n a = map (λ j. least n (λ i. eqb (at a i) j)) (elements n)

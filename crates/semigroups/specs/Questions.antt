@@ -1,15 +1,14 @@
--- The questions that a call asks in order (01, "The questions"): the first "no" gives its number, the side that it names, and what is said with it.
+-- The questions that a call asks in order (RULES 7): the first "no" gives its number, the side that it names, and what is said with it.
 -- Each call has a list of questions. Questions 8 and 9 stand with the tables of transformations (Transformations), and those about a text with the text.
 -- Assumes nothing.
 use mathlib.Core.Bool.{Bool, cond}
 use mathlib.Core.List.{List, [], _∷_, _++_, map}
 use mathlib.Core.Option.{Option, none, some, Option·map}
-use mathlib.Core.Path.{_≡_}
-use Prim.Native.Nat.{ℕ, _*_, _≤_, _<_}
+use Prim.Native.Nat.{ℕ, _*_}
 use lib.Dec.{eqb, leb}
-use lib.ListN.{length, getD}
-use Rattle.semigroups.specs.Lists.{at, firstOf, Earliest}
-use Rattle.semigroups.specs.Tables.{product, Element, FailingTriple, isElement, badCell, badTriple}
+use lib.ListN.{length}
+use Rattle.semigroups.specs.Lists.{firstOf}
+use Rattle.semigroups.specs.Tables.{product, isElement, badCell, badTriple}
 use Rattle.semigroups.specs.Scratch.{scratchSize}
 
 -- ---- a question
@@ -40,14 +39,6 @@ pub record Refusal : Type 0 where
   pub side : Option ℕ
   pub values : List ℕ
 
--- The refusal with this number and these values that names no side.
-abbrev pub no : ℕ → List ℕ → Refusal
-no number values = record { number = number; side = none; values = values }
-
--- The refusal of one of two tables names its side.
-abbrev pub naming : ℕ → Refusal → Refusal
-naming side r = record { number = r .number; side = some side; values = r .values }
-
 -- What a question says where it fails.
 abbrev pub refusalBy : Question → Option Refusal
 refusalBy q = Option·map (λ values. record { number = q .number; side = q .side; values = values }) (q .fails)
@@ -55,26 +46,6 @@ refusalBy q = Option·map (λ values. record { number = q .number; side = q .sid
 -- The first "no" of a list of questions.
 abbrev pub firstNo : List Question → Option Refusal
 firstNo qs = firstOf refusalBy qs
-
--- Every question of a list passes.
-abbrev pub Passed : List Question → Type 0
-Passed [] = Unit {0}
-Passed (q ∷ qs) = (q .fails ≡ none) × Passed qs
-
--- In plain words: r is what the earliest question that fails says. It has a place in the list, and every question before it passes.
-pub record EarliestNo (qs : List Question) (r : Refusal) : Type 0 where
-  pub before : List Question
-  pub question : Question
-  pub behind : List Question
-  pub place : qs ≡ before ++ question ∷ behind
-  pub passed : Passed before
-  pub fails : question .fails ≡ some (r .values)
-  pub number : question .number ≡ r .number
-  pub side : question .side ≡ r .side
-
--- The numbers of a list of questions.
-abbrev pub numbers : List Question → List ℕ
-numbers qs = map (λ q. q .number) qs
 
 -- ---- about a table
 
@@ -90,24 +61,12 @@ tripleQuestion n cells = seek 4 (badTriple n (product n cells))
 abbrev pub cellsQuestions : ℕ → List ℕ → List Question
 cellsQuestions n cells = ask 1 (isElement 120 n) ∷ ask 2 (eqb (length cells) (n * n)) ∷ cellQuestion n cells ∷ []
 
-unfoldable pub cellsRefusal : ℕ → List ℕ → Option Refusal
-cellsRefusal n cells = firstNo (cellsQuestions n cells)
-
 -- About a table: these three; then 4.
 abbrev pub tableQuestions : ℕ → List ℕ → List Question
 tableQuestions n cells = cellsQuestions n cells ++ tripleQuestion n cells ∷ []
 
 unfoldable pub tableRefusal : ℕ → List ℕ → Option Refusal
 tableRefusal n cells = firstNo (tableQuestions n cells)
-
--- What the refusal of a table says: the earliest question whose answer is "no", with the earliest cell or triple.
-pub data Refused (n : ℕ) (cells : List ℕ) : Refusal → Type 0 where
-  wrong-order : (Element 120 n → ⊥) → Refused n cells (no 1 [])
-  wrong-size : Element 120 n → (length cells ≡ n * n → ⊥) → Refused n cells (no 2 [])
-  wrong-cell : (k : ℕ) → Element 120 n → length cells ≡ n * n → Element (length cells) k → (Element n (at cells k) → ⊥) → ((j : ℕ) → 1 ≤ j → j < k → Element n (at cells j))
-      → Refused n cells (no 3 (k ∷ []))
-  wrong-triple : (l : List ℕ) → Element 120 n → length cells ≡ n * n → ((k : ℕ) → k < length cells → Element n (getD cells k 0)) → Earliest (FailingTriple n (product n cells)) l
-      → Refused n cells (no 4 l)
 
 -- ---- about an element, a map check, a search
 
@@ -122,9 +81,6 @@ elementRefusal n cells a = firstNo (elementQuestions n cells a)
 abbrev pub tablesQuestions : ℕ → List ℕ → ℕ → List ℕ → List Question
 tablesQuestions m source n target = map (onSide 1) (tableQuestions m source) ++ map (onSide 2) (tableQuestions n target)
 
-unfoldable pub tablesRefusal : ℕ → List ℕ → ℕ → List ℕ → Option Refusal
-tablesRefusal m source n target = firstNo (tablesQuestions m source n target)
-
 -- About a map check: the two tables'; then 5, has the map buffer exactly m bytes?
 abbrev pub checkQuestions : ℕ → List ℕ → ℕ → List ℕ → ℕ → List Question
 checkQuestions m source n target mapLength = tablesQuestions m source n target ++ ask 5 (eqb mapLength m) ∷ []
@@ -138,3 +94,10 @@ searchQuestions m source n target mapLength scratchLength = checkQuestions m sou
 
 unfoldable pub searchRefusal : ℕ → List ℕ → ℕ → List ℕ → ℕ → ℕ → Option Refusal
 searchRefusal m source n target mapLength scratchLength = firstNo (searchQuestions m source n target mapLength scratchLength)
+
+-- ---- refusals as numbers
+
+-- 0 stands for no side.
+abbrev pub sideOf : Option ℕ → ℕ
+sideOf none = 0
+sideOf (some side) = side

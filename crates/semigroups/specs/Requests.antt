@@ -1,4 +1,5 @@
--- The requests of 02 about tables and maps: what each asks to be shown, for any order. Assumes nothing.
+-- The rules about tables and maps that were requested after the base (RULES 4.3, 4.5, 10, 15, 16 and 18): what each asks to be shown, for any order.
+-- Assumes nothing.
 use mathlib.Core.Path.{_≡_}
 use mathlib.Core.Bool.{true, _&&_}
 use mathlib.Core.Logic.{_↔_}
@@ -8,33 +9,35 @@ use Prim.Native.Nat.{ℕ}
 use lib.Dec.{eqb}
 use Rattle.semigroups.specs.Tables.{Product, product, Element, Accepted}
 use Rattle.semigroups.specs.Questions.{Refusal}
-use Rattle.semigroups.specs.Invariants.{index, period, idempotentPower, TheIdempotentPower, commuting}
+use Rattle.semigroups.specs.Invariants.{index, period, idempotentPower, commuting}
+use Rattle.semigroups.specs.InvariantsLaws.{TheIdempotentPower}
 use Rattle.semigroups.specs.Maps.{embeddings, isomorphisms, reversed}
 use Rattle.semigroups.specs.Candidates.{candidate}
-use Rattle.semigroups.specs.Generated.{GeneratedTheorem}
-use Rattle.semigroups.specs.Light.{LightsLaw, LightsTheorem, generatorsRefusal, GeneratorsPass, GeneratorsRefused}
-use Rattle.semigroups.specs.Reversed.{ReversedTheorem}
-use Rattle.semigroups.specs.Subsemigroups.{SubsemigroupTheorem}
-use Rattle.semigroups.specs.Copies.{CopiesTheorem}
+use Rattle.semigroups.specs.GeneratedLaws.{GeneratedTheorem}
+use Rattle.semigroups.specs.LightLaws.{LightsLaw, LightsTheorem, GeneratorsPass, GeneratorsRefused}
+use Rattle.semigroups.specs.Light.{generatorsRefusal}
+use Rattle.semigroups.specs.ReversedLaws.{ReversedTheorem}
+use Rattle.semigroups.specs.SubsemigroupsLaws.{SubsemigroupTheorem}
+use Rattle.semigroups.specs.CopiesLaws.{CopiesTheorem}
 
 pub record TableRequests : Type 1 where
-  -- (i) "The one power e of the element with e·e = e", whatever the exponents of the others.
+  -- RULES 4.3: "The one power e of the element with e·e = e", whatever the exponents of the others.
   pub one-idempotent : (n : ℕ) (cells : List ℕ) (a : ℕ) → Accepted n cells → Element n a → TheIdempotentPower (product n cells) a (idempotentPower n (product n cells) a)
-  -- (viii) "The elements reached are the smallest set that holds the list and every product of the set's own members."
+  -- RULES 15: "The elements reached are the smallest set that holds the list and every product of the set's own members."
   pub generated : GeneratedTheorem
   -- "Associative or not must be what the full check says"; what passes, and what each refusal says.
   pub light : LightsLaw
   pub shorter-check : LightsTheorem
   pub generators-pass : (n : ℕ) (cells l : List ℕ) → (generatorsRefusal n cells l ≡ none) ↔ GeneratorsPass n cells l
   pub generators-refused : (n : ℕ) (cells l : List ℕ) (r : Refusal) → (generatorsRefusal n cells l ≡ some r) ↔ GeneratorsRefused n cells l r
-  -- (ix) Reversed isomorphisms: their full lists, their composites, their profiles.
+  -- RULES 10: Reversed isomorphisms: their full lists, their composites, their profiles.
   pub reversed-maps : ReversedTheorem
-  -- (x) "Isomorphism candidates, plain and reversed, now need this count equal as well"; "embedding candidates don't" change: index and period alone.
+  -- RULES 4.5: "Isomorphism candidates, plain and reversed, now need this count equal as well"; "embedding candidates don't" change: index and period alone.
   pub commuting-equal : (m : ℕ) (s : Product) (n : ℕ) (t : Product) (i j : ℕ) → candidate isomorphisms m s n t i j ≡ true → commuting m s i ≡ commuting n t j
   pub commuting-equal-reversed : (m : ℕ) (s : Product) (n : ℕ) (t : Product) (i j : ℕ) → candidate reversed m s n t i j ≡ true → commuting m s i ≡ commuting n t j
   pub embedding-candidates : (m : ℕ) (s : Product) (n : ℕ) (t : Product) (i j : ℕ)
       → candidate embeddings m s n t i j ≡ (eqb (index m s i) (index n t j) && eqb (period m s i) (period n t j))
-  -- (xii) "The smallest part", its elements in rising order, its table accepted, the list an embedding; and nothing else is given.
+  -- RULES 16: "The smallest part", its elements in rising order, its table accepted, the list an embedding; and nothing else is given.
   pub part : SubsemigroupTheorem
-  -- (xiv) The number of copies.
+  -- RULES 18: The number of copies.
   pub copies-counted : CopiesTheorem

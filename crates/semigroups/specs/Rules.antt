@@ -1,4 +1,4 @@
--- The rules of 01 about tables, marks and maps, as sentences about the definitions: a record for each section, and `TableRules` for all of them.
+-- The rules about tables, invariants and maps (RULES 3 to 6), as sentences about the definitions: a record for each section, and `TableRules` for all of them.
 -- Assumes nothing.
 use mathlib.Core.Path.{_≡_}
 use mathlib.Core.Bool.{true}
@@ -7,15 +7,21 @@ use mathlib.Core.List.{List, [], List·Memᴰ}
 use mathlib.Core.Option.{some}
 use Prim.Native.Nat.{ℕ, suc, _+_, _*_, _^_, _≤_, _<_}
 use lib.ListN.{length}
-use Rattle.semigroups.specs.Lists.{elements, at, sum, Increasing, Earliest}
-use Rattle.semigroups.specs.Tables.{product, Element, IsList, Accepted}
-use Rattle.semigroups.specs.Questions.{Refusal, tableRefusal, Refused}
-use Rattle.semigroups.specs.Invariants.{power, index, period, idempotentPower, TheIdempotentPower, frequency, diagonalFrequency, Profile, profile, IsProfile}
-use Rattle.semigroups.specs.Maps.{Embedding, Isomorphism, Kind, IsMap, maps, Ask, beyond, earliest}
-use Rattle.semigroups.specs.MapCheck.{Checked, checkMap, IsChecked}
+use Rattle.semigroups.specs.Lists.{elements, at, sum}
+use Rattle.semigroups.specs.ListsLaws.{Increasing, Earliest}
+use Rattle.semigroups.specs.Tables.{product, Element, Accepted}
+use Rattle.semigroups.specs.TablesLaws.{IsList}
+use Rattle.semigroups.specs.Questions.{Refusal, tableRefusal}
+use Rattle.semigroups.specs.QuestionsLaws.{Refused}
+use Rattle.semigroups.specs.Invariants.{power, index, period, idempotentPower, frequency, diagonalFrequency, Profile, profile}
+use Rattle.semigroups.specs.InvariantsLaws.{TheIdempotentPower, IsProfile}
+use Rattle.semigroups.specs.MapsLaws.{Embedding, Isomorphism, IsMap, Among}
+use Rattle.semigroups.specs.Maps.{Kind, maps, Ask, beyond, earliest}
+use Rattle.semigroups.specs.MapCheck.{Checked, checkMap}
+use Rattle.semigroups.specs.MapCheckLaws.{IsChecked}
 use Rattle.semigroups.specs.Candidates.{candidate}
-use Rattle.semigroups.specs.Scratch.{marks, AreMarks}
-use Rattle.semigroups.specs.Search.{Among}
+use Rattle.semigroups.specs.Scratch.{marks}
+use Rattle.semigroups.specs.ScratchLaws.{AreMarks}
 use Rattle.semigroups.specs.Transformations.{transformations, transformationOrder, transformation, numberOf, transformationProduct, transformationCells}
 
 -- "Marks of an element", of an accepted table of order n with these cells.
@@ -23,14 +29,14 @@ pub record MarkRules (n : ℕ) (cells : List ℕ) : Type 0 where
   -- "Powers: a to the first is a; each further power is the last one times a."
   pub first-power : (a : ℕ) → power (product n cells) a 1 ≡ a
   pub next-power : (a k : ℕ) → 1 ≤ k → power (product n cells) a (suc k) ≡ product n cells (power (product n cells) a k) a
-  -- The profile, with index, period and idempotent power: each number is what 01 and 02 count, and no other number is.
+  -- The profile, with index, period and idempotent power: each number is what RULES 4 counts, and no other number is.
   pub counted : (a : ℕ) → Element n a → (v : Profile) → (profile n (product n cells) a ≡ v) ↔ IsProfile n cells a v
   -- "Always p + r ≤ n + 1."
   pub bound : (a : ℕ) → Element n a → index n (product n cells) a + period n (product n cells) a ≤ n + 1
   -- "The frequencies of all elements sum to n × n, the diagonal ones to n."
   pub frequencies : sum (frequency n (product n cells)) (elements n) ≡ n * n
   pub diagonal-frequencies : sum (diagonalFrequency n (product n cells)) (elements n) ≡ n
-  -- "The one power e of the element with e·e = e" (02, (i)): one among all powers, whatever their exponents; and every power whose exponent is a
+  -- "The one power e of the element with e·e = e" (RULES 4.3): one among all powers, whatever their exponents; and every power whose exponent is a
   -- multiple of the period, from the index on, is this one.
   pub one-idempotent : (a : ℕ) → Element n a → TheIdempotentPower (product n cells) a (idempotentPower n (product n cells) a)
   pub settles : (a : ℕ) → Element n a → (k t : ℕ) → index n (product n cells) a ≤ k → k ≡ t * period n (product n cells) a → power (product n cells) a k ≡ idempotentPower n (product n cells) a
@@ -48,7 +54,7 @@ pub record MapRules (m : ℕ) (source : List ℕ) (n : ℕ) (target : List ℕ) 
   pub no-isomorphism : (m ≡ n → ⊥) → (f : List ℕ) → Isomorphism m (product m source) n (product n target) f → ⊥
   -- Candidates lose no map.
   pub none-lost : (kind : Kind) (f : List ℕ) → IsMap kind m (product m source) n (product n target) f → Among m (candidate kind m (product m source) n (product n target)) f
-  -- Where the mark of a pair stands (02, (v)), and that nothing else is marked: the bytes written are the marks, in plain words, and no others are.
+  -- Where the mark of a pair stands (RULES 8.2), and that nothing else is marked: the bytes written are the marks, in plain words, and no others are.
   pub marks-stand : (kind : Kind) (bytes : List ℕ)
       → (bytes ≡ marks m n (candidate kind m (product m source) n (product n target))) ↔ AreMarks m n (candidate kind m (product m source) n (product n target)) bytes
   -- "A map check, given m bytes, says "holds" or the earliest fault": what each answer means, both ways.

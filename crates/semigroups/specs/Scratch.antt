@@ -1,14 +1,13 @@
--- The layout of the scratch buffer (01, "Maps"; 02, (v)): one bit for each pair of a source and a target element. The one place that knows where the
+-- The layout of the scratch buffer (RULES 8.2): one bit for each pair of a source and a target element. The one place that knows where the
 -- mark of a pair stands and how many bytes the marks take.
 -- Assumes nothing.
-use mathlib.Core.Path.{_≡_}
 use mathlib.Core.Bool.{Bool, cond}
 use mathlib.Core.List.{List, map}
-use Prim.Native.Nat.{ℕ, _+_, _*_, _/_, _%_, _^_, _≤_, _<_}
+use Prim.Native.Nat.{ℕ, _+_, _*_, _/_, _%_, _^_}
 use lib.Dec.{eqb}
-use lib.ListN.{length, getD}
+use lib.ListN.{getD}
 use Rattle.semigroups.specs.Lists.{range, sum}
-use Rattle.semigroups.specs.Tables.{Element, cellPlace, grid}
+use Rattle.semigroups.specs.Tables.{cellPlace, grid}
 
 -- ---- eight to a byte
 
@@ -38,13 +37,3 @@ marks m n candidate = map (packedByte (pairMarks m n candidate)) (range 0 (scrat
 -- to the power k modulo 8.
 unfoldable pub marked : ℕ → List ℕ → ℕ → ℕ → Bool
 marked n scratch i j = let k = cellPlace n i j in eqb (bit (getD scratch (k / 8) 0) (k % 8)) 1
-
--- ---- in plain words
-
--- These bytes are the marks: m × n divided by 8, rounded up, of them; a bit for each pair; unused bits are 0.
-pub record AreMarks (m n : ℕ) (candidate : ℕ → ℕ → Bool) (bytes : List ℕ) : Type 0 where
-  pub enough : m * n ≤ 8 * length bytes
-  pub no-more : 8 * length bytes < m * n + 8
-  pub byte : (b : ℕ) → b < length bytes → getD bytes b 0 < 256
-  pub mark : (i j : ℕ) → Element m i → Element n j → marked n bytes i j ≡ candidate i j
-  pub unused : (b r : ℕ) → b < length bytes → r < 8 → m * n ≤ 8 * b + r → bit (getD bytes b 0) r ≡ 0

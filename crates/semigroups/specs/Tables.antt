@@ -3,7 +3,7 @@
 -- Assumes nothing.
 use mathlib.Core.Path.{_≡_}
 use mathlib.Core.Bool.{Bool, _&&_, not}
-use mathlib.Core.List.{List, map, flatMap, List·Memᴰ}
+use mathlib.Core.List.{List, map, flatMap}
 use mathlib.Core.Option.{Option}
 use Prim.Native.Nat.{ℕ, _+_, _-_, _*_, _≤_, _<_}
 use lib.Dec.{eqb, leb}
@@ -26,40 +26,17 @@ product n cells i j = getD cells (cellPlace n i j) 0
 unfoldable pub grid : ℕ → ℕ → (ℕ → ℕ → ℕ) → List ℕ
 grid m n f = flatMap (λ i. map (f i) (elements n)) (elements m)
 
--- The product with its factors exchanged, and the table of it: rows stand as columns (02, ix: a table that gives the column's element first).
+-- The product with its factors exchanged, and the table of it: rows stand as columns (RULES 10.1: a table that gives the column's element first).
 abbrev pub turned : Product → Product
 turned s = λ i j. s j i
-
-unfoldable pub turnedCells : ℕ → List ℕ → List ℕ
-turnedCells n cells = grid n n (turned (product n cells))
-
--- ---- plain statements
 
 -- i is an element of a table of order n: elements count from 1.
 abbrev pub Element : ℕ → ℕ → Type 0
 Element n i = (1 ≤ i) × (i ≤ n)
 
--- A list of m entries, each an element of a table of order n.
-pub record IsList (m n : ℕ) (f : List ℕ) : Type 0 where
-  pub size : length f ≡ m
-  pub entries : (x : ℕ) → List·Memᴰ x f → Element n x
-
--- Products of elements are elements.
-abbrev pub Closed : ℕ → Product → Type 0
-Closed n s = (i j : ℕ) → Element n i → Element n j → Element n (s i j)
-
 -- (i·j)·k = i·(j·k) for every i, j, k.
 abbrev pub Associative : ℕ → Product → Type 0
 Associative n s = (i j k : ℕ) → Element n i → Element n j → Element n k → s (s i j) k ≡ s i (s j k)
-
--- i·j = j·i for every i, j.
-abbrev pub Commutative : ℕ → Product → Type 0
-Commutative n s = (i j : ℕ) → Element n i → Element n j → s i j ≡ s j i
-
--- The triple l of elements does not associate.
-pub record FailingTriple (n : ℕ) (s : Product) (l : List ℕ) : Type 0 where
-  pub triple : IsList 3 n l
-  pub fails : s (s (at l 1) (at l 2)) (at l 3) ≡ s (at l 1) (s (at l 2) (at l 3)) → ⊥
 
 -- Cells that fill a table of order n: they pass the questions before associativity.
 pub record Filled (n : ℕ) (cells : List ℕ) : Type 0 where
@@ -67,12 +44,10 @@ pub record Filled (n : ℕ) (cells : List ℕ) : Type 0 where
   pub size : length cells ≡ n * n
   pub in-range : (k : ℕ) → k < length cells → Element n (getD cells k 0)
 
--- A table is accepted (01, "Tables and elements").
+-- A table is accepted (RULES 3.4).
 pub record Accepted (n : ℕ) (cells : List ℕ) : Type 0 where
   pub filled : Filled n cells
   pub associative : Associative n (product n cells)
-
--- ---- tests that compute
 
 unfoldable pub isElement : ℕ → ℕ → Bool
 isElement n x = leb 1 x && leb x n

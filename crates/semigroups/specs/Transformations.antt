@@ -1,6 +1,6 @@
--- The table of all transformations of d points (01, "Tables of all transformations"; arXiv 1603.06204, section 2: a transformation is the list
--- of its images). Mappings are written on the right and compose from left to right, as in source document 004, section 2.
--- Assumes nothing.
+-- The table of all transformations of d points (RULES 14; arXiv 1603.06204, section 2: a transformation is the list
+-- of its images). Mappings are written on the right and compose from left to right, as in Araújo, von Bünau, Mitchell and Neunhöffer, "Computing
+-- automorphisms of semigroups", section 1. Assumes nothing.
 use mathlib.Core.List.{List, [], _∷_}
 use mathlib.Core.Option.{Option}
 use Prim.Native.Nat.{ℕ, _+_, _-_, _*_, _^_}

@@ -1,18 +1,31 @@
--- How much work a search takes (02, (vi)): the search of arXiv 1603.06204, section 3, with its trials counted. It takes any candidates and either asking.
+-- How much work a search takes (RULES 9): the search of arXiv 1603.06204, section 3, with its trials counted. It takes any candidates and either asking.
 -- Assumes nothing.
-use mathlib.Core.Path.{_≡_}
-use mathlib.Core.Bool.{Bool, _&&_, not, cond}
+use mathlib.Core.Bool.{Bool, true, not, cond, _&&_}
 use mathlib.Core.List.{List, [], _∷_, _++_}
 use mathlib.Core.Option.{Option, none, some}
 use Prim.Native.Nat.{ℕ, zero, suc, _+_}
-use lib.Dec.{leb}
+use lib.Dec.{eqb, leb}
 use lib.ListN.{length}
-use Rattle.semigroups.specs.Lists.{elements, member}
-use Rattle.semigroups.specs.Tables.{Product, product}
-use Rattle.semigroups.specs.Maps.{embeddings, Ask, first, next, beyond, Sought, nothing, sought}
-use Rattle.semigroups.specs.Search.{notBefore, passes}
-use Rattle.semigroups.specs.Candidates.{candidate}
-use Rattle.semigroups.specs.Cases.{swap, left, two}
+use Rattle.semigroups.specs.Lists.{elements, at, all, member, earlier}
+use Rattle.semigroups.specs.Tables.{Product}
+use Rattle.semigroups.specs.Maps.{Ask, first, next, beyond, Sought, sought}
+
+-- Whether no list that begins with p is ruled out for being too early.
+abbrev pub notBefore : Ask → List ℕ → Bool
+notBefore first p = true
+notBefore (next b) p = not (earlier p b)
+
+module _ (s t : Product) where
+  -- The pair i, j of a list placed so far: a product inside the list agrees; one outside it has its target product among no image used.
+  unfoldable pub fits : List ℕ → ℕ → ℕ → Bool
+  fits p i j =
+      let inside = eqb (at p (s i j)) (t (at p i) (at p j)) in
+      let outside = not (member (t (at p i) (at p j)) p) in
+      cond (leb (s i j) (length p)) inside outside
+
+  -- A list placed so far passes: every pair of it is looked at again at each placing.
+  unfoldable pub passes : List ℕ → Bool
+  passes p = all (λ i. all (λ j. fits p i j) (elements (length p))) (elements (length p))
 
 -- ---- the work of a search
 
@@ -72,28 +85,3 @@ limited limit w = cond (leb (w .trials) limit) (ended (sought (w .found)) (w .tr
 -- The map that it finds; stopped, it finds none.
 unfoldable pub foundWithin : ℕ → Work → Option (List ℕ)
 foundWithin limit w = cond (leb (w .trials) limit) (w .found) none
-
--- ---- examples
-
--- From `1,1,1/1,3,3/1,3,3` to `1,1,3/1,1,3/3,3,3`: 1 on 1 and 2 on 2 fails, since 2·2 is 3, which is not placed, and 2·2 in the target is 1, an image
--- used. So five trials find `3,2,1`; if products outside the list were not looked at, 3 on 3 would be a sixth.
-abbrev pub OutsideExample : Type 0
-OutsideExample =
-    let s = product 3 (1 ∷ 1 ∷ 1 ∷ 1 ∷ 3 ∷ 3 ∷ 1 ∷ 3 ∷ 3 ∷ []) in
-    let t = product 3 (1 ∷ 1 ∷ 3 ∷ 1 ∷ 1 ∷ 3 ∷ 3 ∷ 3 ∷ 3 ∷ []) in
-    counted s t (candidate embeddings 3 s 3 t) first 3 3 [] ≡ work (some (3 ∷ 2 ∷ 1 ∷ [])) 5
-
--- From swap to the degree 2 table, where 1 may go to 1, 2 and 4 and 2 to 3: 1 on 1, 2 on 3, 1 on 2, 2 on 3 make four trials, and the last one completes
--- the map `2,3`. Asked for a later one, the search begins with 1 on 2. From the degree 2 table to swap, 2 may only go where 1 went: one trial. From a
--- group whose element 1 has period 2 to left, which has no such element: no trial.
-abbrev pub TrialsExamples : Type 0
-TrialsExamples =
-    let s = product 2 (swap .cells) in
-    let t = product 4 (two .cells) in
-    let u = product 2 (2 ∷ 1 ∷ 1 ∷ 2 ∷ []) in
-    let v = product 2 (left .cells) in
-    (counted s t (candidate embeddings 2 s 4 t) first 4 2 [] ≡ work (some (2 ∷ 3 ∷ [])) 4)
-    × (counted s t (candidate embeddings 2 s 4 t) (next (2 ∷ 3 ∷ [])) 4 2 [] ≡ work none 4)
-    × (counted t s (candidate embeddings 4 t 2 s) first 2 4 [] ≡ work none 1)
-    × (counted u v (candidate embeddings 2 u 2 v) first 2 2 [] ≡ work none 0)
-    × (limited 3 (work none 4) ≡ stopped) × (limited 4 (work none 4) ≡ ended nothing 4)

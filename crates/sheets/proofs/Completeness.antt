@@ -8,57 +8,57 @@ use Prim.Native.Nat.{ℕ, _≤_}
 use native.Mathlib.Omega.{arith}
 use lib.ListN.{length, length-append}
 use Rattle.csv.specs.Every.{Every}
-use Rattle.sheets.specs.Grammar.{isPrintable, isTextData, isQuotable, Item, single, twice, Field, non-escaped, escaped, Entry, Sheet, ProperItem, ProperField, ProperEntry, ProperSheet, itemText, fieldText, entryText, entriesText, sheetText, Passes}
-use Rattle.sheets.specs.Automaton.{Part, number-part, name-part, State, opening, bare, quoted, shut, cr, line, afterField, bareStep, openingStep, step, accepting, run, accepts}
+use Rattle.sheets.specs.Grammar.{isPrintable, isTextData, isQuotable, Item, single, twice, Field, non-escaped, escaped, Entry, Sheet, ProperItem, ProperField, ProperEntry, ProperSheet, itemText, fieldText, entryText, entriesText, sheetText, IsSheet}
+use Rattle.sheets.specs.InnerAutomaton.{Column, number-part, name-part, State, opening, bare, quoted, shut, cr, line, afterField, bareStep, openingStep, stateAfter, accepting, run, accepts}
 use Rattle.sheets.proofs.Bytes.{bare-quote, inside-quote}
 
 pub run-append : (q : State) (s t : List ℕ) → run q (s ++ t) ≡ run (run q s) t
 unfolding run
 run-append q [] t = refl
-run-append q (b ∷ s) t = run-append (step q b) s t
+run-append q (b ∷ s) t = run-append (stateAfter q b) s t
 
 -- ---- a byte
 
-pub opening-bare : (n : Part) (b : ℕ) → isTextData b ≡ true → step (opening n) b ≡ bare n
-unfolding step openingStep bareStep
+pub opening-bare : (n : Column) (b : ℕ) → isTextData b ≡ true → stateAfter (opening n) b ≡ bare n
+unfolding stateAfter openingStep bareStep
 opening-bare n b h = simp (bare-quote b h, h)
 
-pub bare-bare : (n : Part) (b : ℕ) → isTextData b ≡ true → step (bare n) b ≡ bare n
-unfolding step bareStep
+pub bare-bare : (n : Column) (b : ℕ) → isTextData b ≡ true → stateAfter (bare n) b ≡ bare n
+unfolding stateAfter bareStep
 bare-bare n b h = simp h
 
-pub quoted-inside : (n : Part) (b : ℕ) → isQuotable b ≡ true → step (quoted n) b ≡ quoted n
-unfolding step
+pub quoted-inside : (n : Column) (b : ℕ) → isQuotable b ≡ true → stateAfter (quoted n) b ≡ quoted n
+unfolding stateAfter
 quoted-inside n b h = simp (inside-quote b h, h)
 
 -- ---- a field
 
 -- The states behind a field.
-pub data Ended (n : Part) : State → Type 0 where
+pub data Ended (n : Column) : State → Type 0 where
   ended-opening : Ended n (opening n)
   ended-bare : Ended n (bare n)
   ended-shut : Ended n (shut n)
 
-pub run-bare : (n : Part) (s : List ℕ) → Every (λ b. isTextData b ≡ true) s → run (bare n) s ≡ bare n
+pub run-bare : (n : Column) (s : List ℕ) → Every (λ b. isTextData b ≡ true) s → run (bare n) s ≡ bare n
 unfolding run
 run-bare n [] h = refl
 run-bare n (b ∷ s) h = rw (bare-bare n b (h .0)) (run-bare n s (h .1))
 
-pub run-items : (n : Part) (i : List Item) → Every ProperItem i → run (quoted n) (flatMap itemText i) ≡ quoted n
-unfolding run step flatMap itemText
+pub run-items : (n : Column) (i : List Item) → Every ProperItem i → run (quoted n) (flatMap itemText i) ≡ quoted n
+unfolding run stateAfter flatMap itemText
 run-items n [] h = refl
 run-items n (single b ∷ i) h = rw (quoted-inside n b (h .0)) (run-items n i (h .1))
 run-items n (twice ∷ i) h = run-items n i (h .1)
 
-run-non-escaped : (n : Part) (b : ℕ) (s : List ℕ) → isTextData b ≡ true → Every (λ c. isTextData c ≡ true) s → run (opening n) (b ∷ s) ≡ bare n
+run-non-escaped : (n : Column) (b : ℕ) (s : List ℕ) → isTextData b ≡ true → Every (λ c. isTextData c ≡ true) s → run (opening n) (b ∷ s) ≡ bare n
 unfolding run
 run-non-escaped n b s e h = ap (λ (q : State). run q s) (opening-bare n b e) ∙ run-bare n s h
 
-run-escaped : (n : Part) (i : List Item) → Every ProperItem i → run (opening n) (34 ∷ flatMap itemText i ++ 34 ∷ []) ≡ shut n
-unfolding run step openingStep
-run-escaped n i h = run-append (quoted n) (flatMap itemText i) (34 ∷ []) ∙ ap (λ (q : State). step q 34) (run-items n i h)
+run-escaped : (n : Column) (i : List Item) → Every ProperItem i → run (opening n) (34 ∷ flatMap itemText i ++ 34 ∷ []) ≡ shut n
+unfolding run stateAfter openingStep
+run-escaped n i h = run-append (quoted n) (flatMap itemText i) (34 ∷ []) ∙ ap (λ (q : State). stateAfter q 34) (run-items n i h)
 
-pub ended-field : (n : Part) (f : Field) → ProperField f → Ended n (run (opening n) (fieldText f))
+pub ended-field : (n : Column) (f : Field) → ProperField f → Ended n (run (opening n) (fieldText f))
 unfolding run fieldText
 ended-field n (non-escaped []) h = ended-opening
 ended-field n (non-escaped (b ∷ s)) h = subst (Ended n) (sym (run-non-escaped n b s (h .0) (h .1))) ended-bare
@@ -66,14 +66,14 @@ ended-field n (escaped i) h = subst (Ended n) (sym (run-escaped n i h)) ended-sh
 
 -- ---- behind a field
 
-pub ended-comma : {q : State} → Ended number-part q → step q 44 ≡ opening name-part
-unfolding step openingStep bareStep afterField isTextData isPrintable
+pub ended-comma : {q : State} → Ended number-part q → stateAfter q 44 ≡ opening name-part
+unfolding stateAfter openingStep bareStep afterField isTextData isPrintable
 ended-comma ended-opening = refl
 ended-comma ended-bare = refl
 ended-comma ended-shut = refl
 
-pub ended-cr : {q : State} → Ended name-part q → step q 13 ≡ cr
-unfolding step openingStep bareStep afterField isTextData isPrintable
+pub ended-cr : {q : State} → Ended name-part q → stateAfter q 13 ≡ cr
+unfolding stateAfter openingStep bareStep afterField isTextData isPrintable
 ended-cr ended-opening = refl
 ended-cr ended-bare = refl
 ended-cr ended-shut = refl
@@ -106,13 +106,13 @@ entries-some e [] = entry-some e
 entries-some e (f ∷ fs) = simp length-append (omega arith)
 
 run-line : (t : List ℕ) → 1 ≤ length t → run line t ≡ run (opening number-part) t
-unfolding run step
+unfolding run stateAfter
 run-line [] h = let w : ⊥ = omega arith in absurd w
 run-line (b ∷ t) h = refl
 
 pub run-break : {q : State} → Ended name-part q → (t : List ℕ) → run q (13 ∷ 10 ∷ t) ≡ run line t
-unfolding run step
-run-break h t = ap (λ (p : State). run (step p 10) t) (ended-cr h)
+unfolding run stateAfter
+run-break h t = ap (λ (p : State). run (stateAfter p 10) t) (ended-cr h)
 
 pub ended-entries : (e : Entry) (es : List Entry) → ProperEntry e → Every ProperEntry es → Ended name-part (run (opening number-part) (entriesText e es))
 unfolding entriesText
@@ -133,5 +133,5 @@ sheet-accepted s p =
     go h false = ended-accepting h
 
 -- A text that passes 40 is accepted.
-pub passes-accepted : (t : List ℕ) → Passes t → accepts t ≡ true
+pub passes-accepted : (t : List ℕ) → IsSheet t → accepts t ≡ true
 passes-accepted t h = ap accepts (h .text) ∙ sheet-accepted (h .sheet) (h .proper)

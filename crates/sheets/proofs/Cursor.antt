@@ -15,7 +15,7 @@ use Rattle.semigroups.proofs.Booleans.{and-left}
 use Rattle.csv.specs.Every.{Every}
 use Rattle.csv.proofs.Fields.{empty}
 use Rattle.sheets.specs.Grammar.{isPrintable, isTextData, Item, single, twice, Field, non-escaped, escaped, ProperItem, ProperField, itemText, fieldText, itemValue, itemsValue, fieldValue}
-use Rattle.sheets.specs.Cursor.{bareValue, quotedValue, quotedSize, valueAt, sizeAt}
+use Rattle.sheets.specs.InnerCursor.{bareValue, quotedValue, quotedSize, valueAt, sizeAt}
 use Rattle.sheets.proofs.Bytes.{bare-text, bare-comma, bare-quote, inside-quote}
 
 -- ---- one byte

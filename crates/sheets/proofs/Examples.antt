@@ -8,16 +8,16 @@ use lib.ListN.{replicate}
 use borrow.Author.Tests.{leb-true}
 use Rattle.semigroups.specs.Lists.{all, firstOf}
 use Rattle.semigroups.specs.Tables.{isElement}
-use Rattle.semigroups.specs.Questions.{no}
+use Rattle.semigroups.specs.QuestionsLaws.{no}
 use Rattle.semigroups.specs.Calls.{gives, refused}
 use Rattle.csv.specs.Decimals.{isDigit, valueFrom, value, numeral, numeralWithin}
-use Rattle.sheets.specs.Grammar.{isPrintable, isTextData, isQuotable, single, twice, non-escaped, escaped, itemText, fieldText, entryText, entriesText, sheetText, Passes, itemValue, itemsValue, fieldValue, entryRow, entriesRows, sheetRows}
+use Rattle.sheets.specs.Grammar.{isPrintable, isTextData, isQuotable, single, twice, non-escaped, escaped, itemText, fieldText, entryText, entriesText, sheetText, IsSheet, itemValue, itemsValue, fieldValue, entryRow, entriesRows, sheetRows}
 use Rattle.sheets.specs.Readings.{Offending, passes, rowsNames, Reading}
 use Rattle.sheets.specs.Names.{isName, isNumber, needsQuotes, doubled, nameText, namesTextFrom, namesText, namesAt}
 use Rattle.sheets.specs.Questions.{rowsQuestions, loadNamesRefusal, namesQuestions, saveNamesRefusal}
 use Rattle.sheets.specs.Calls.{loadNamesAnswer, namesAfter, lengthsAfter, saveNamesAnswer, sheetAfter}
-use Rattle.sheets.specs.Automaton.{step, openingStep, bareStep, afterField, isDead, placeFrom, place}
-use Rattle.sheets.specs.Rounds.{SavedNamesLoad, LoadsClosed}
+use Rattle.sheets.specs.InnerAutomaton.{stateAfter, openingStep, bareStep, afterField, isDead, placeFrom, place}
+use Rattle.sheets.specs.RoundsLaws.{SavedNamesLoad, NamesLoadClosed}
 use Rattle.sheets.proofs.Places.{place-offending}
 use Rattle.sheets.proofs.Readings.{same-reading}
 use Rattle.sheets.proofs.Passing.{save-names-pass, load-keeps}
@@ -47,23 +47,23 @@ no-bytes = place-offending []
 
 -- `1,a` CR at 4, the whole length: CR LF would go on.
 lone-cr : Offending (49 ∷ 44 ∷ 97 ∷ 13 ∷ []) 4
-unfolding place placeFrom isDead step openingStep bareStep afterField isTextData isPrintable
+unfolding place placeFrom isDead stateAfter openingStep bareStep afterField isTextData isPrintable
 lone-cr = place-offending (49 ∷ 44 ∷ 97 ∷ 13 ∷ [])
 
 -- `1,a"` at 3: a quote mark inside a field without quote marks.
 late-quote : Offending (49 ∷ 44 ∷ 97 ∷ 34 ∷ []) 3
-unfolding place placeFrom isDead step openingStep bareStep afterField isTextData isPrintable
+unfolding place placeFrom isDead stateAfter openingStep bareStep afterField isTextData isPrintable
 late-quote = place-offending (49 ∷ 44 ∷ 97 ∷ 34 ∷ [])
 
 -- `1` CR LF at 1: the comma is missing.
 one-field : Offending (49 ∷ 13 ∷ 10 ∷ []) 1
-unfolding place placeFrom isDead step openingStep bareStep afterField isTextData isPrintable
+unfolding place placeFrom isDead stateAfter openingStep bareStep afterField isTextData isPrintable
 one-field = place-offending (49 ∷ 13 ∷ 10 ∷ [])
 
 -- ---- a sheet
 
 -- `"1","a""b,"` and `2,\` without the last break: a quoted number, a quoted name, and a backslash, which is an ordinary byte.
-sheet : Passes (34 ∷ 49 ∷ 34 ∷ 44 ∷ 34 ∷ 97 ∷ 34 ∷ 34 ∷ 98 ∷ 44 ∷ 34 ∷ 13 ∷ 10 ∷ 50 ∷ 44 ∷ 92 ∷ [])
+sheet : IsSheet (34 ∷ 49 ∷ 34 ∷ 44 ∷ 34 ∷ 97 ∷ 34 ∷ 34 ∷ 98 ∷ 44 ∷ 34 ∷ 13 ∷ 10 ∷ 50 ∷ 44 ∷ 92 ∷ [])
 unfolding sheetText entriesText entryText fieldText itemText flatMap isQuotable isTextData isPrintable
 sheet =
     record {
@@ -113,7 +113,7 @@ saved-back =
     saved-names-load (97 ∷ 34 ∷ 98 ∷ 44 ∷ 92 ∷ 7 ∷ []) (4 ∷ 1 ∷ []) (replicate 17 7) (replicate 6 7) (replicate 3 7) (save-names-pass (97 ∷ 34 ∷ 98 ∷ 44 ∷ 92 ∷ 7 ∷ []) (4 ∷ 1 ∷ []) 17 .0 refl) (leb-true 5 6 refl) (leb-true 2 3 refl)
 
 -- The sheet above has no last line break, and loads as if it were there.
-sheet-closed : LoadsClosed (34 ∷ 49 ∷ 34 ∷ 44 ∷ 34 ∷ 97 ∷ 34 ∷ 34 ∷ 98 ∷ 44 ∷ 34 ∷ 13 ∷ 10 ∷ 50 ∷ 44 ∷ 92 ∷ []) (replicate 6 7) (replicate 3 7)
+sheet-closed : NamesLoadClosed (34 ∷ 49 ∷ 34 ∷ 44 ∷ 34 ∷ 97 ∷ 34 ∷ 34 ∷ 98 ∷ 44 ∷ 34 ∷ 13 ∷ 10 ∷ 50 ∷ 44 ∷ 92 ∷ []) (replicate 6 7) (replicate 3 7)
 unfolding sheet
 sheet-closed = loads-closed (34 ∷ 49 ∷ 34 ∷ 44 ∷ 34 ∷ 97 ∷ 34 ∷ 34 ∷ 98 ∷ 44 ∷ 34 ∷ 13 ∷ 10 ∷ 50 ∷ 44 ∷ 92 ∷ []) sheet refl (replicate 6 7) (replicate 3 7)
 

@@ -7,13 +7,14 @@ use mathlib.Core.Option.{Option, none, some}
 use Prim.Native.Nat.{ℕ, _≤_, _<_}
 use native.Mathlib.Omega.{arith}
 use lib.ListN.{length, length-map}
-use Rattle.semigroups.specs.Questions.{Refusal, no, firstNo}
+use Rattle.semigroups.specs.Questions.{Refusal, firstNo}
+use Rattle.semigroups.specs.QuestionsLaws.{no}
 use Rattle.semigroups.specs.Calls.{Answer, refused, gives, overwritten}
-use Rattle.sheets.specs.Grammar.{Passes, Row, sheetRows}
+use Rattle.sheets.specs.Grammar.{IsSheet, Row, sheetRows}
 use Rattle.sheets.specs.Readings.{Reading, passes, offends, rowsNames}
 use Rattle.sheets.specs.Questions.{rowsQuestions, loadNamesRefusal}
 use Rattle.sheets.specs.Calls.{loadNamesAnswer, namesAfter, lengthsAfter}
-use Rattle.sheets.specs.Automaton.{accepts, place}
+use Rattle.sheets.specs.InnerAutomaton.{accepts, place}
 use Rattle.sheets.proofs.Soundness.{accepted-passes}
 use Rattle.sheets.proofs.Readings.{refused-reading}
 use Rattle.sheets.proofs.Questions.{form-refused, rows-refused, names-refused, lengths-refused, load-passes}
@@ -37,16 +38,16 @@ module _ (t names lengths : List ℕ) where
 
   -- A text that passes, with what its records show, whichever way it is taken apart.
   module _ (a : accepts t ≡ true) where
-    by-passes : (r : Refusal) → ((p : Passes t) → refusal (passes p) ≡ some r) → (w : Reading t) → refusal w ≡ some r
+    by-passes : (r : Refusal) → ((p : IsSheet t) → refusal (passes p) ≡ some r) → (w : Reading t) → refusal w ≡ some r
     by-passes r h (passes p) = h p
     by-passes r h (offends k n o) = absurd (n (accepted-passes t a))
 
-    pub bad-record : (r : Refusal) → ((p : Passes t) → firstNo (rowsQuestions 1 (sheetRows (p .sheet))) ≡ some r) → Says (refused r) names lengths
+    pub bad-record : (r : Refusal) → ((p : IsSheet t) → firstNo (rowsQuestions 1 (sheetRows (p .sheet))) ≡ some r) → Says (refused r) names lengths
     bad-record r h = refuses r (by-passes r (λ p. rows-refused (passes p) (length names) (length lengths) r refl (h p)))
 
     -- The records pass, and there are so many names with so many bytes.
-    module _ (count total : ℕ) (judged : (p : Passes t) → (firstNo (rowsQuestions 1 (sheetRows (p .sheet))) ≡ none) × (count ≡ length (sheetRows (p .sheet))) × (total ≡ length (flatten (rowsNames (sheetRows (p .sheet)))))) where
-      names-count : (p : Passes t) → length (rowsNames (sheetRows (p .sheet))) ≡ count
+    module _ (count total : ℕ) (judged : (p : IsSheet t) → (firstNo (rowsQuestions 1 (sheetRows (p .sheet))) ≡ none) × (count ≡ length (sheetRows (p .sheet))) × (total ≡ length (flatten (rowsNames (sheetRows (p .sheet)))))) where
+      names-count : (p : IsSheet t) → length (rowsNames (sheetRows (p .sheet))) ≡ count
       unfolding rowsNames
       names-count p = length-map (sheetRows (p .sheet)) (λ (r : Row). r .name) ∙ sym (judged p .1)
 
@@ -60,10 +61,10 @@ module _ (t names lengths : List ℕ) where
           (λ p. lengths-refused (passes p) (length names) (length lengths) refl (judged p .0) (let e = judged p .2 in omega arith) (let e = names-count p in omega arith)))
 
       module _ (m : total ≤ length names) (u : count ≤ length lengths) where
-        none-refused : (p : Passes t) → refusal (passes p) ≡ none
+        none-refused : (p : IsSheet t) → refusal (passes p) ≡ none
         none-refused p = load-passes (passes p) (length names) (length lengths) refl (judged p .0) (let e = judged p .2 in omega arith) (let e = names-count p in omega arith)
 
-        module _ (namesNow lengthsNow : List ℕ) (names-written : (p : Passes t) → namesNow ≡ overwritten (flatten (rowsNames (sheetRows (p .sheet)))) names) (lengths-written : (p : Passes t) → lengthsNow ≡ overwritten (map length (rowsNames (sheetRows (p .sheet)))) lengths) where
+        module _ (namesNow lengthsNow : List ℕ) (names-written : (p : IsSheet t) → namesNow ≡ overwritten (flatten (rowsNames (sheetRows (p .sheet)))) names) (lengths-written : (p : IsSheet t) → lengthsNow ≡ overwritten (map length (rowsNames (sheetRows (p .sheet)))) lengths) where
           answer : (w : Reading t) → gives count ≡ loadNamesAnswer w names lengths
           unfolding loadNamesAnswer
           answer (passes p) = rw (none-refused p, names-count p) refl

@@ -22,7 +22,7 @@ use Rattle.csv.proofs.Fields.{is-digit, empty, bound-more, bound-two}
 use Rattle.csv.proofs.Decimals.{numeral-digits, numeral-value, value-numeral, numeral-long, numeral-leading, digits-few}
 use Rattle.sheets.specs.Grammar.{isPrintable}
 use Rattle.sheets.specs.Names.{isName, isNumber}
-use Rattle.sheets.specs.Passing.{Name}
+use Rattle.sheets.specs.PassingLaws.{Name}
 
 -- ---- tests of every byte
 

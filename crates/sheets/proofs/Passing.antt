@@ -16,8 +16,9 @@ use Rattle.sheets.specs.Grammar.{Row, sheetRows}
 use Rattle.sheets.specs.Readings.{Reading, passes, offends, rowsNames, namesIn}
 use Rattle.sheets.specs.Names.{isName, namesAt}
 use Rattle.sheets.specs.Questions.{rowsQuestions, loadNamesRefusal, namesQuestions, saveNamesRefusal}
-use Rattle.sheets.specs.Passing.{Name, LoadNamesPass, SaveNamesPass}
-use Rattle.sheets.specs.Calls.{namesAfter, lengthsAfter, sheetAfter, LoadKeeps, SaveKeeps}
+use Rattle.sheets.specs.PassingLaws.{Name, LoadNamesPass, SaveNamesPass}
+use Rattle.sheets.specs.Calls.{namesAfter, lengthsAfter, sheetAfter}
+use Rattle.sheets.specs.CallsLaws.{LoadKeeps, SaveKeeps}
 use Rattle.sheets.proofs.Readings.{same-reading}
 use Rattle.sheets.proofs.Numbers.{name-exactly}
 use Rattle.sheets.proofs.Saving.{namesRows}

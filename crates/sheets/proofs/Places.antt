@@ -9,15 +9,15 @@ use native.Mathlib.Omega.{arith}
 use lib.ListN.{length, take}
 use Rattle.semigroups.proofs.Booleans.{trichotomy}
 use Rattle.sheets.specs.Grammar.{isPrintable, isTextData, isQuotable}
-use Rattle.sheets.specs.Readings.{Begins, Offending}
-use Rattle.sheets.specs.Automaton.{number-part, name-part, State, opening, bare, quoted, shut, cr, line, dead, afterField, bareStep, openingStep, step, accepting, isDead, run, accepts, placeFrom, place}
+use Rattle.sheets.specs.Readings.{BeginsSheet, Offending}
+use Rattle.sheets.specs.InnerAutomaton.{number-part, name-part, State, opening, bare, quoted, shut, cr, line, dead, afterField, bareStep, openingStep, stateAfter, accepting, isDead, run, accepts, placeFrom, place}
 use Rattle.sheets.proofs.Soundness.{accepted-passes}
 use Rattle.sheets.proofs.Completeness.{run-append, passes-accepted}
 
 -- ---- dead and live
 
 pub run-dead : (t : List ℕ) → run dead t ≡ dead
-unfolding run step
+unfolding run stateAfter
 run-dead [] = refl
 run-dead (b ∷ t) = run-dead t
 
@@ -36,7 +36,7 @@ completion line = []
 completion dead = []
 
 completes : (q : State) → isDead q ≡ false → accepting (run q (completion q)) ≡ true
-unfolding completion run step openingStep bareStep afterField isTextData isQuotable isPrintable accepting isDead
+unfolding completion run stateAfter openingStep bareStep afterField isTextData isQuotable isPrintable accepting isDead
 completes (opening number-part) h = refl
 completes (opening name-part) h = refl
 completes (bare number-part) h = refl
@@ -60,14 +60,14 @@ dead-same line h = absurd (true≢false (sym h))
 dead-same dead h = refl
 
 -- A beginning that the reading gets through alive is completed to a text that passes 40.
-live-begins : (p : List ℕ) → isDead (run (opening number-part) p) ≡ false → Begins p
+live-begins : (p : List ℕ) → isDead (run (opening number-part) p) ≡ false → BeginsSheet p
 unfolding accepts
 live-begins p h =
     let w = completion (run (opening number-part) p) in
     record { rest = w; passes = accepted-passes (p ++ w) (ap accepting (run-append (opening number-part) p w) ∙ completes (run (opening number-part) p) h) }
 
 -- No text that passes 40 starts with a beginning on which the reading dies.
-dead-ends : (p : List ℕ) → isDead (run (opening number-part) p) ≡ true → Begins p → ⊥
+dead-ends : (p : List ℕ) → isDead (run (opening number-part) p) ≡ true → BeginsSheet p → ⊥
 unfolding accepts accepting
 dead-ends p h b =
     let a = passes-accepted (p ++ b .rest) (b .passes) in
@@ -79,9 +79,9 @@ dead-ends p h b =
 place-within : (q : State) (t : List ℕ) → placeFrom q t ≤ length t
 unfolding placeFrom
 place-within q [] = omega arith
-place-within q (b ∷ t) = go (place-within (step q b) t) (isDead (step q b))
+place-within q (b ∷ t) = go (place-within (stateAfter q b) t) (isDead (stateAfter q b))
   where
-    go : placeFrom (step q b) t ≤ length t → (d : Bool) → cond d 0 (suc (placeFrom (step q b) t)) ≤ suc (length t)
+    go : placeFrom (stateAfter q b) t ≤ length t → (d : Bool) → cond d 0 (suc (placeFrom (stateAfter q b) t)) ≤ suc (length t)
     go ih true = omega arith
     go ih false = omega arith
 
@@ -89,10 +89,10 @@ place-within q (b ∷ t) = go (place-within (step q b) t) (isDead (step q b))
 place-live : (q : State) (t : List ℕ) → isDead q ≡ false → isDead (run q (take (placeFrom q t) t)) ≡ false
 unfolding placeFrom run
 place-live q [] h = h
-place-live q (b ∷ t) h = go (place-live (step q b) t) (isDead (step q b)) refl
+place-live q (b ∷ t) h = go (place-live (stateAfter q b) t) (isDead (stateAfter q b)) refl
   where
-    go : (isDead (step q b) ≡ false → isDead (run (step q b) (take (placeFrom (step q b) t) t)) ≡ false) → (d : Bool) → isDead (step q b) ≡ d
-        → isDead (run q (take (cond d 0 (suc (placeFrom (step q b) t))) (b ∷ t))) ≡ false
+    go : (isDead (stateAfter q b) ≡ false → isDead (run (stateAfter q b) (take (placeFrom (stateAfter q b) t) t)) ≡ false) → (d : Bool) → isDead (stateAfter q b) ≡ d
+        → isDead (run q (take (cond d 0 (suc (placeFrom (stateAfter q b) t))) (b ∷ t))) ≡ false
     go ih true e = h
     go ih false e = ih e
 
@@ -101,11 +101,11 @@ place-dead : (q : State) (t : List ℕ) (j : ℕ) → placeFrom q t < j → j �
 unfolding placeFrom run isDead
 place-dead q [] j l m = let w : ⊥ = omega arith in absurd w
 place-dead q (b ∷ t) zero l m = let w : ⊥ = omega arith in absurd w
-place-dead q (b ∷ t) (suc j) l m = go (place-dead (step q b) t j) (isDead (step q b)) refl l
+place-dead q (b ∷ t) (suc j) l m = go (place-dead (stateAfter q b) t j) (isDead (stateAfter q b)) refl l
   where
-    go : (placeFrom (step q b) t < j → j ≤ length t → isDead (run (step q b) (take j t)) ≡ true) → (d : Bool) → isDead (step q b) ≡ d
-        → cond d 0 (suc (placeFrom (step q b) t)) < suc j → isDead (run (step q b) (take j t)) ≡ true
-    go ih true e k = ap isDead (ap (λ (p : State). run p (take j t)) (dead-same (step q b) e) ∙ run-dead (take j t))
+    go : (placeFrom (stateAfter q b) t < j → j ≤ length t → isDead (run (stateAfter q b) (take j t)) ≡ true) → (d : Bool) → isDead (stateAfter q b) ≡ d
+        → cond d 0 (suc (placeFrom (stateAfter q b) t)) < suc j → isDead (run (stateAfter q b) (take j t)) ≡ true
+    go ih true e k = ap isDead (ap (λ (p : State). run p (take j t)) (dead-same (stateAfter q b) e) ∙ run-dead (take j t))
     go ih false e k = ih (omega arith) (omega arith)
 
 -- The place where the reading stops is the offending place.

@@ -11,14 +11,15 @@ use lib.ListN.{length, take, drop}
 use borrow.Author.Tests.{leb-true, le-leb, lt-leb}
 use Rattle.semigroups.specs.Lists.{all, firstOf, member}
 use Rattle.semigroups.specs.Tables.{Element, isElement}
-use Rattle.semigroups.specs.Questions.{Question, ask, seek, Refusal, no, firstNo, Passed, numbers}
+use Rattle.semigroups.specs.Questions.{Question, ask, seek, Refusal, firstNo}
+use Rattle.semigroups.specs.QuestionsLaws.{no, Passed, numbers}
 use Rattle.semigroups.proofs.Booleans.{and-left, and-right}
 use Rattle.semigroups.proofs.Lists.{is-element, element-is}
 use Rattle.semigroups.proofs.Questions.{all-passed, ask-passed, failed-before, passed-before, both-passed, Listed, listed, listed-append}
 use Rattle.csv.specs.Decimals.{numeral}
 use Rattle.csv.specs.Every.{Every}
 use Rattle.sheets.specs.Grammar.{Row}
-use Rattle.sheets.specs.Readings.{Reading, offence, rowsIn, rowsNames, namesIn}
+use Rattle.sheets.specs.Readings.{Reading, offence, readRows, rowsNames, namesIn}
 use Rattle.sheets.specs.Names.{isName, isNumber, namesText, namesAt}
 use Rattle.sheets.specs.Questions.{placeUnless, rowsQuestions, loadNamesQuestions, loadNamesRefusal, namesQuestions, saveNamesQuestions, saveNamesRefusal}
 use Rattle.sheets.proofs.Numbers.{number-is, is-number}
@@ -93,26 +94,26 @@ module _ {t : List ℕ} (w : Reading t) (nameRoom lengthRoom : ℕ) where
   unfolding loadNamesRefusal firstOf orElse
   form-refused k e = rw e
 
-  behind-form : offence w ≡ none → loadNamesRefusal w nameRoom lengthRoom ≡ firstNo (rowsQuestions 1 (rowsIn w) ++ rooms)
+  behind-form : offence w ≡ none → loadNamesRefusal w nameRoom lengthRoom ≡ firstNo (rowsQuestions 1 (readRows w) ++ rooms)
   unfolding loadNamesRefusal firstOf orElse
   behind-form e = rw e
 
-  pub rows-refused : (r : Refusal) → offence w ≡ none → firstNo (rowsQuestions 1 (rowsIn w)) ≡ some r → loadNamesRefusal w nameRoom lengthRoom ≡ some r
-  rows-refused r e h = behind-form e ∙ failed-before (rowsQuestions 1 (rowsIn w)) rooms h
+  pub rows-refused : (r : Refusal) → offence w ≡ none → firstNo (rowsQuestions 1 (readRows w)) ≡ some r → loadNamesRefusal w nameRoom lengthRoom ≡ some r
+  rows-refused r e h = behind-form e ∙ failed-before (rowsQuestions 1 (readRows w)) rooms h
 
-  behind-rows : offence w ≡ none → firstNo (rowsQuestions 1 (rowsIn w)) ≡ none → loadNamesRefusal w nameRoom lengthRoom ≡ firstNo rooms
-  behind-rows e h = behind-form e ∙ passed-before (rowsQuestions 1 (rowsIn w)) rooms h
+  behind-rows : offence w ≡ none → firstNo (rowsQuestions 1 (readRows w)) ≡ none → loadNamesRefusal w nameRoom lengthRoom ≡ firstNo rooms
+  behind-rows e h = behind-form e ∙ passed-before (rowsQuestions 1 (readRows w)) rooms h
 
-  pub names-refused : offence w ≡ none → firstNo (rowsQuestions 1 (rowsIn w)) ≡ none → nameRoom < length (flatten (namesIn w)) → loadNamesRefusal w nameRoom lengthRoom ≡ some (no 27 [])
+  pub names-refused : offence w ≡ none → firstNo (rowsQuestions 1 (readRows w)) ≡ none → nameRoom < length (flatten (namesIn w)) → loadNamesRefusal w nameRoom lengthRoom ≡ some (no 27 [])
   unfolding firstOf orElse
   names-refused e h m = behind-rows e h ∙ rw (lt-leb (length (flatten (namesIn w))) nameRoom m)
 
-  pub lengths-refused : offence w ≡ none → firstNo (rowsQuestions 1 (rowsIn w)) ≡ none → length (flatten (namesIn w)) ≤ nameRoom → lengthRoom < length (namesIn w)
+  pub lengths-refused : offence w ≡ none → firstNo (rowsQuestions 1 (readRows w)) ≡ none → length (flatten (namesIn w)) ≤ nameRoom → lengthRoom < length (namesIn w)
       → loadNamesRefusal w nameRoom lengthRoom ≡ some (no 27 [])
   unfolding firstOf orElse
   lengths-refused e h m u = behind-rows e h ∙ rw (le-leb (length (flatten (namesIn w))) nameRoom m, lt-leb (length (namesIn w)) lengthRoom u)
 
-  pub load-passes : offence w ≡ none → firstNo (rowsQuestions 1 (rowsIn w)) ≡ none → length (flatten (namesIn w)) ≤ nameRoom → length (namesIn w) ≤ lengthRoom
+  pub load-passes : offence w ≡ none → firstNo (rowsQuestions 1 (readRows w)) ≡ none → length (flatten (namesIn w)) ≤ nameRoom → length (namesIn w) ≤ lengthRoom
       → loadNamesRefusal w nameRoom lengthRoom ≡ none
   unfolding firstOf orElse
   load-passes e h m u = behind-rows e h ∙ rw (le-leb (length (flatten (namesIn w))) nameRoom m, le-leb (length (namesIn w)) lengthRoom u)
@@ -120,7 +121,7 @@ module _ {t : List ℕ} (w : Reading t) (nameRoom lengthRoom : ℕ) where
   -- What loading shows of a text that it does not refuse.
   pub record LoadPassed : Type 0 where
     pub form : offence w ≡ none
-    pub records : Numbered 1 (rowsIn w)
+    pub records : Numbered 1 (readRows w)
     pub names-room : length (flatten (namesIn w)) ≤ nameRoom
     pub lengths-room : length (namesIn w) ≤ lengthRoom
 
@@ -128,11 +129,11 @@ module _ {t : List ℕ} (w : Reading t) (nameRoom lengthRoom : ℕ) where
   unfolding loadNamesRefusal
   load-passed h =
       let p = all-passed (loadNamesQuestions w nameRoom lengthRoom) .0 h in
-      let q = both-passed (rowsQuestions 1 (rowsIn w)) rooms (all-passed (rowsQuestions 1 (rowsIn w) ++ rooms) .1 (p .1)) in
+      let q = both-passed (rowsQuestions 1 (readRows w)) rooms (all-passed (rowsQuestions 1 (readRows w) ++ rooms) .1 (p .1)) in
       let r = all-passed rooms .0 (q .1) in
       record {
         form = p .0;
-        records = numbered (rowsIn w) (q .0);
+        records = numbered (readRows w) (q .0);
         names-room = leb-true (length (flatten (namesIn w))) nameRoom (ask-passed 27 (leb (length (flatten (namesIn w))) nameRoom) (r .0));
         lengths-room = leb-true (length (namesIn w)) lengthRoom (ask-passed 27 (leb (length (namesIn w)) lengthRoom) (r .1 .0));
       }
@@ -235,8 +236,8 @@ pub load-names-listed : {t : List ℕ} (w : Reading t) (nameRoom lengthRoom : �
 unfolding member all
 load-names-listed w nameRoom lengthRoom =
     let ns : List ℕ = 40 ∷ 42 ∷ 41 ∷ 27 ∷ [] in
-    listed-append ns (seek 40 (offence w) ∷ []) (rowsQuestions 1 (rowsIn w) ++ rooms w nameRoom lengthRoom) (listed ns (seek 40 (offence w) ∷ []) refl)
-    (listed-append ns (rowsQuestions 1 (rowsIn w)) (rooms w nameRoom lengthRoom) (listed ns (rowsQuestions 1 (rowsIn w)) (rows-numbers ns refl refl 1 (rowsIn w))) (listed ns (rooms w nameRoom lengthRoom) refl))
+    listed-append ns (seek 40 (offence w) ∷ []) (rowsQuestions 1 (readRows w) ++ rooms w nameRoom lengthRoom) (listed ns (seek 40 (offence w) ∷ []) refl)
+    (listed-append ns (rowsQuestions 1 (readRows w)) (rooms w nameRoom lengthRoom) (listed ns (rowsQuestions 1 (readRows w)) (rows-numbers ns refl refl 1 (readRows w))) (listed ns (rooms w nameRoom lengthRoom) refl))
 
 -- 42, 41 and 28.
 pub save-names-listed : (bytes lengths : List ℕ) (room : ℕ) → Listed (42 ∷ 41 ∷ 28 ∷ []) (saveNamesQuestions bytes lengths room)

@@ -6,8 +6,9 @@ use mathlib.Core.List.{List, [], _∷_}
 use mathlib.Core.Option.{Option, some}
 use Prim.Native.Nat.{ℕ}
 use Rattle.semigroups.proofs.Booleans.{clash}
-use Rattle.sheets.specs.Readings.{Reading, passes, offends, offence, Readable, SameReading}
-use Rattle.sheets.specs.Automaton.{accepts, place}
+use Rattle.sheets.specs.Readings.{Reading, passes, offends, offence}
+use Rattle.sheets.specs.ReadingsLaws.{Readable, SameReading}
+use Rattle.sheets.specs.InnerAutomaton.{accepts, place}
 use Rattle.sheets.proofs.Soundness.{accepted-passes}
 use Rattle.sheets.proofs.Completeness.{passes-accepted}
 use Rattle.sheets.proofs.Places.{place-offending, offending-unique}

@@ -11,15 +11,16 @@ use lib.ListN.{length, drop, set, length-append, length-drop, length-map}
 use lib.Seq.{sets, drop-drop, drop-append-seam}
 use borrow.Author.Tests.{lt-ltb, le-ltb}
 use Rattle.semigroups.specs.Lists.{firstOf}
-use Rattle.semigroups.specs.Questions.{no, firstNo}
+use Rattle.semigroups.specs.QuestionsLaws.{no}
+use Rattle.semigroups.specs.Questions.{firstNo}
 use Rattle.semigroups.specs.Calls.{overwritten}
 use Rattle.csv.specs.Every.{Every}
 use Rattle.csv.proofs.Writing.{Writing, write-first, write-length, write-room, write-next, write-last, sets-overwritten}
-use Rattle.sheets.specs.Grammar.{Entry, Sheet, ProperEntry, ProperSheet, fieldText, entryText, entriesText, sheetText, Passes, Row, entryRow, entriesRows, sheetRows}
+use Rattle.sheets.specs.Grammar.{Entry, Sheet, ProperEntry, ProperSheet, fieldText, entryText, entriesText, sheetText, IsSheet, Row, entryRow, entriesRows, sheetRows}
 use Rattle.sheets.specs.Readings.{rowsNames}
 use Rattle.sheets.specs.Names.{isName, isNumber}
 use Rattle.sheets.specs.Questions.{rowsQuestions}
-use Rattle.sheets.specs.Cursor.{valueAt, sizeAt}
+use Rattle.sheets.specs.InnerCursor.{valueAt, sizeAt}
 use Rattle.sheets.proofs.Completeness.{entries-some}
 use Rattle.sheets.proofs.Numbers.{name-is, number-is}
 use Rattle.sheets.proofs.Questions.{wrong-number, wrong-name, next-record, Names, numbered}
@@ -180,12 +181,12 @@ module _ (t : List ℕ) (at : ℕ) where
   pub turn : {b : Bool} {rows : List Row} → Rest t at b rows → b ≡ true → Turn rows
   turn {rows = rows} r e = turn-of rows (sheet-left r e)
 
-pub all-rows : (t : List ℕ) (p : Passes t) → Rest t 0 true (sheetRows (p .sheet))
+pub all-rows : (t : List ℕ) (p : IsSheet t) → Rest t 0 true (sheetRows (p .sheet))
 all-rows t p = more (p .sheet) (p .proper) (p .text)
 
 -- ---- judging; the record with place k begins at `at`
 
-pub record Judging (t : List ℕ) (p : Passes t) (at k total : ℕ) (b : Bool) : Type 0 where
+pub record Judging (t : List ℕ) (p : IsSheet t) (at k total : ℕ) (b : Bool) : Type 0 where
   pub rows : List Row
   pub rest : Rest t at b rows
   pub refusal : firstNo (rowsQuestions 1 (sheetRows (p .sheet))) ≡ firstNo (rowsQuestions k rows)
@@ -195,10 +196,10 @@ pub record Judging (t : List ℕ) (p : Passes t) (at k total : ℕ) (b : Bool) :
   pub high : k ≤ 121
   pub few : total ≤ k * 40
 
-pub judge-first : (t : List ℕ) (p : Passes t) → Judging t p 0 1 0 true
+pub judge-first : (t : List ℕ) (p : IsSheet t) → Judging t p 0 1 0 true
 judge-first t p = record { rows = sheetRows (p .sheet); rest = all-rows t p; refusal = refl; count = refl; bytes = omega arith; low = omega arith; high = omega arith; few = omega arith }
 
-module _ {t : List ℕ} {p : Passes t} {at k total : ℕ} {b : Bool} (j : Judging t p at k total b) where
+module _ {t : List ℕ} {p : IsSheet t} {at k total : ℕ} {b : Bool} (j : Judging t p at k total b) where
   pub judge-turn : b ≡ true → Turn t at (j .rows)
   judge-turn e = turn t at (j .rest) e
 
@@ -259,14 +260,14 @@ module _ {t : List ℕ} {p : Passes t} {at k total : ℕ} {b : Bool} (j : Judgin
 
 -- ---- writing; k names are written, up to `start`, and the next record begins at `at`
 
-pub record Filling (t : List ℕ) (p : Passes t) (names₀ lengths₀ names lengths : List ℕ) (at start k : ℕ) (b : Bool) : Type 0 where
+pub record Filling (t : List ℕ) (p : IsSheet t) (names₀ lengths₀ names lengths : List ℕ) (at start k : ℕ) (b : Bool) : Type 0 where
   pub rows : List Row
   pub rest : Rest t at b rows
   pub valid : Names (rowsNames rows)
   pub names-left : Writing names₀ 0 (flatten (rowsNames (sheetRows (p .sheet)))) (flatten (rowsNames rows)) names start
   pub lengths-left : Writing lengths₀ 0 (map length (rowsNames (sheetRows (p .sheet)))) (map length (rowsNames rows)) lengths k
 
-pub fill-first : (t : List ℕ) (p : Passes t) (names lengths : List ℕ) → firstNo (rowsQuestions 1 (sheetRows (p .sheet))) ≡ none → Filling t p names lengths names lengths 0 0 0 true
+pub fill-first : (t : List ℕ) (p : IsSheet t) (names lengths : List ℕ) → firstNo (rowsQuestions 1 (sheetRows (p .sheet))) ≡ none → Filling t p names lengths names lengths 0 0 0 true
 fill-first t p names lengths h =
     record {
       rows = sheetRows (p .sheet);
@@ -276,7 +277,7 @@ fill-first t p names lengths h =
       lengths-left = write-first lengths 0 (map length (rowsNames (sheetRows (p .sheet))));
     }
 
-module _ {t : List ℕ} {p : Passes t} {names₀ lengths₀ names lengths : List ℕ} {at start k : ℕ} {b : Bool} (f : Filling t p names₀ lengths₀ names lengths at start k b) where
+module _ {t : List ℕ} {p : IsSheet t} {names₀ lengths₀ names lengths : List ℕ} {at start k : ℕ} {b : Bool} (f : Filling t p names₀ lengths₀ names lengths at start k b) where
   pub fill-turn : b ≡ true → Turn t at (f .rows)
   fill-turn e = turn t at (f .rest) e
 

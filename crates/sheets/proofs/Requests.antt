@@ -1,4 +1,4 @@
--- What 02, (iii) asks is so: each field is a law of its subject, with instances in Examples. Shown here: which names need quote marks. Assumes nothing.
+-- What RULES 20 asks is so: each field is a law of its subject, with instances in Examples. Shown here: which names need quote marks. Assumes nothing.
 use mathlib.Core.Path.{_≡_, refl, sym, ap, _∙_}
 use mathlib.Core.Bool.{true, _||_, or-true}
 use mathlib.Core.Logic.{_⊎_, inl, inr}
@@ -8,7 +8,7 @@ use borrow.Author.Tests.{eq-eqb, eqb-true}
 use lib.Dec.{eqb}
 use Rattle.semigroups.proofs.Booleans.{impossible, or-holds}
 use Rattle.sheets.specs.Names.{isNumber, needsQuotes}
-use Rattle.sheets.specs.Automaton.{run, accepting, accepts, placeFrom, place}
+use Rattle.sheets.specs.InnerAutomaton.{run, accepting, accepts, placeFrom, place}
 use Rattle.sheets.specs.Requests.{NameRequests}
 use Rattle.sheets.proofs.Numbers.{name-exactly, number-is, is-number}
 use Rattle.sheets.proofs.Readings.{read, same-reading, refused-reading}

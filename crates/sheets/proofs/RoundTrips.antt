@@ -11,20 +11,22 @@ use lib.Seq.{take-append-seam, drop-append-seam, length-take-le, take-at}
 use borrow.Author.Tests.{le-leb}
 use Rattle.semigroups.specs.Lists.{sum}
 use Rattle.semigroups.specs.Tables.{Element}
-use Rattle.semigroups.specs.Questions.{Refusal, firstNo, Passed}
+use Rattle.semigroups.specs.Questions.{Refusal, firstNo}
+use Rattle.semigroups.specs.QuestionsLaws.{Passed}
 use Rattle.semigroups.specs.Calls.{Answer, gives, givenUnless, overwritten, writtenUnless}
 use Rattle.semigroups.proofs.Sums.{sum-map}
 use Rattle.semigroups.proofs.Questions.{all-passed}
 use Rattle.csv.specs.Every.{Every}
-use Rattle.csv.specs.Rounds.{given}
+use Rattle.csv.specs.RoundsLaws.{given}
 use Rattle.csv.proofs.Writing.{overwritten-length, overwritten-twice}
 use Rattle.csv.proofs.RoundTrips.{given-passed}
-use Rattle.sheets.specs.Grammar.{Passes, Sheet, Entry, Row, entriesText, sheetText, sheetRows, entriesRows}
-use Rattle.sheets.specs.Readings.{Reading, passes, offends, Readable, offence, rowsIn, rowsNames, namesIn}
+use Rattle.sheets.specs.Grammar.{IsSheet, Sheet, Entry, Row, entriesText, sheetText, sheetRows, entriesRows}
+use Rattle.sheets.specs.Readings.{Reading, passes, offends, offence, readRows, rowsNames, namesIn}
+use Rattle.sheets.specs.ReadingsLaws.{Readable}
 use Rattle.sheets.specs.Names.{namesText, namesAt}
 use Rattle.sheets.specs.Questions.{rowsQuestions, namesQuestions, loadNamesRefusal, saveNamesRefusal}
 use Rattle.sheets.specs.Calls.{loadNamesAnswer, namesAfter, lengthsAfter, saveNamesAnswer, sheetAfter}
-use Rattle.sheets.specs.Rounds.{NameBuffers, sheetHeld, namesSaved, nameRound, nameRounds, SheetUnchanged, SavedNamesAreLoaded, LastBreakMayLack, SavedSheetStays, LoadedSheetStays}
+use Rattle.sheets.specs.RoundsLaws.{NameBuffers, sheetHeld, namesSaved, nameRound, nameRounds, SheetUnchanged, SavedNamesAreLoaded, LastBreakMayLack, SavedSheetStays, LoadedSheetStays}
 use Rattle.sheets.proofs.Readings.{same-reading}
 use Rattle.sheets.proofs.Numbers.{name-printable}
 use Rattle.sheets.proofs.Saving.{Text, namesRows, saved-reading, names-of-rows}
@@ -43,7 +45,7 @@ texts (s ∷ l) h = (name-printable s (h .0), texts l (h .1))
 
 -- ---- loading the text of names
 
-saved-rows-in : (l : List (List ℕ)) → Kept l → (t : List ℕ) → t ≡ namesText l → (w : Reading t) → (offence w ≡ none) × (rowsIn w ≡ namesRows 1 l)
+saved-rows-in : (l : List (List ℕ)) → Kept l → (t : List ℕ) → t ≡ namesText l → (w : Reading t) → (offence w ≡ none) × (readRows w ≡ namesRows 1 l)
 saved-rows-in [] k t e w = let c = k .count in let z : ⊥ = omega arith in absurd z
 saved-rows-in (s ∷ l) k t e w = let x = texts (s ∷ l) (k .names) in saved-reading t s l e (x .0) (x .1) w
 
@@ -301,7 +303,7 @@ loaded-unchanged read b count h r n =
 closing : Sheet → Sheet
 closing s = record { first = s .first; others = s .others; closed = true }
 
-closed-passes : (t : List ℕ) (p : Passes t) → p .sheet .closed ≡ false → Passes (t ++ 13 ∷ 10 ∷ [])
+closed-passes : (t : List ℕ) (p : IsSheet t) → p .sheet .closed ≡ false → IsSheet (t ++ 13 ∷ 10 ∷ [])
 unfolding sheetText closing
 closed-passes t p e =
     let s = p .sheet in
@@ -311,7 +313,7 @@ closed-passes t p e =
 pub loads-closed : LastBreakMayLack
 unfolding loadNamesAnswer namesAfter lengthsAfter loadNamesRefusal sheetRows closing closed-passes
 loads-closed t p e names lengths =
-    let says : (v : Reading t) (w : Reading (t ++ 13 ∷ 10 ∷ [])) → (offence v ≡ offence w) × (rowsIn v ≡ rowsIn w) =
+    let says : (v : Reading t) (w : Reading (t ++ 13 ∷ 10 ∷ [])) → (offence v ≡ offence w) × (readRows v ≡ readRows w) =
     λ v w. (let a = same-reading t v (passes p) in let b = same-reading (t ++ 13 ∷ 10 ∷ []) (passes (closed-passes t p e)) w in (a .0 ∙ b .0, a .1 ∙ b .1)) in
     record {
       count = λ v w. rw (says v w .0, says v w .1) refl;

@@ -9,8 +9,8 @@ use lib.Dec.{eqb}
 use lib.ListN.{length, length-append}
 use Rattle.csv.specs.Records.{onto}
 use Rattle.csv.specs.Every.{Every}
-use Rattle.sheets.specs.Grammar.{isPrintable, isTextData, isQuotable, Item, single, twice, Field, non-escaped, escaped, Entry, Sheet, ProperItem, ProperField, ProperEntry, ProperSheet, itemText, fieldText, entryText, entriesText, sheetText, Passes, itemValue, itemsValue, fieldValue, Row, entryRow, entriesRows, sheetRows}
-use Rattle.sheets.specs.Automaton.{Part, number-part, name-part, State, opening, bare, quoted, shut, cr, line, dead, afterField, bareStep, openingStep, step}
+use Rattle.sheets.specs.Grammar.{isPrintable, isTextData, isQuotable, Item, single, twice, Field, non-escaped, escaped, Entry, Sheet, ProperItem, ProperField, ProperEntry, ProperSheet, itemText, fieldText, entryText, entriesText, sheetText, IsSheet, itemValue, itemsValue, fieldValue, Row, entryRow, entriesRows, sheetRows}
+use Rattle.sheets.specs.InnerAutomaton.{Column, number-part, name-part, State, opening, bare, quoted, shut, cr, line, dead, afterField, bareStep, openingStep, stateAfter}
 use Rattle.sheets.proofs.Bytes.{bare-quote, inside-quote}
 use Rattle.sheets.proofs.Completeness.{opening-bare, bare-bare, quoted-inside, Ended, ended-opening, ended-bare, ended-shut, entries-some}
 
@@ -41,7 +41,7 @@ endFields dead = []
 
 unfoldable fieldsFrom : State → List ℕ → List (List ℕ)
 fieldsFrom q [] = endFields q
-fieldsFrom q (b ∷ t) = add q b (fieldsFrom (step q b) t)
+fieldsFrom q (b ∷ t) = add q b (fieldsFrom (stateAfter q b) t)
 
 unfoldable paired : List (List ℕ) → List Row
 paired [] = []
@@ -54,20 +54,20 @@ rowsOf t = paired (fieldsFrom (opening number-part) t)
 
 -- ---- a byte
 
-fields-opening : (n : Part) (b : ℕ) (t : List ℕ) → isTextData b ≡ true → fieldsFrom (opening n) (b ∷ t) ≡ onto b (fieldsFrom (bare n) t)
+fields-opening : (n : Column) (b : ℕ) (t : List ℕ) → isTextData b ≡ true → fieldsFrom (opening n) (b ∷ t) ≡ onto b (fieldsFrom (bare n) t)
 unfolding fieldsFrom add openingAdd
 fields-opening n b t h = simp (opening-bare n b h, bare-quote b h, h)
 
-fields-bare : (n : Part) (b : ℕ) (t : List ℕ) → isTextData b ≡ true → fieldsFrom (bare n) (b ∷ t) ≡ onto b (fieldsFrom (bare n) t)
+fields-bare : (n : Column) (b : ℕ) (t : List ℕ) → isTextData b ≡ true → fieldsFrom (bare n) (b ∷ t) ≡ onto b (fieldsFrom (bare n) t)
 unfolding fieldsFrom add
 fields-bare n b t h = simp (bare-bare n b h, h)
 
-fields-inside : (n : Part) (b : ℕ) (t : List ℕ) → isQuotable b ≡ true → fieldsFrom (quoted n) (b ∷ t) ≡ onto b (fieldsFrom (quoted n) t)
+fields-inside : (n : Column) (b : ℕ) (t : List ℕ) → isQuotable b ≡ true → fieldsFrom (quoted n) (b ∷ t) ≡ onto b (fieldsFrom (quoted n) t)
 unfolding fieldsFrom add
 fields-inside n b t h = simp (quoted-inside n b h, inside-quote b h)
 
-fields-twice : (n : Part) (t : List ℕ) → fieldsFrom (quoted n) (34 ∷ 34 ∷ t) ≡ onto 34 (fieldsFrom (quoted n) t)
-unfolding fieldsFrom add step
+fields-twice : (n : Column) (t : List ℕ) → fieldsFrom (quoted n) (34 ∷ 34 ∷ t) ≡ onto 34 (fieldsFrom (quoted n) t)
+unfolding fieldsFrom add stateAfter
 fields-twice n t = refl
 
 -- ---- a field
@@ -82,27 +82,27 @@ unfolding ontoAll onto
 onto-all [] l = refl
 onto-all (b ∷ v) l = rw (onto-all v l)
 
-all-bare : (n : Part) (s u : List ℕ) → Every (λ b. isTextData b ≡ true) s → fieldsFrom (bare n) (s ++ u) ≡ ontoAll s (fieldsFrom (bare n) u)
+all-bare : (n : Column) (s u : List ℕ) → Every (λ b. isTextData b ≡ true) s → fieldsFrom (bare n) (s ++ u) ≡ ontoAll s (fieldsFrom (bare n) u)
 unfolding ontoAll
 all-bare n [] u h = refl
 all-bare n (b ∷ s) u h = fields-bare n b (s ++ u) (h .0) ∙ ap (onto b) (all-bare n s u (h .1))
 
-all-items : (n : Part) (i : List Item) (u : List ℕ) → Every ProperItem i → fieldsFrom (quoted n) (flatMap itemText i ++ u) ≡ ontoAll (itemsValue i) (fieldsFrom (quoted n) u)
+all-items : (n : Column) (i : List Item) (u : List ℕ) → Every ProperItem i → fieldsFrom (quoted n) (flatMap itemText i ++ u) ≡ ontoAll (itemsValue i) (fieldsFrom (quoted n) u)
 unfolding ontoAll itemsValue itemValue flatMap itemText
 all-items n [] u h = refl
 all-items n (single b ∷ i) u h = fields-inside n b (flatMap itemText i ++ u) (h .0) ∙ ap (onto b) (all-items n i u (h .1))
 all-items n (twice ∷ i) u h = fields-twice n (flatMap itemText i ++ u) ∙ ap (onto 34) (all-items n i u (h .1))
 
-fields-shut : (n : Part) (u : List ℕ) → fieldsFrom (quoted n) (34 ∷ u) ≡ fieldsFrom (shut n) u
-unfolding fieldsFrom add step
+fields-shut : (n : Column) (u : List ℕ) → fieldsFrom (quoted n) (34 ∷ u) ≡ fieldsFrom (shut n) u
+unfolding fieldsFrom add stateAfter
 fields-shut n u = refl
 
-fields-quote : (n : Part) (u : List ℕ) → fieldsFrom (opening n) (34 ∷ u) ≡ fieldsFrom (quoted n) u
-unfolding fieldsFrom add step openingAdd openingStep
+fields-quote : (n : Column) (u : List ℕ) → fieldsFrom (opening n) (34 ∷ u) ≡ fieldsFrom (quoted n) u
+unfolding fieldsFrom add stateAfter openingAdd openingStep
 fields-quote n u = refl
 
 -- What follows a field is read alike from the three states behind it.
-field-rows : (n : Part) (f : Field) (u : List ℕ) (l : List (List ℕ)) → ProperField f → ((q : State) → Ended n q → fieldsFrom q u ≡ [] ∷ l) → fieldsFrom (opening n) (fieldText f ++ u) ≡ fieldValue f ∷ l
+field-rows : (n : Column) (f : Field) (u : List ℕ) (l : List (List ℕ)) → ProperField f → ((q : State) → Ended n q → fieldsFrom q u ≡ [] ∷ l) → fieldsFrom (opening n) (fieldText f ++ u) ≡ fieldValue f ∷ l
 unfolding fieldText fieldValue ontoAll
 field-rows n (non-escaped []) u l h g = g (opening n) ended-opening
 field-rows n (non-escaped (b ∷ s)) u l h g =
@@ -114,13 +114,13 @@ field-rows n (escaped i) u l h g =
 -- ---- behind a field
 
 fields-comma : {q : State} → Ended number-part q → (u : List ℕ) → fieldsFrom q (44 ∷ u) ≡ [] ∷ fieldsFrom (opening name-part) u
-unfolding fieldsFrom add openingAdd step openingStep bareStep afterField isTextData isPrintable
+unfolding fieldsFrom add openingAdd stateAfter openingStep bareStep afterField isTextData isPrintable
 fields-comma ended-opening u = refl
 fields-comma ended-bare u = refl
 fields-comma ended-shut u = refl
 
 fields-break : {q : State} → Ended name-part q → (u : List ℕ) → fieldsFrom q (13 ∷ 10 ∷ u) ≡ [] ∷ fieldsFrom line u
-unfolding fieldsFrom add openingAdd step openingStep bareStep afterField isTextData isPrintable
+unfolding fieldsFrom add openingAdd stateAfter openingStep bareStep afterField isTextData isPrintable
 fields-break ended-opening u = refl
 fields-break ended-bare u = refl
 fields-break ended-shut u = refl
@@ -132,7 +132,7 @@ fields-end ended-bare = refl
 fields-end ended-shut = refl
 
 fields-line : (t : List ℕ) → 1 ≤ length t → fieldsFrom line t ≡ fieldsFrom (opening number-part) t
-unfolding fieldsFrom add step
+unfolding fieldsFrom add stateAfter
 fields-line [] h = let w : ⊥ = omega arith in absurd w
 fields-line (b ∷ t) h = refl
 
@@ -169,8 +169,8 @@ unfolding rowsOf sheetText sheetRows
 sheet-rows s p = entries-rows (s .first) (s .others) (s .closed) (p .0) (p .1)
 
 -- The values of a text that passes 40 are one list, whichever way it is taken apart.
-pub same-rows : (t : List ℕ) (p q : Passes t) → sheetRows (p .sheet) ≡ sheetRows (q .sheet)
+pub same-rows : (t : List ℕ) (p q : IsSheet t) → sheetRows (p .sheet) ≡ sheetRows (q .sheet)
 same-rows t p q = sym (rows-of p) ∙ rows-of q
   where
-    rows-of : (p : Passes t) → rowsOf t ≡ sheetRows (p .sheet)
+    rows-of : (p : IsSheet t) → rowsOf t ≡ sheetRows (p .sheet)
     rows-of p = ap rowsOf (p .text) ∙ sheet-rows (p .sheet) (p .proper)

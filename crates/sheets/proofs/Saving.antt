@@ -13,8 +13,8 @@ use Rattle.csv.specs.Decimals.{isDigit, numeral, numeralWithin}
 use Rattle.csv.proofs.Rows.{Digits, digit-range}
 use Rattle.csv.proofs.Decimals.{numeral-digits}
 use Rattle.csv.specs.Every.{Every}
-use Rattle.sheets.specs.Grammar.{isPrintable, isTextData, isQuotable, Item, single, twice, Field, non-escaped, escaped, Entry, Sheet, ProperItem, ProperField, ProperEntry, ProperSheet, itemText, fieldText, entryText, entriesText, sheetText, Passes, itemValue, itemsValue, fieldValue, Row, entryRow, entriesRows, sheetRows}
-use Rattle.sheets.specs.Readings.{Reading, passes, offence, rowsIn, rowsNames}
+use Rattle.sheets.specs.Grammar.{isPrintable, isTextData, isQuotable, Item, single, twice, Field, non-escaped, escaped, Entry, Sheet, ProperItem, ProperField, ProperEntry, ProperSheet, itemText, fieldText, entryText, entriesText, sheetText, IsSheet, itemValue, itemsValue, fieldValue, Row, entryRow, entriesRows, sheetRows}
+use Rattle.sheets.specs.Readings.{Reading, passes, offence, readRows, rowsNames}
 use Rattle.sheets.specs.Names.{needsQuotes, doubled, nameText, namesTextFrom, namesText}
 use Rattle.sheets.proofs.Readings.{same-reading}
 
@@ -148,12 +148,12 @@ sheet-proper k s l h hs = ((numeral-proper k, saved-proper s h), others-proper (
 
 -- ---- the laws
 
-saved-passes : (t : List ℕ) (s : List ℕ) (l : List (List ℕ)) → t ≡ namesText (s ∷ l) → Text s → Every Text l → Passes t
+saved-passes : (t : List ℕ) (s : List ℕ) (l : List (List ℕ)) → t ≡ namesText (s ∷ l) → Text s → Every Text l → IsSheet t
 unfolding namesText sheetText savedSheet
 saved-passes t s l e h hs = record { sheet = savedSheet 1 s l; proper = sheet-proper 1 s l h hs; text = e ∙ sym (saved-entries-text 1 s l) }
 
 -- Every reading of the text of one or more names says that it passes, and has these rows.
-pub saved-reading : (t : List ℕ) (s : List ℕ) (l : List (List ℕ)) → t ≡ namesText (s ∷ l) → Text s → Every Text l → (w : Reading t) → (offence w ≡ none) × (rowsIn w ≡ namesRows 1 (s ∷ l))
+pub saved-reading : (t : List ℕ) (s : List ℕ) (l : List (List ℕ)) → t ≡ namesText (s ∷ l) → Text s → Every Text l → (w : Reading t) → (offence w ≡ none) × (readRows w ≡ namesRows 1 (s ∷ l))
 unfolding saved-passes sheetRows savedSheet
 saved-reading t s l e h hs w =
     let same = same-reading t w (passes (saved-passes t s l e h hs)) in

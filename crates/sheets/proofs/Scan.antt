@@ -7,7 +7,7 @@ use mathlib.Core.Option.{Option, none, some, Option·none-ne-some, Option·some-
 use Prim.Native.Nat.{ℕ, suc, _+_, _≤_, _<_}
 use native.Mathlib.Omega.{arith}
 use lib.ListN.{length, getD, drop}
-use Rattle.sheets.specs.Automaton.{number-part, State, opening, dead, step, accepting, isDead, run, accepts, placeFrom, place}
+use Rattle.sheets.specs.InnerAutomaton.{number-part, State, opening, dead, stateAfter, accepting, isDead, run, accepts, placeFrom, place}
 use Rattle.sheets.proofs.Places.{run-dead}
 use Rattle.sheets.proofs.Cursor.{from-here, from-end}
 
@@ -21,15 +21,15 @@ pub scan-first : (t : List ℕ) → Scanning t 0 (opening number-part)
 unfolding accepts place
 scan-first t = record { inside = omega arith; accepted = refl; offence = let z : placeFrom (opening number-part) t ≡ 0 + placeFrom (opening number-part) t = omega arith in z }
 
-place-step : (q : State) (b : ℕ) (u : List ℕ) → isDead (step q b) ≡ false → placeFrom q (b ∷ u) ≡ suc (placeFrom (step q b) u)
+place-step : (q : State) (b : ℕ) (u : List ℕ) → isDead (stateAfter q b) ≡ false → placeFrom q (b ∷ u) ≡ suc (placeFrom (stateAfter q b) u)
 unfolding placeFrom
 place-step q b u e = rw e
 
-place-dead : (q : State) (b : ℕ) (u : List ℕ) → step q b ≡ dead → placeFrom q (b ∷ u) ≡ 0
+place-dead : (q : State) (b : ℕ) (u : List ℕ) → stateAfter q b ≡ dead → placeFrom q (b ∷ u) ≡ 0
 unfolding placeFrom isDead
 place-dead q b u e = rw e
 
-run-step : (q : State) (b : ℕ) (u : List ℕ) → run q (b ∷ u) ≡ run (step q b) u
+run-step : (q : State) (b : ℕ) (u : List ℕ) → run q (b ∷ u) ≡ run (stateAfter q b) u
 unfolding run
 run-step q b u = refl
 
@@ -42,20 +42,20 @@ module _ (t : List ℕ) (i : ℕ) (q : State) (s : Scanning t i q) where
     abbrev b : ℕ
     b = getD t i 0
 
-    pub scan-next : (r : State) → r ≡ step q b → isDead r ≡ false → Scanning t (i + 1) r
+    pub scan-next : (r : State) → r ≡ stateAfter q b → isDead r ≡ false → Scanning t (i + 1) r
     scan-next r e d =
-        let e2 : isDead (step q b) ≡ false = ap isDead (sym e) ∙ d in
+        let e2 : isDead (stateAfter q b) ≡ false = ap isDead (sym e) ∙ d in
         let here = from-here t i h in
         let step-place = place-step q b (drop (i + 1) t) e2 in
         let o : place t ≡ i + placeFrom q (b ∷ drop (i + 1) t) = s .offence ∙ ap (λ (l : List ℕ). i + placeFrom q l) here in
-        let o2 : place t ≡ (i + 1) + placeFrom (step q b) (drop (i + 1) t) = omega arith in
+        let o2 : place t ≡ (i + 1) + placeFrom (stateAfter q b) (drop (i + 1) t) = omega arith in
         record {
           inside = omega arith;
           accepted = s .accepted ∙ ap (λ (l : List ℕ). accepting (run q l)) here ∙ ap accepting (run-step q b (drop (i + 1) t)) ∙ ap (λ (x : State). accepting (run x (drop (i + 1) t))) (sym e);
           offence = o2 ∙ ap (λ (x : State). (i + 1) + placeFrom x (drop (i + 1) t)) (sym e);
         }
 
-    pub scan-dead : step q b ≡ dead → offenceOf t ≡ some i
+    pub scan-dead : stateAfter q b ≡ dead → offenceOf t ≡ some i
     unfolding accepting
     scan-dead e =
         let here = from-here t i h in

@@ -7,26 +7,26 @@ use Prim.Native.Nat.{ℕ}
 use lib.Dec.{eqb}
 use borrow.Author.Tests.{eqb-true}
 use Rattle.csv.specs.Every.{Every}
-use Rattle.sheets.specs.Grammar.{isTextData, isQuotable, Item, single, twice, Field, non-escaped, escaped, Entry, Sheet, ProperItem, ProperField, itemText, fieldText, entryText, entriesText, sheetText, Passes}
-use Rattle.sheets.specs.Automaton.{Part, number-part, name-part, State, opening, bare, quoted, shut, cr, line, dead, afterField, bareStep, openingStep, step, accepting, run, accepts}
+use Rattle.sheets.specs.Grammar.{isTextData, isQuotable, Item, single, twice, Field, non-escaped, escaped, Entry, Sheet, ProperItem, ProperField, itemText, fieldText, entryText, entriesText, sheetText, IsSheet}
+use Rattle.sheets.specs.InnerAutomaton.{Column, number-part, name-part, State, opening, bare, quoted, shut, cr, line, dead, afterField, bareStep, openingStep, stateAfter, accepting, run, accepts}
 
 -- Behind CR LF: nothing, or a sheet.
 pub data Line : List ℕ → Type 0 where
   no-more : Line []
-  more : {t : List ℕ} → Passes t → Line t
+  more : {t : List ℕ} → IsSheet t → Line t
 
 -- Behind a field.
-pub data Behind : Part → List ℕ → Type 0 where
+pub data Behind : Column → List ℕ → Type 0 where
   end : Behind name-part []
   break : {t : List ℕ} → Line t → Behind name-part (13 ∷ 10 ∷ t)
   comma : (f : Field) {u : List ℕ} → ProperField f → Behind name-part u → Behind number-part (44 ∷ fieldText f ++ u)
 
 pub data Left : State → List ℕ → Type 0 where
-  at-opening : {n : Part} (f : Field) {u : List ℕ} → ProperField f → Behind n u → Left (opening n) (fieldText f ++ u)
-  in-bare : {n : Part} (s : List ℕ) {u : List ℕ} → Every (λ b. isTextData b ≡ true) s → Behind n u → Left (bare n) (s ++ u)
-  in-quoted : {n : Part} (i : List Item) {u : List ℕ} → Every ProperItem i → Behind n u → Left (quoted n) (flatMap itemText i ++ 34 ∷ u)
-  at-shut : {n : Part} {u : List ℕ} → Behind n u → Left (shut n) u
-  at-twice : {n : Part} {t : List ℕ} → Left (quoted n) t → Left (shut n) (34 ∷ t)
+  at-opening : {n : Column} (f : Field) {u : List ℕ} → ProperField f → Behind n u → Left (opening n) (fieldText f ++ u)
+  in-bare : {n : Column} (s : List ℕ) {u : List ℕ} → Every (λ b. isTextData b ≡ true) s → Behind n u → Left (bare n) (s ++ u)
+  in-quoted : {n : Column} (i : List Item) {u : List ℕ} → Every ProperItem i → Behind n u → Left (quoted n) (flatMap itemText i ++ 34 ∷ u)
+  at-shut : {n : Column} {u : List ℕ} → Behind n u → Left (shut n) u
+  at-twice : {n : Column} {t : List ℕ} → Left (quoted n) t → Left (shut n) (34 ∷ t)
   at-cr : {t : List ℕ} → Line t → Left cr (10 ∷ t)
   at-line : {t : List ℕ} → Line t → Left line t
 
@@ -38,7 +38,7 @@ one e c = record { first = e; others = []; closed = c }
 before : Entry → Sheet → Sheet
 before e s = record { first = e; others = (s .first) ∷ (s .others); closed = s .closed }
 
-passes-record : (f g : Field) → ProperField f → ProperField g → (w : List ℕ) → Behind name-part w → Passes (fieldText f ++ (44 ∷ fieldText g ++ w))
+passes-record : (f g : Field) → ProperField f → ProperField g → (w : List ℕ) → Behind name-part w → IsSheet (fieldText f ++ (44 ∷ fieldText g ++ w))
 unfolding sheetText entriesText entryText one before
 passes-record f g p q w end =
     let e : Entry = record { number = f; name = g } in
@@ -51,36 +51,36 @@ passes-record f g p q w (break (more {t = t} h)) =
     let x = h .text in
     record { sheet = before e (h .sheet); proper = ((p, q), h .proper); text = rw x (simp append-assoc) }
 
-pub opening-passes : {t : List ℕ} → Left (opening number-part) t → Passes t
+pub opening-passes : {t : List ℕ} → Left (opening number-part) t → IsSheet t
 opening-passes (at-opening f p (comma g {u = w} q h)) = passes-record f g p q w h
 
 -- ---- one byte in front
 
-open-quote : {n : Part} {t : List ℕ} → Left (quoted n) t → Left (opening n) (34 ∷ t)
+open-quote : {n : Column} {t : List ℕ} → Left (quoted n) t → Left (opening n) (34 ∷ t)
 unfolding fieldText
 open-quote (in-quoted i p h) = simp append-assoc at (at-opening (escaped i) p h)
 
-open-bare : {n : Part} {t : List ℕ} (b : ℕ) → isTextData b ≡ true → Left (bare n) t → Left (opening n) (b ∷ t)
+open-bare : {n : Column} {t : List ℕ} (b : ℕ) → isTextData b ≡ true → Left (bare n) t → Left (opening n) (b ∷ t)
 unfolding fieldText
 open-bare b e (in-bare s p h) = at-opening (non-escaped (b ∷ s)) (e, p) h
 
-more-bare : {n : Part} {t : List ℕ} (b : ℕ) → isTextData b ≡ true → Left (bare n) t → Left (bare n) (b ∷ t)
+more-bare : {n : Column} {t : List ℕ} (b : ℕ) → isTextData b ≡ true → Left (bare n) t → Left (bare n) (b ∷ t)
 more-bare b e (in-bare s p h) = in-bare (b ∷ s) (e, p) h
 
-more-quoted : {n : Part} {t : List ℕ} (b : ℕ) → isQuotable b ≡ true → Left (quoted n) t → Left (quoted n) (b ∷ t)
+more-quoted : {n : Column} {t : List ℕ} (b : ℕ) → isQuotable b ≡ true → Left (quoted n) t → Left (quoted n) (b ∷ t)
 unfolding flatMap itemText
 more-quoted b e (in-quoted i p h) = in-quoted (single b ∷ i) (e, p) h
 
-close-quote : {n : Part} {t : List ℕ} → Left (shut n) t → Left (quoted n) (34 ∷ t)
+close-quote : {n : Column} {t : List ℕ} → Left (shut n) t → Left (quoted n) (34 ∷ t)
 unfolding flatMap itemText
 close-quote (at-shut h) = in-quoted [] tt h
 close-quote (at-twice (in-quoted i p h)) = in-quoted (twice ∷ i) (tt, p) h
 
-behind-opening : {n : Part} {t : List ℕ} → Behind n t → Left (opening n) t
+behind-opening : {n : Column} {t : List ℕ} → Behind n t → Left (opening n) t
 unfolding fieldText
 behind-opening h = at-opening (non-escaped []) tt h
 
-behind-bare : {n : Part} {t : List ℕ} → Behind n t → Left (bare n) t
+behind-bare : {n : Column} {t : List ℕ} → Behind n t → Left (bare n) t
 behind-bare h = in-bare [] tt h
 
 dead-left : {A : Type 0} {t : List ℕ} → Left dead t → A
@@ -92,7 +92,7 @@ comma-behind (at-opening f p h) = comma f p h
 cr-behind : {t : List ℕ} → Left cr t → Behind name-part (13 ∷ t)
 cr-behind (at-cr l) = break l
 
-behind-cons : (n : Part) (b : ℕ) (t : List ℕ) → Left (afterField n b) t → Behind n (b ∷ t)
+behind-cons : (n : Column) (b : ℕ) (t : List ℕ) → Left (afterField n b) t → Behind n (b ∷ t)
 unfolding afterField
 behind-cons number-part b t = go (eqb b 44) refl
   where
@@ -105,7 +105,7 @@ behind-cons name-part b t = go (eqb b 13) refl
     go true e l = rw (eqb-true b 13 e) (cr-behind l)
     go false e l = dead-left l
 
-bare-cons : (n : Part) (b : ℕ) (t : List ℕ) → Left (bareStep n b) t → Left (bare n) (b ∷ t)
+bare-cons : (n : Column) (b : ℕ) (t : List ℕ) → Left (bareStep n b) t → Left (bare n) (b ∷ t)
 unfolding bareStep
 bare-cons n b t = go (isTextData b) refl
   where
@@ -113,7 +113,7 @@ bare-cons n b t = go (isTextData b) refl
     go true e l = more-bare b e l
     go false e l = behind-bare (behind-cons n b t l)
 
-opening-cons : (n : Part) (b : ℕ) (t : List ℕ) → Left (openingStep n b) t → Left (opening n) (b ∷ t)
+opening-cons : (n : Column) (b : ℕ) (t : List ℕ) → Left (openingStep n b) t → Left (opening n) (b ∷ t)
 unfolding openingStep bareStep
 opening-cons n b t = go (eqb b 34) (isTextData b) refl refl
   where
@@ -122,8 +122,8 @@ opening-cons n b t = go (eqb b 34) (isTextData b) refl refl
     go false true e f l = open-bare b f l
     go false false e f l = behind-opening (behind-cons n b t l)
 
-quoted-cons : (n : Part) (b : ℕ) (t : List ℕ) → Left (step (quoted n) b) t → Left (quoted n) (b ∷ t)
-unfolding step
+quoted-cons : (n : Column) (b : ℕ) (t : List ℕ) → Left (stateAfter (quoted n) b) t → Left (quoted n) (b ∷ t)
+unfolding stateAfter
 quoted-cons n b t = go (eqb b 34) (isQuotable b) refl refl
   where
     go : (x y : Bool) → eqb b 34 ≡ x → isQuotable b ≡ y → Left (cond x (shut n) (cond y (quoted n) dead)) t → Left (quoted n) (b ∷ t)
@@ -131,8 +131,8 @@ quoted-cons n b t = go (eqb b 34) (isQuotable b) refl refl
     go false true e f l = more-quoted b f l
     go false false e f l = dead-left l
 
-shut-cons : (n : Part) (b : ℕ) (t : List ℕ) → Left (step (shut n) b) t → Left (shut n) (b ∷ t)
-unfolding step
+shut-cons : (n : Column) (b : ℕ) (t : List ℕ) → Left (stateAfter (shut n) b) t → Left (shut n) (b ∷ t)
+unfolding stateAfter
 shut-cons n b t = go (eqb b 34) refl
   where
     go : (x : Bool) → eqb b 34 ≡ x → Left (cond x (quoted n) (afterField n b)) t → Left (shut n) (b ∷ t)
@@ -142,16 +142,16 @@ shut-cons n b t = go (eqb b 34) refl
 line-of : {t : List ℕ} → Left line t → Line t
 line-of (at-line l) = l
 
-cr-cons : (b : ℕ) (t : List ℕ) → Left (step cr b) t → Left cr (b ∷ t)
-unfolding step
+cr-cons : (b : ℕ) (t : List ℕ) → Left (stateAfter cr b) t → Left cr (b ∷ t)
+unfolding stateAfter
 cr-cons b t = go (eqb b 10) refl
   where
     go : (x : Bool) → eqb b 10 ≡ x → Left (cond x line dead) t → Left cr (b ∷ t)
     go true e l = rw (eqb-true b 10 e) (at-cr (line-of l))
     go false e l = dead-left l
 
-left-cons : (q : State) (b : ℕ) (t : List ℕ) → Left (step q b) t → Left q (b ∷ t)
-unfolding step
+left-cons : (q : State) (b : ℕ) (t : List ℕ) → Left (stateAfter q b) t → Left q (b ∷ t)
+unfolding stateAfter
 left-cons (opening n) b t l = opening-cons n b t l
 left-cons (bare n) b t l = bare-cons n b t l
 left-cons (quoted n) b t l = quoted-cons n b t l
@@ -176,9 +176,9 @@ left-end dead h = absurd (true≢false (sym h))
 left : (q : State) (t : List ℕ) → accepting (run q t) ≡ true → Left q t
 unfolding run
 left q [] h = left-end q h
-left q (b ∷ t) h = left-cons q b t (left (step q b) t h)
+left q (b ∷ t) h = left-cons q b t (left (stateAfter q b) t h)
 
 -- A text that is accepted passes 40.
-pub accepted-passes : (t : List ℕ) → accepts t ≡ true → Passes t
+pub accepted-passes : (t : List ℕ) → accepts t ≡ true → IsSheet t
 unfolding accepts
 accepted-passes t h = opening-passes (left (opening number-part) t h)

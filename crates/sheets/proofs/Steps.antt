@@ -6,7 +6,7 @@ use Prim.Native.Nat.{ℕ, _≤_, _<_}
 use lib.Dec.{leb}
 use borrow.Author.Tests.{le-leb, lt-leb, ne-eqb}
 use Rattle.sheets.specs.Grammar.{isPrintable, isTextData, isQuotable}
-use Rattle.sheets.specs.Automaton.{Part, number-part, name-part, opening, bare, quoted, shut, cr, line, dead, afterField, bareStep, openingStep, step, accepting}
+use Rattle.sheets.specs.InnerAutomaton.{Column, number-part, name-part, opening, bare, quoted, shut, cr, line, dead, afterField, bareStep, openingStep, stateAfter, accepting}
 
 -- ---- bytes
 
@@ -81,15 +81,15 @@ module _ (b : ℕ) where
   unfolding afterField
   name-other n = rw (ne-eqb b 13 n) refl
 
-  pub cr-lf : b ≡ 10 → line ≡ step cr b
-  unfolding step
+  pub cr-lf : b ≡ 10 → line ≡ stateAfter cr b
+  unfolding stateAfter
   cr-lf e = rw e refl
 
-  pub cr-other : (b ≡ 10 → ⊥) → dead ≡ step cr b
-  unfolding step
+  pub cr-other : (b ≡ 10 → ⊥) → dead ≡ stateAfter cr b
+  unfolding stateAfter
   cr-other n = rw (ne-eqb b 10 n) refl
 
-  module _ (n : Part) where
+  module _ (n : Column) where
     pub bare-data : isTextData b ≡ true → bare n ≡ bareStep n b
     unfolding bareStep
     bare-data e = rw e refl
@@ -106,32 +106,32 @@ module _ (b : ℕ) where
     unfolding openingStep
     opening-other q = rw (ne-eqb b 34 q) refl
 
-    pub quoted-quote : b ≡ 34 → shut n ≡ step (quoted n) b
-    unfolding step
+    pub quoted-quote : b ≡ 34 → shut n ≡ stateAfter (quoted n) b
+    unfolding stateAfter
     quoted-quote e = rw e refl
 
-    pub quoted-byte : (b ≡ 34 → ⊥) → isQuotable b ≡ true → quoted n ≡ step (quoted n) b
-    unfolding step
+    pub quoted-byte : (b ≡ 34 → ⊥) → isQuotable b ≡ true → quoted n ≡ stateAfter (quoted n) b
+    unfolding stateAfter
     quoted-byte q e = rw (ne-eqb b 34 q, e) refl
 
-    pub quoted-dead : (b ≡ 34 → ⊥) → isQuotable b ≡ false → dead ≡ step (quoted n) b
-    unfolding step
+    pub quoted-dead : (b ≡ 34 → ⊥) → isQuotable b ≡ false → dead ≡ stateAfter (quoted n) b
+    unfolding stateAfter
     quoted-dead q e = rw (ne-eqb b 34 q, e) refl
 
-    pub shut-quote : b ≡ 34 → quoted n ≡ step (shut n) b
-    unfolding step
+    pub shut-quote : b ≡ 34 → quoted n ≡ stateAfter (shut n) b
+    unfolding stateAfter
     shut-quote e = rw e refl
 
-    pub shut-other : (b ≡ 34 → ⊥) → afterField n b ≡ step (shut n) b
-    unfolding step
+    pub shut-other : (b ≡ 34 → ⊥) → afterField n b ≡ stateAfter (shut n) b
+    unfolding stateAfter
     shut-other q = rw (ne-eqb b 34 q) refl
 
-pub opening-ends : (n : Part) → accepting (bare n) ≡ accepting (opening n)
+pub opening-ends : (n : Column) → accepting (bare n) ≡ accepting (opening n)
 unfolding accepting
 opening-ends number-part = refl
 opening-ends name-part = refl
 
-pub shut-ends : (n : Part) → accepting (bare n) ≡ accepting (shut n)
+pub shut-ends : (n : Column) → accepting (bare n) ≡ accepting (shut n)
 unfolding accepting
 shut-ends number-part = refl
 shut-ends name-part = refl

@@ -1,12 +1,9 @@
--- What a call that loads or saves a name sheet says, and the bytes that it leaves, from all that is lent (02, (iii)). Loading is said by any reading
+-- What a call that loads or saves a name sheet says, and the bytes that it leaves, from all that is lent (RULES 20). Loading is said by any reading
 -- of the text: every text has one, and all say the same (`Readable` and `SameReading` in Readings).
 -- Assumes nothing.
-use mathlib.Core.Path.{_≡_}
 use mathlib.Core.List.{List, map, flatten}
-use mathlib.Core.Option.{some}
 use Prim.Native.Nat.{ℕ}
 use lib.ListN.{length}
-use Rattle.semigroups.specs.Questions.{Refusal}
 use Rattle.semigroups.specs.Calls.{Answer, givenUnless, writtenUnless}
 use Rattle.sheets.specs.Readings.{Reading, namesIn}
 use Rattle.sheets.specs.Names.{namesText, namesAt}
@@ -32,15 +29,3 @@ saveNamesAnswer names lengths text = givenUnless (saveNamesRefusal names lengths
 
 unfoldable pub sheetAfter : List ℕ → List ℕ → List ℕ → List ℕ
 sheetAfter names lengths text = writtenUnless (saveNamesRefusal names lengths (length text)) (namesText (namesAt names lengths)) text
-
--- ---- refused
-
--- A refusal changes no byte of the names and their lengths.
-abbrev pub LoadKeeps : Type 0
-LoadKeeps =
-    (t : List ℕ) (w : Reading t) (names lengths : List ℕ) (r : Refusal) → loadNamesRefusal w (length names) (length lengths) ≡ some r
-    → (namesAfter w names lengths ≡ names) × (lengthsAfter w names lengths ≡ lengths)
-
--- A refusal changes no byte of the text.
-abbrev pub SaveKeeps : Type 0
-SaveKeeps = (names lengths text : List ℕ) (r : Refusal) → saveNamesRefusal names lengths (length text) ≡ some r → sheetAfter names lengths text ≡ text

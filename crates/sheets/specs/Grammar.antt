@@ -1,5 +1,5 @@
 -- Sheets of two fields a record, as RFC 4180, section 2, writes them: which texts there are, and the values of their fields. The names of the
--- constructors are those of the RFC's grammar. Stricter than it by 02, (iii): every record has two fields, and no record is a header.
+-- constructors are those of the RFC's grammar. Stricter than it by RULES 20.1: every record has two fields, and no record is a header.
 -- Assumes nothing.
 use mathlib.Core.Path.{_≡_}
 use mathlib.Core.Bool.{Bool, true, _&&_, _||_, not, cond}
@@ -10,7 +10,7 @@ use Rattle.csv.specs.Every.{Every}
 
 -- ---- bytes
 
--- The bytes that a name may have, hexadecimal 20 to 7E (02, (iii)).
+-- The bytes that a name may have, hexadecimal 20 to 7E (RULES 20.2).
 unfoldable pub isPrintable : ℕ → Bool
 isPrintable b = leb 32 b && leb b 126
 
@@ -38,7 +38,7 @@ pub record Entry : Type 0 where
   pub number : Field
   pub name : Field
 
--- One or more records; whether CR LF stands behind the last (02, (iii): "Record ends follow the rule of (ii)").
+-- One or more records; whether CR LF stands behind the last (RULES 20.4).
 pub record Sheet : Type 0 where
   pub first : Entry
   pub others : List Entry
@@ -81,8 +81,8 @@ entriesText e (f ∷ fs) = entryText e ++ 13 ∷ 10 ∷ entriesText f fs
 unfoldable pub sheetText : Sheet → List ℕ
 sheetText s = entriesText (s .first) (s .others) ++ cond (s .closed) (13 ∷ 10 ∷ []) []
 
--- The text passes 40: its bytes "form one or more records of two fields as RFC 4180 allows" (02, (iii)).
-pub record Passes (t : List ℕ) : Type 0 where
+-- The text passes 40: its bytes "form one or more records of two fields as RFC 4180 allows" (RULES 20.7).
+pub record IsSheet (t : List ℕ) : Type 0 where
   pub sheet : Sheet
   pub proper : ProperSheet sheet
   pub text : t ≡ sheetText sheet

@@ -2,9 +2,11 @@ pub mod Grammar
 pub mod Readings
 pub mod Names
 pub mod Questions
-pub mod Passing
 pub mod Calls
-pub mod Rounds
-pub mod Automaton
-pub mod Cursor
+pub mod CallsLaws
+pub mod PassingLaws
+pub mod ReadingsLaws
+pub mod RoundsLaws
 pub mod Requests
+pub mod InnerAutomaton
+pub mod InnerCursor

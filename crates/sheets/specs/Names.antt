@@ -1,4 +1,4 @@
--- Names, on a sheet and in memory (02, (iii)).
+-- Names, on a sheet and in memory (RULES 20).
 -- Assumes nothing.
 use mathlib.Core.Bool.{Bool, false, _&&_, _||_, not, cond}
 use mathlib.Core.List.{List, [], _∷_, _++_, flatMap}

@@ -1,4 +1,4 @@
--- The questions about loading and saving a name sheet, in the order of 02, (iii).
+-- The questions about loading and saving a name sheet, in the order of RULES 20.7 and 20.9.
 -- Assumes nothing.
 use mathlib.Core.Bool.{Bool, _&&_, cond}
 use mathlib.Core.List.{List, [], _∷_, _++_, flatten}
@@ -9,7 +9,7 @@ use lib.ListN.{length, take, drop}
 use Rattle.semigroups.specs.Tables.{isElement}
 use Rattle.semigroups.specs.Questions.{Question, ask, seek, Refusal, firstNo}
 use Rattle.sheets.specs.Grammar.{Row}
-use Rattle.sheets.specs.Readings.{Reading, offence, rowsIn, namesIn}
+use Rattle.sheets.specs.Readings.{Reading, offence, readRows, namesIn}
 use Rattle.sheets.specs.Names.{isName, isNumber, namesText, namesAt}
 
 -- What a question about a record or a name says where it fails: the place, from 1.
@@ -31,7 +31,7 @@ rowsQuestions k (r ∷ rs) = rowQuestions k r ++ rowsQuestions (suc k) rs
 -- records of two fields? Then 42 and 41 of each record; then 27, have the buffers room for the names and for their lengths?
 abbrev pub loadNamesQuestions : {t : List ℕ} → Reading t → ℕ → ℕ → List Question
 loadNamesQuestions w nameRoom lengthRoom =
-    seek 40 (offence w) ∷ (rowsQuestions 1 (rowsIn w) ++ ask 27 (leb (length (flatten (namesIn w))) nameRoom) ∷ ask 27 (leb (length (namesIn w)) lengthRoom) ∷ [])
+    seek 40 (offence w) ∷ (rowsQuestions 1 (readRows w) ++ ask 27 (leb (length (flatten (namesIn w))) nameRoom) ∷ ask 27 (leb (length (namesIn w)) lengthRoom) ∷ [])
 
 unfoldable pub loadNamesRefusal : {t : List ℕ} → Reading t → ℕ → ℕ → Option Refusal
 loadNamesRefusal w nameRoom lengthRoom = firstNo (loadNamesQuestions w nameRoom lengthRoom)

@@ -1,30 +1,29 @@
--- What is so of a text by question 40 (02, (iii)): it passes, or it does not and has an offending place.
+-- What is so of a text by question 40 (RULES 20.8): it passes, or it does not and has an offending place.
 -- Assumes nothing.
-use mathlib.Core.Path.{_≡_}
 use mathlib.Core.List.{List, [], _∷_, _++_, map}
 use mathlib.Core.Option.{Option, none, some}
 use Prim.Native.Nat.{ℕ, _≤_, _<_}
 use lib.ListN.{length, take}
-use Rattle.sheets.specs.Grammar.{Passes, Row, sheetRows}
+use Rattle.sheets.specs.Grammar.{IsSheet, Row, sheetRows}
 
 -- ---- the offending place
 
 -- Some text passing 40 starts with p.
-pub record Begins (p : List ℕ) : Type 0 where
+pub record BeginsSheet (p : List ℕ) : Type 0 where
   pub rest : List ℕ
-  pub passes : Passes (p ++ rest)
+  pub passes : IsSheet (p ++ rest)
 
 -- "The offending place is the length of the longest beginning of the text that some text passing 40 starts with, whatever its numbers and names."
 pub record Offending (t : List ℕ) (k : ℕ) : Type 0 where
   pub within : k ≤ length t
-  pub begins : Begins (take k t)
-  pub longest : (j : ℕ) → k < j → j ≤ length t → Begins (take j t) → ⊥
+  pub begins : BeginsSheet (take k t)
+  pub longest : (j : ℕ) → k < j → j ≤ length t → BeginsSheet (take j t) → ⊥
 
 -- ---- a reading of a text
 
 pub data Reading (t : List ℕ) : Type 0 where
-  passes : Passes t → Reading t
-  offends : (k : ℕ) → (Passes t → ⊥) → Offending t k → Reading t
+  passes : IsSheet t → Reading t
+  offends : (k : ℕ) → (IsSheet t → ⊥) → Offending t k → Reading t
 
 -- The place, where it does not pass.
 abbrev pub offence : {t : List ℕ} → Reading t → Option (List ℕ)
@@ -32,21 +31,13 @@ offence (passes p) = none
 offence (offends k fails place) = some (k ∷ [])
 
 -- The values of its records; of a text that does not pass, none.
-abbrev pub rowsIn : {t : List ℕ} → Reading t → List Row
-rowsIn (passes p) = sheetRows (p .sheet)
-rowsIn (offends k fails place) = []
+abbrev pub readRows : {t : List ℕ} → Reading t → List Row
+readRows (passes p) = sheetRows (p .sheet)
+readRows (offends k fails place) = []
 
 -- The names on it.
 unfoldable pub rowsNames : List Row → List (List ℕ)
 rowsNames l = map (λ r. r .name) l
 
 abbrev pub namesIn : {t : List ℕ} → Reading t → List (List ℕ)
-namesIn w = rowsNames (rowsIn w)
-
--- ---- every text has a reading, and one only as far as a call can tell
-
-abbrev pub Readable : Type 0
-Readable = (t : List ℕ) → Reading t
-
-abbrev pub SameReading : Type 0
-SameReading = (t : List ℕ) (v w : Reading t) → (offence v ≡ offence w) × (rowsIn v ≡ rowsIn w)
+namesIn w = rowsNames (readRows w)

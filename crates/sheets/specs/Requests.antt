@@ -1,4 +1,4 @@
--- What 02, (iii) asks to be so of name sheets, as sentences about the definitions. Assumes nothing.
+-- What RULES 20 asks to be so of name sheets, as sentences about the definitions. Assumes nothing.
 use mathlib.Core.Path.{_≡_}
 use mathlib.Core.Bool.{true}
 use mathlib.Core.Logic.{_⊎_, _↔_}
@@ -6,12 +6,13 @@ use mathlib.Core.List.{List, [], _∷_, List·Memᴰ}
 use mathlib.Core.Option.{none, some}
 use Prim.Native.Nat.{ℕ, _≤_}
 use Rattle.csv.specs.Decimals.{numeral}
-use Rattle.sheets.specs.Readings.{Reading, offence, Readable, SameReading}
+use Rattle.sheets.specs.Readings.{Reading, offence}
+use Rattle.sheets.specs.ReadingsLaws.{Readable, SameReading}
 use Rattle.sheets.specs.Names.{isName, isNumber, needsQuotes}
 use Rattle.sheets.specs.Questions.{loadNamesRefusal, saveNamesRefusal}
-use Rattle.sheets.specs.Passing.{Name, LoadNamesPass, SaveNamesPass}
-use Rattle.sheets.specs.Calls.{LoadKeeps, SaveKeeps}
-use Rattle.sheets.specs.Rounds.{SavedNamesAreLoaded, LastBreakMayLack, SavedSheetStays, LoadedSheetStays}
+use Rattle.sheets.specs.PassingLaws.{Name, LoadNamesPass, SaveNamesPass}
+use Rattle.sheets.specs.CallsLaws.{LoadKeeps, SaveKeeps}
+use Rattle.sheets.specs.RoundsLaws.{SavedNamesAreLoaded, LastBreakMayLack, SavedSheetStays, LoadedSheetStays}
 
 pub record NameRequests : Type 0 where
   -- "A name is 1 to 40 bytes from hexadecimal 20 to 7E."
@@ -35,5 +36,5 @@ pub record NameRequests : Type 0 where
   -- "Loading and saving a second time changes no byte": of a sheet that was saved, and of any that loads, however often.
   pub saved-stays : SavedSheetStays
   pub loaded-stays : LoadedSheetStays
-  -- "Record ends follow the rule of (ii)."
+  -- "Record ends follow 19.2."
   pub last-break : LastBreakMayLack

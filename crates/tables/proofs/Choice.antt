@@ -12,19 +12,21 @@ use borrow.Author.Tests.{eqb-true}
 use lib.ListN.{length, take, drop, getD, set, replicate, length-map, length-drop, length-append, List·getD-append, take-append-drop}
 use lib.Seq.{length-take-le, take-suc, take-all, take-take, take-set-le, take-suc-set, take-at, getD-take, getD-drop, getD-set-same, getD-set-other}
 use Rattle.semigroups.specs.Lists.{elements, all, find, member}
-use Rattle.semigroups.specs.Tables.{Product, product, Element, Closed, Associative, Filled, associates}
+use Rattle.semigroups.specs.Tables.{Product, product, Element, Associative, Filled, associates}
+use Rattle.semigroups.specs.TablesLaws.{Closed}
 use Rattle.semigroups.specs.Invariants.{frequency}
-use Rattle.semigroups.specs.Generated.{Inside, LeftProduct, entry, further, generated}
-use Rattle.semigroups.specs.Light.{AssociativeThrough}
+use Rattle.semigroups.specs.GeneratedLaws.{Inside, LeftProduct, entry, further}
+use Rattle.semigroups.specs.Generated.{generated}
+use Rattle.semigroups.specs.LightLaws.{AssociativeThrough}
 use Rattle.semigroups.proofs.Booleans.{equal-or-not, at-most-or-above, and-left, and-right, clash, untrue}
 use Rattle.semigroups.proofs.Lists.{all-at, all-of, each-of, pairs-at, getD-map, member-mem, not-member, unmember, mem-or-not, mem-take}
 use Rattle.semigroups.proofs.NoRepeats.{mem-place, place-mem}
 use Rattle.semigroups.proofs.Tables.{filled-closed}
 use Rattle.semigroups.proofs.Generated.{left-product-more, left-product-generated}
 use Rattle.semigroups.proofs.Light.{lights-law}
-use Rattle.tables.specs.PerElement.{perElement}
-use Rattle.tables.specs.Found.{indicator, adding, addingAll, Found}
-use Rattle.tables.specs.Choice.{FoundProducts, Rarest, RarestOrNone, NextGenerator, RarestFirst, Choice, goodMiddle, LightsAnswer}
+use Rattle.tables.specs.InnerPerElement.{perElement}
+use Rattle.tables.specs.InnerFound.{indicator, adding, addingAll, Found}
+use Rattle.tables.specs.InnerChoice.{FoundProducts, Rarest, RarestOrNone, NextGenerator, RarestFirst, Choice, goodMiddle, LightsAnswer}
 use Rattle.tables.proofs.Triples.{third-none, third-some}
 use Rattle.tables.proofs.Values.{getD-zeros}
 use Rattle.tables.proofs.PerElement.{per-element-at}

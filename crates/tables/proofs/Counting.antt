@@ -14,7 +14,7 @@ use Rattle.semigroups.specs.Invariants.{frequency}
 use Rattle.semigroups.proofs.Lists.{length-range, range-snoc}
 use Rattle.semigroups.proofs.Sums.{sum-append, count-same, count-at-most}
 use Rattle.semigroups.proofs.Frequencies.{frequency-cells}
-use Rattle.tables.specs.Counting.{occurrences, InRange}
+use Rattle.tables.specs.InnerCounting.{occurrences, InRange}
 use Rattle.tables.proofs.Questions.{square-small}
 
 -- ---- numbers in a row

@@ -8,13 +8,14 @@ use native.Mathlib.Numerals.{add-one}
 use native.Mathlib.Omega.{arith}
 use lib.ListN.{length, take, getD, set, replicate, length-append, List·getD-append}
 use lib.Seq.{take-suc, take-at, set-at}
-use Rattle.semigroups.specs.Lists.{elements, member, NoRepeats}
+use Rattle.semigroups.specs.Lists.{elements, member}
+use Rattle.semigroups.specs.ListsLaws.{NoRepeats}
 use Rattle.semigroups.specs.Tables.{Element}
-use Rattle.semigroups.specs.Generated.{Inside}
+use Rattle.semigroups.specs.GeneratedLaws.{Inside}
 use Rattle.semigroups.proofs.Booleans.{either}
 use Rattle.semigroups.proofs.Lists.{length-elements, elements-mem, length-snoc, member-mem, not-member, sorted-append}
 use Rattle.semigroups.proofs.NoRepeats.{length-inside, place-mem}
-use Rattle.tables.specs.Found.{adding, addingAll, Found}
+use Rattle.tables.specs.InnerFound.{adding, addingAll, Found}
 use Rattle.tables.proofs.Indicators.{indicator-nil, unmarked, is-marked, indicator-set}
 
 -- ---- one entry added

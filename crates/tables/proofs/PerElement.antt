@@ -10,7 +10,7 @@ use Rattle.semigroups.specs.Lists.{range, elements}
 use Rattle.semigroups.specs.Tables.{Element}
 use Rattle.semigroups.proofs.Booleans.{equal-or-not}
 use Rattle.semigroups.proofs.Lists.{length-elements, getD-map, getD-range, mem-elements}
-use Rattle.tables.specs.PerElement.{perElement}
+use Rattle.tables.specs.InnerPerElement.{perElement}
 use Rattle.tables.proofs.Values.{map-range-snoc, map-same, map-zeros}
 
 width : (n : ℕ) (w : ℕ → ℕ) → length (map w (elements n)) ≡ n

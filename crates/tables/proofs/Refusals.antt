@@ -1,6 +1,7 @@
 -- A "no" and the refusals of a table are brief. Assumes nothing.
 use native.Mathlib.Omega.{arith}
-use Rattle.tables.specs.Answers.{noRefusal, faultRefusal, Brief}
+use Rattle.tables.specs.Answers.{noRefusal, faultRefusal}
+use Rattle.tables.specs.AnswersLaws.{Brief}
 use Rattle.tables.specs.declared.No.{No}
 use Rattle.tables.specs.declared.No.the-variants.{Bare, With, Triple as NoTriple}
 use Rattle.tables.specs.declared.Fault.{Fault}

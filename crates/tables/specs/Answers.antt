@@ -1,10 +1,11 @@
--- What the answers about a table mean (01, "The questions"): for each case the number of the question and the values said with it.
+-- What the answers about a table mean (RULES 7): for each case the number of the question and the values said with it.
 -- Assumes nothing.
 use mathlib.Core.List.{[], _∷_}
 use mathlib.Core.Option.{Option, none, some}
-use Prim.Native.Nat.{ℕ, _≤_}
-use lib.ListN.{length, getD}
-use Rattle.semigroups.specs.Questions.{Refusal, no, naming}
+use Prim.Native.Nat.{ℕ}
+use lib.ListN.{getD}
+use Rattle.semigroups.specs.Questions.{Refusal, sideOf}
+use Rattle.semigroups.specs.QuestionsLaws.{no, naming}
 use Rattle.semigroups.specs.Calls.{Answer, refused, gives}
 use Rattle.tables.specs.declared.Fault.{Fault}
 use Rattle.tables.specs.declared.Fault.the-variants.{Order, Size, Cell, Triple}
@@ -62,11 +63,6 @@ placeOption Nowhere = none
 
 -- ---- refusals as numbers
 
--- 0 stands for no side.
-abbrev pub sideOf : Option ℕ → ℕ
-sideOf none = 0
-sideOf (some side) = side
-
 -- The number, the side and three values, with 0 for those that are not said.
 abbrev pub refusalNumbers : Refusal → Numbers
 refusalNumbers r = record { number = r .number; side = sideOf (r .side); first = getD (r .values) 0 0; second = getD (r .values) 1 0; third = getD (r .values) 2 0 }
@@ -74,7 +70,3 @@ refusalNumbers r = record { number = r .number; side = sideOf (r .side); first =
 -- The same numbers with another side.
 abbrev pub numbersNaming : ℕ → Numbers → Numbers
 numbersNaming side r = record { number = r .number; side = side; first = r .first; second = r .second; third = r .third }
-
--- The numbers lose nothing: at most three values are said.
-abbrev pub Brief : Refusal → Type 0
-Brief r = length (r .values) ≤ 3

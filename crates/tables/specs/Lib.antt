@@ -1,5 +1,6 @@
-pub mod Counting
-pub mod PerElement
-pub mod Found
-pub mod Choice
 pub mod Answers
+pub mod AnswersLaws
+pub mod InnerFound
+pub mod InnerChoice
+pub mod InnerCounting
+pub mod InnerPerElement

@@ -3,8 +3,8 @@ ghost use mathlib.Core.Path.{_≡_};
 ghost use Prim.Native.Nat.{_≤_};
 ghost use Rattle.semigroups.specs.Tables.{Filled, product};
 ghost use Rattle.semigroups.specs.Invariants.{frequency};
-ghost use Rattle.tables.specs.Counting.{occurrences, InRange};
-ghost use Rattle.tables.specs.PerElement.{perElement};
+ghost use Rattle.tables.specs.InnerCounting.{occurrences, InRange};
+ghost use Rattle.tables.specs.InnerPerElement.{perElement};
 
 // How often each element stands among k cells, the first and then each that is `step` further on: element a's count at place a - 1, then zeros.
 pub fn tally(cells: &[u8], n: usize, k: usize, step: usize) -> [u16; 120]

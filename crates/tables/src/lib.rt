@@ -6,8 +6,10 @@ ghost use mathlib.Core.Option.{Option·map};
 ghost use Prim.Native.Nat.{_*_, _≤_};
 ghost use lib.ListN.{length};
 ghost use Rattle.semigroups.specs.Lists.{elements, find};
-ghost use Rattle.semigroups.specs.Tables.{Element, Filled, product, turnedCells, associates, badCell, badTriple};
-ghost use Rattle.semigroups.specs.Questions.{no, cellsRefusal, tableRefusal, tablesRefusal};
+ghost use Rattle.semigroups.specs.Tables.{Element, Filled, product, associates, badCell, badTriple};
+ghost use Rattle.semigroups.specs.TablesLaws.{turnedCells};
+ghost use Rattle.semigroups.specs.QuestionsLaws.{no, cellsRefusal, tablesRefusal};
+ghost use Rattle.semigroups.specs.Questions.{tableRefusal};
 ghost use Rattle.semigroups.specs.Calls.{overwritten};
 ghost use Rattle.tables.specs.Answers.{noRefusal, faultRefusal, verdictRefusal, sideNumber, placeOption, pairRefusal, refusalNumbers, numbersNaming};
 

@@ -1,4 +1,4 @@
-// The limits of 01 (largest order, longest text), and the lengths of arrays that follow from them.
+// The largest order and the longest text (RULES 3.1 and 7.2), and the lengths of arrays that follow from them.
 
 // The largest order of a table, and the largest number in a text.
 pub const ORDER: usize = 120;

@@ -1,4 +1,4 @@
--- What part of the questions about a text say: 01's number of the question, and what is said with it.
+-- What part of the questions about a text say: the number of the question (RULES 7.2), and what is said with it.
 -- Assumes nothing.
 use mathlib.Core.Option.{Option, none, some}
 use Rattle.semigroups.specs.Questions.{Refusal}

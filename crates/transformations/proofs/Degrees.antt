@@ -10,12 +10,13 @@ use borrow.Author.Tests.{le-leb, lt-leb}
 use lib.ListN.{length, drop}
 use Rattle.semigroups.specs.Lists.{firstOf}
 use Rattle.semigroups.specs.Tables.{Element, isElement}
-use Rattle.semigroups.specs.Questions.{no}
+use Rattle.semigroups.specs.QuestionsLaws.{no}
 use Rattle.semigroups.specs.Calls.{Answer, refused, gives, givenUnless, writtenUnless}
 use Rattle.semigroups.specs.Transformations.{transformationOrder, transformationCells, transformationRefusal}
 use Rattle.semigroups.proofs.Booleans.{equal-or-not}
 use Rattle.semigroups.proofs.Transformations.{length-cells}
-use Rattle.transformations.specs.Answers.{transformationSays, transformationCellsAfter, roomRefusal}
+use Rattle.transformations.specs.Calls.{transformationSays, transformationCellsAfter}
+use Rattle.transformations.specs.Answers.{roomRefusal}
 
 -- ---- a stored table and question 9
 

@@ -4,7 +4,8 @@ ghost use mathlib.Core.Path.{_≡_};
 ghost use lib.ListN.{length};
 ghost use Rattle.semigroups.specs.Calls.{givenUnless, writtenUnless};
 ghost use Rattle.tables.specs.Answers.{numberedSays};
-ghost use Rattle.transformations.specs.Answers.{transformationSays, transformationCellsAfter, roomRefusal};
+ghost use Rattle.transformations.specs.Calls.{transformationSays, transformationCellsAfter};
+ghost use Rattle.transformations.specs.Answers.{roomRefusal};
 use tables::No;
 use tables::Numbered;
 

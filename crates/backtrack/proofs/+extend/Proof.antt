@@ -11,9 +11,9 @@ use borrow.Author.Tests.{not-true, not-false}
 use borrow.Fn.Kinds.{In}
 use borrow.Fn.PlainCycle.{Measures, is, falls, and}
 use Rattle.semigroups.specs.Tables.{product}
-use Rattle.semigroups.specs.Search.{passes}
+use Rattle.semigroups.specs.Trials.{passes}
 use Rattle.semigroups.proofs.Tables.{product-element}
-use Rattle.backtrack.specs.State.{Remainder, exhausted, remaining, within}
+use Rattle.backtrack.specs.InnerState.{Remainder, exhausted, remaining, within}
 use Rattle.backtrack.specs.declared.Outcome.{Outcome}
 use Rattle.constraints.proofs.Placing.{as-trial}
 use Rattle.backtrack.proofs.Steps.{lowest}

@@ -7,7 +7,7 @@ use lib.ListN.{take}
 use Rattle.semigroups.specs.Tables.{product}
 use Rattle.semigroups.specs.Scratch.{marked}
 use Rattle.semigroups.specs.Trials.{counted}
-use Rattle.backtrack.specs.State.{within, outcomeOf, bounded}
+use Rattle.backtrack.specs.InnerState.{within, outcomeOf, bounded}
 use Rattle.backtrack.proofs.Extending.{start}
 use Rattle.backtrack.proofs.find_within.Statement.{statement}
 use Rattle.backtrack.proofs.find_within.Tie as tie

@@ -6,9 +6,9 @@ use native.Mathlib.Omega.{arith}
 use denote.Ref.{now}
 use Rattle.semigroups.specs.Lists.{at}
 use Rattle.semigroups.specs.Tables.{Element}
-use Rattle.invariants.specs.PerElement.{perElement}
+use Rattle.tables.specs.InnerPerElement.{perElement}
 use Rattle.invariants.proofs.PerElement.{fill-start, fill-step, fill-end}
-use Rattle.candidates.specs.Keys.{appended}
+use Rattle.candidates.specs.InnerKeys.{appended}
 use Rattle.candidates.proofs.append.Statement.{statement}
 use Rattle.candidates.proofs.append.Tie as tie
 

@@ -8,10 +8,10 @@ use native.Mathlib.Omega.{arith}
 use denote.Ref.{now}
 use lib.ListN.{length, set, drop}
 use Rattle.semigroups.specs.Scratch.{marks}
-use Rattle.semigroups.specs.Calls.{scratchAfter}
+use Rattle.semigroups.specs.InnerCalls.{scratchAfter}
 use Rattle.semigroups.proofs.Candidates.{length-marks, marks-byte, length-scratch}
 use Rattle.semigroups.proofs.Writing.{written, written-none, written-all, length-written, write-next}
-use Rattle.candidates.specs.Keys.{sameKey}
+use Rattle.candidates.specs.InnerKeys.{sameKey}
 use Rattle.candidates.proofs.fill_equal.Statement.{statement}
 use Rattle.candidates.proofs.fill_equal.Tie as tie
 

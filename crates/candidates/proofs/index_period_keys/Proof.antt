@@ -7,7 +7,7 @@ use mathlib.Core.List.{List}
 use lib.ListN.{replicate}
 use Rattle.semigroups.specs.Tables.{product}
 use Rattle.semigroups.specs.Invariants.{index, period, indexPeriod}
-use Rattle.candidates.specs.Keys.{packed, indexPeriodKey}
+use Rattle.candidates.specs.InnerKeys.{packed, indexPeriodKey}
 use Rattle.candidates.proofs.Keys.{AllKeys, Appends, no-keys, append-part, index-fits, period-fits}
 use Rattle.candidates.proofs.index_period_keys.Statement.{statement}
 use Rattle.candidates.proofs.index_period_keys.Tie as tie

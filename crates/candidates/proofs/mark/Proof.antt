@@ -9,7 +9,7 @@ use denote.Ref.{now}
 use mir.Val.{boolByte}
 use Rattle.semigroups.specs.Lists.{at}
 use Rattle.semigroups.proofs.Candidates.{pair-at, pair-past}
-use Rattle.candidates.specs.Keys.{sameKey}
+use Rattle.candidates.specs.InnerKeys.{sameKey}
 use Rattle.candidates.proofs.mark.Statement.{statement}
 use Rattle.candidates.proofs.mark.Tie as tie
 

@@ -3,7 +3,7 @@
 use Prim.Native.Nat.{_+_, _-_, _*_, _<_}
 use native.Mathlib.Omega.{arith}
 use denote.Ref.{now}
-use Rattle.candidates.specs.Keys.{sameKey}
+use Rattle.candidates.specs.InnerKeys.{sameKey}
 use Rattle.semigroups.proofs.Candidates.{size-limit}
 use Rattle.candidates.proofs.Marks.{Gathered, gather-begin, gathered-small, gather-next, worth-small, gather-end, gather-byte, row-small, first-pair}
 use Rattle.candidates.proofs.marks_byte.Statement.{statement}

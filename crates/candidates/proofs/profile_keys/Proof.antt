@@ -6,8 +6,8 @@ use mathlib.Core.List.{List}
 use Rattle.semigroups.specs.Tables.{Filled, product}
 use Rattle.semigroups.specs.Invariants.{profile}
 use Rattle.invariants.specs.declared.ElementCounts.{ElementCounts}
-use Rattle.invariants.specs.PerElement.{AllCounts}
-use Rattle.candidates.specs.Keys.{packed, profileKey}
+use Rattle.invariants.specs.InnerPerElement.{AllCounts}
+use Rattle.candidates.specs.InnerKeys.{packed, profileKey}
 use Rattle.candidates.proofs.Keys.{AllKeys, Appends, key, powers-keys, append-frequency, append-diagonal, append-row, append-column, append-commuting}
 use Rattle.candidates.proofs.profile_keys.Statement.{statement}
 use Rattle.candidates.proofs.profile_keys.Tie as tie

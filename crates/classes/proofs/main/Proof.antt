@@ -9,7 +9,8 @@ use lib.ListN.{length, take}
 use lib.Seq.{length-take-le}
 use borrow.Author.Needs.{needs}
 use Rattle.classification.specs.Progress as progress
-use Rattle.classification.specs.Held.{progressOf, answerOf}
+use Rattle.classification.specs.ProgressLaws as progress-laws
+use Rattle.classification.specs.Held.{progressOf, openedText}
 use Rattle.classification.proofs.Program.{start-sound, later-sound, later-fewer, few-notes, text-within}
 use Rattle.classes.proofs.main.Statement.{statement}
 use Rattle.classes.proofs.main.Tie as tie
@@ -19,11 +20,11 @@ Inv-loop text₀ cells₀ out classifier₀ wanted₀ text cells classifier want
     (length text ≡ 57721) × (length cells ≡ 14400) × progress.Sound (progressOf classifier cells) × ((any : List ℕ) → wanted ≡ progress.wanted (progressOf classifier any))
 
 abbrev μ-loop : tie.MeasureT-loop
-μ-loop text₀ cells₀ out classifier₀ wanted₀ text cells classifier wanted = progress.left (progressOf classifier cells)
+μ-loop text₀ cells₀ out classifier₀ wanted₀ text cells classifier wanted = progress-laws.stillToRead (progressOf classifier cells)
 
 -- What came of the file that was read.
 abbrev came : tie.After-read-file Inv-loop μ-loop → Option (List ℕ)
-came c = let r = c .read-file in answerOf (r .result .opened) (take (r .result .length) (r .last .1 .0))
+came c = let r = c .read-file in openedText (r .result .opened) (take (r .result .length) (r .last .1 .0))
 
 start-requires : tie.Need-start-requires Inv-loop μ-loop
 start-requires c κs = tt

@@ -6,7 +6,7 @@ use lib.Seq.{length-take-le}
 use denote.Ref.{now}
 use Rattle.semigroups.specs.Calls.{gives}
 use Rattle.tables.proofs.Questions.{square-small}
-use Rattle.files.specs.Files.{fileAnswer}
+use Rattle.files.specs.Answers.{fileAnswer}
 use Rattle.tables.specs.Answers.{numberedSays}
 use Rattle.files.proofs.Files.{Holds, not-accepted, holds}
 use Rattle.classification.proofs.Steps.{holds-refused, holds-is, holds-other}

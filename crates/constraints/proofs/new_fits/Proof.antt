@@ -10,9 +10,9 @@ use borrow.Author.Tests.{not-true, not-false}
 use lib.ListN.{take}
 use Rattle.semigroups.specs.Lists.{elements, all}
 use Rattle.semigroups.specs.Tables.{product}
-use Rattle.semigroups.specs.Search.{fits}
+use Rattle.semigroups.specs.Trials.{fits}
 use Rattle.semigroups.proofs.Completions.{allFrom, all-start, all-end}
-use Rattle.constraints.specs.Constraints.{cross, newFits}
+use Rattle.constraints.specs.InnerConstraints.{cross, newFits}
 use Rattle.constraints.proofs.Constraints.{first-fails, second-fails, both-fit}
 use Rattle.constraints.proofs.Placing.{next-length}
 use Rattle.constraints.proofs.new_fits.Statement.{statement}

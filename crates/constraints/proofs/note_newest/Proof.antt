@@ -4,7 +4,7 @@ use native.Mathlib.Omega.{arith}
 use lib.ListN.{take}
 use Rattle.semigroups.specs.Tables.{product}
 use Rattle.semigroups.proofs.Tables.{product-element}
-use Rattle.constraints.specs.Tracking.{Tracks}
+use Rattle.constraints.specs.InnerTracking.{Tracks}
 use Rattle.constraints.proofs.Noting.{turn, turns-done}
 use Rattle.constraints.proofs.note_newest.Statement.{statement}
 use Rattle.constraints.proofs.note_newest.Tie as tie

@@ -3,8 +3,8 @@ use mathlib.Core.Path.{sym, ap, _∙_}
 use denote.Ref.{now}
 use borrow.Author.Needs.{needs}
 use Rattle.semigroups.specs.Tables.{product, Filled}
-use Rattle.semigroups.specs.Generated.{Inside}
-use Rattle.semigroups.specs.Light.{Generates}
+use Rattle.semigroups.specs.GeneratedLaws.{Inside}
+use Rattle.semigroups.specs.LightLaws.{Generates}
 use Rattle.semigroups.proofs.Tables.{filled}
 use Rattle.semigroups.proofs.Generated.{all-generated}
 use Rattle.semigroups.proofs.Light.{cells-refused, not-inside, too-few, triple-decides}

@@ -4,7 +4,7 @@ use Prim.Native.Nat.{ℕ, _-_, _≤_}
 use native.Mathlib.Omega.{arith}
 use borrow.Author.Needs.{needs}
 use lib.ListN.{take}
-use Rattle.generated.specs.Parts.{numbering}
+use Rattle.generated.specs.InnerParts.{numbering}
 use Rattle.generated.proofs.Parts.{numbering-nil, entry-small, numbers-few, numbers-next}
 use Rattle.generated.proofs.numbers_of.Statement.{statement}
 use Rattle.generated.proofs.numbers_of.Tie as tie

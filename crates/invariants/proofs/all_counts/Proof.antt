@@ -5,7 +5,7 @@ use Prim.Native.Nat.{_+_}
 use mathlib.Core.Path.{_∙_}
 use Rattle.semigroups.specs.Tables.{product}
 use Rattle.semigroups.specs.Invariants.{diagonalFrequency}
-use Rattle.tables.specs.Counting.{occurrences}
+use Rattle.tables.specs.InnerCounting.{occurrences}
 use Rattle.invariants.proofs.Counts.{diagonal-in-range, diagonal-counted}
 use Rattle.invariants.proofs.PerElement.{per-element-same}
 use borrow.Author.Needs.{needs}

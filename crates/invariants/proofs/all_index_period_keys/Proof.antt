@@ -4,12 +4,13 @@ use native.Mathlib.Omega.{arith}
 use denote.Ref.{now}
 use Prim.Native.Nat.{_+_, _-_, _≤_}
 use mathlib.Core.Path.{_≡_, ap}
-use Rattle.semigroups.specs.Tables.{Product, product, Element, Closed}
+use Rattle.semigroups.specs.Tables.{Product, product, Element}
+use Rattle.semigroups.specs.TablesLaws.{Closed}
 use Rattle.semigroups.specs.Invariants as marks
 use Rattle.semigroups.proofs.Tables.{product-element}
 use Rattle.invariants.proofs.Powers.{index-at-most, period-at-most}
-use Rattle.invariants.specs.PerElement.{perElement}
-use Rattle.invariants.specs.Powers.{settled}
+use Rattle.tables.specs.InnerPerElement.{perElement}
+use Rattle.invariants.specs.InnerPowers.{settled}
 use Rattle.invariants.proofs.PerElement.{fill-start, fill-step, fill-end}
 use Rattle.invariants.proofs.all_index_period_keys.Statement.{statement}
 use Rattle.invariants.proofs.all_index_period_keys.Tie as tie

@@ -4,7 +4,7 @@ use denote.Ref.{now}
 use Prim.Native.Nat.{ℕ, _-_, _*_, _≤_}
 use mathlib.Core.Path.{_≡_, sym, ap, _∙_}
 use mathlib.Core.Logic.{⊎-elim}
-use Rattle.tables.specs.Counting.{occurrences}
+use Rattle.tables.specs.InnerCounting.{occurrences}
 use Rattle.tables.proofs.Counting.{occurs-none, occurs, occurs-not}
 use Rattle.invariants.proofs.count.Statement.{statement}
 use Rattle.invariants.proofs.count.Tie as tie

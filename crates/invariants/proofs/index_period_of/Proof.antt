@@ -5,7 +5,8 @@ use denote.Ref.{now}
 use Prim.Native.Nat.{ℕ, _+_, _-_, _*_, _/_, _≤_, _<_}
 use mathlib.Core.Path.{_≡_}
 use lib.ListN.{getD}
-use Rattle.semigroups.specs.Tables.{Product, product, Element, Closed}
+use Rattle.semigroups.specs.Tables.{Product, product, Element}
+use Rattle.semigroups.specs.TablesLaws.{Closed}
 use Rattle.semigroups.specs.Invariants.{power}
 use Rattle.semigroups.proofs.Tables.{product-element}
 use Rattle.semigroups.proofs.IndexPeriod.{power-element}

@@ -7,7 +7,7 @@ use mathlib.Core.Path.{_≡_}
 use Rattle.semigroups.specs.Tables.{product, Element}
 use Rattle.semigroups.specs.Invariants.{rowFrequency, columnFrequency, commuting}
 use Rattle.invariants.proofs.Counts.{row-at-most, column-at-most, commuting-at-most}
-use Rattle.invariants.specs.PerElement.{perElement}
+use Rattle.tables.specs.InnerPerElement.{perElement}
 use Rattle.invariants.proofs.PerElement.{fill-start, fill-step, fill-end}
 use Rattle.invariants.proofs.line_counts.Statement.{statement}
 use Rattle.invariants.proofs.line_counts.Tie as tie

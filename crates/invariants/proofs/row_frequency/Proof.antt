@@ -4,7 +4,7 @@ use denote.Ref.{now}
 use Prim.Native.Nat.{ℕ, _-_, _*_}
 use mathlib.Core.Path.{sym, ap, _∙_, subst}
 use mathlib.Core.List.{List}
-use Rattle.tables.specs.Counting.{occurrences, InRange}
+use Rattle.tables.specs.InnerCounting.{occurrences, InRange}
 use Rattle.tables.proofs.Counting.{cells-at-most}
 use Rattle.invariants.proofs.Counts.{row-within, row-in-range, row-counted, part-to-end}
 use borrow.Author.Needs.{needs}

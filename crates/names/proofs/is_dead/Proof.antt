@@ -2,7 +2,7 @@
 -- Assumes nothing.
 use mathlib.Core.Path.{refl}
 use borrow.Author.Needs.{needs}
-use Rattle.sheets.specs.Automaton.{isDead}
+use Rattle.sheets.specs.InnerAutomaton.{isDead}
 use Rattle.names.proofs.is_dead.Statement.{statement}
 use Rattle.names.proofs.is_dead.Tie as tie
 

@@ -2,7 +2,7 @@
 -- Assumes nothing.
 use mathlib.Core.Path.{refl}
 use borrow.Author.Needs.{needs}
-use Rattle.sheets.specs.Automaton.{accepting}
+use Rattle.sheets.specs.InnerAutomaton.{accepting}
 use Rattle.names.proofs.is_name_part.Statement.{statement}
 use Rattle.names.proofs.is_name_part.Tie as tie
 

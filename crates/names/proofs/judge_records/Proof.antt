@@ -8,18 +8,18 @@ use native.Mathlib.Omega.{arith}
 use lib.ListN.{length, drop}
 use denote.Ref.{now}
 use borrow.Author.Tests.{not-true, not-false}
-use Rattle.sheets.specs.Grammar.{Passes}
+use Rattle.sheets.specs.Grammar.{IsSheet}
 use Rattle.sheets.specs.Names.{isName, isNumber}
-use Rattle.sheets.specs.Cursor.{valueAt, sizeAt}
+use Rattle.sheets.specs.InnerCursor.{valueAt, sizeAt}
 use Rattle.sheets.proofs.Numbers.{name-is, cut-length}
 use Rattle.sheets.proofs.Records.{commaAt, endAt, Turn, Judging, judge-first, judge-turn, judge-number, judge-name, judge-small, judge-next, judge-done}
-use Rattle.names.specs.Reading.{Holds}
+use Rattle.names.specs.InnerReading.{HoldsValue}
 use Rattle.names.proofs.Values.{holds-short}
 use Rattle.names.proofs.judge_records.Statement.{statement}
 use Rattle.names.proofs.judge_records.Tie as tie
 
 abbrev Inv-loop : tie.InvT-loop
-Inv-loop text at₀ k₀ total₀ more₀ at k total more = (p : Passes text) → Judging text p at k total more
+Inv-loop text at₀ k₀ total₀ more₀ at k total more = (p : IsSheet text) → Judging text p at k total more
 
 abbrev μ-loop : tie.MeasureT-loop
 μ-loop text at₀ k₀ total₀ more₀ at k total more = length text + 3 - at
@@ -32,7 +32,7 @@ module _ (c : tie.After-read-field Inv-loop μ-loop) where
   abbrev text-of : List ℕ
   text-of = now (at-loop .before .before .args .text)
 
-  abbrev form : Passes text-of
+  abbrev form : IsSheet text-of
   form = at-loop .before .before .pre
 
   abbrev inv : Judging text-of form (at-loop .loop .at) (at-loop .loop .k) (at-loop .loop .total) (at-loop .loop .more)
@@ -61,8 +61,8 @@ module _ (c : tie.After-read-field2 Inv-loop μ-loop) where
   number-right : isNumber (at-loop first .loop .k) (valueAt (drop (at-loop first .loop .at) (text-of first))) ≡ true
   number-right = sym (c .before .before .is-number .ensures (valueAt (drop (at-loop first .loop .at) (text-of first))) (first .read-field .ensures .0)) ∙ not-false (c .before .before .is-number .result) (c .before .if1 .left)
 
-  name-held : Holds name (c .read-field2 .result)
-  name-held = subst (λ (n : ℕ). Holds (valueAt (drop (n + 1) (text-of first))) (c .read-field2 .result)) (comma-is first) (c .read-field2 .ensures .0)
+  name-held : HoldsValue name (c .read-field2 .result)
+  name-held = subst (λ (n : ℕ). HoldsValue (valueAt (drop (n + 1) (text-of first))) (c .read-field2 .result)) (comma-is first) (c .read-field2 .ensures .0)
 
   end-is : c .read-field2 .result .end ≡ endAt (text-of first) (at-loop first .loop .at)
   end-is = c .read-field2 .ensures .1 ∙ ap (λ (n : ℕ). (n + 1) + sizeAt (drop (n + 1) (text-of first))) (comma-is first)

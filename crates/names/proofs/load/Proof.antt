@@ -7,12 +7,12 @@ use Prim.Native.Nat.{ℕ}
 use native.Mathlib.Omega.{arith}
 use denote.Ref.{now}
 use borrow.Author.Needs.{needs}
-use Rattle.sheets.specs.Grammar.{Passes, sheetRows}
-use Rattle.sheets.specs.Automaton.{accepts}
+use Rattle.sheets.specs.Grammar.{IsSheet, sheetRows}
+use Rattle.sheets.specs.InnerAutomaton.{accepts}
 use Rattle.sheets.proofs.Soundness.{accepted-passes}
 use Rattle.sheets.proofs.Scan.{scanned-sheet, scanned-offence}
 use Rattle.sheets.proofs.Loading.{bad-form, bad-record, names-short, lengths-short, loads}
-use Rattle.names.specs.Reading.{formPlace, Judges}
+use Rattle.names.specs.InnerReading.{formPlace, Judges}
 use Rattle.names.proofs.load.Statement.{statement}
 use Rattle.names.proofs.load.Tie as tie
 
@@ -32,7 +32,7 @@ module _ (c : tie.After-known-told3) where
   abbrev told : tie.After-enum-told
   told = c .before .before .before .before
 
-  judged : (p : Passes (text-of told)) → Judges (sheetRows (p .sheet)) (c .before .before .before .judge-records .result)
+  judged : (p : IsSheet (text-of told)) → Judges (sheetRows (p .sheet)) (c .before .before .before .judge-records .result)
   judged p = c .before .before .before .judge-records .ensures p
 
 scan-requires : tie.Need-scan-requires

@@ -2,9 +2,9 @@
 -- Assumes nothing.
 use mathlib.Core.Path.{refl, _∙_}
 use borrow.Author.Needs.{needs}
-use Rattle.sheets.specs.Automaton.{accepting}
+use Rattle.sheets.specs.InnerAutomaton.{accepting}
 use Rattle.sheets.proofs.Steps.{opening-ends, shut-ends}
-use Rattle.names.specs.Reading.{partOf}
+use Rattle.names.specs.InnerReading.{partOf}
 use Rattle.names.proofs.may_end.Statement.{statement}
 use Rattle.names.proofs.may_end.Tie as tie
 

@@ -5,7 +5,7 @@ use mathlib.Core.Logic.{inl, inr}
 use Prim.Native.Nat.{_-_}
 use native.Mathlib.Omega.{arith}
 use lib.ListN.{length}
-use Rattle.sheets.specs.Cursor.{bareValue}
+use Rattle.sheets.specs.InnerCursor.{bareValue}
 use Rattle.sheets.proofs.Cursor.{bare-stops, bare-goes-on, nothing-bare}
 use Rattle.names.proofs.Values.{Gathered, gathered-first, gathered-next, gathered-last}
 use Rattle.names.proofs.read_bare.Statement.{statement}

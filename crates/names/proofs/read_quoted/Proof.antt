@@ -3,7 +3,7 @@
 use Prim.Native.Nat.{_-_}
 use native.Mathlib.Omega.{arith}
 use lib.ListN.{length}
-use Rattle.sheets.specs.Cursor.{quotedValue, quotedSize}
+use Rattle.sheets.specs.InnerCursor.{quotedValue, quotedSize}
 use Rattle.sheets.proofs.Cursor.{quoted-goes-on, quoted-ends, quoted-stops, quoted-pair, nothing-quoted}
 use Rattle.names.proofs.Values.{Gathered, gathered-first, gathered-next, gathered-last}
 use Rattle.names.proofs.read_quoted.Statement.{statement}

@@ -4,7 +4,7 @@ use mathlib.Core.Path.{subst}
 use native.Mathlib.Omega.{arith}
 use borrow.Author.Needs.{needs}
 use Rattle.sheets.proofs.Saves.{no-lengths, many-lengths, bad-name, short-text, saves-text}
-use Rattle.names.specs.Reading.{JudgesNames}
+use Rattle.names.specs.InnerReading.{JudgesNames}
 use Rattle.names.proofs.save.Statement.{statement}
 use Rattle.names.proofs.save.Tie as tie
 

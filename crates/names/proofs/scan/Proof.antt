@@ -6,7 +6,7 @@ use native.Mathlib.Omega.{arith}
 use lib.ListN.{length}
 use Rattle.sheets.proofs.Scan.{Scanning, scan-first, scan-next, scan-dead, scan-sheet, scan-open}
 use Rattle.sheets.proofs.Places.{dead-same}
-use Rattle.names.specs.Reading.{stateOf}
+use Rattle.names.specs.InnerReading.{stateOf}
 use Rattle.names.proofs.scan.Statement.{statement}
 use Rattle.names.proofs.scan.Tie as tie
 

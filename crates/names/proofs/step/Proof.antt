@@ -1,8 +1,8 @@
--- `step` takes the step of each state.
+-- `stateAfter` takes the step of each state.
 -- Assumes nothing.
 use mathlib.Core.Path.{refl}
 use borrow.Author.Needs.{needs}
-use Rattle.sheets.specs.Automaton.{step}
+use Rattle.sheets.specs.InnerAutomaton.{stateAfter}
 use Rattle.names.proofs.step.Statement.{statement}
 use Rattle.names.proofs.step.Tie as tie
 
@@ -46,11 +46,11 @@ enum-told-3 : tie.Need-enum-told-3
 enum-told-3 c = search needs
 
 returns : tie.Need-returns
-unfolding step
+unfolding stateAfter
 returns c = rw (c .before .before .state .given .1) (c .opening-step .ensures)
 
 returns-2 : tie.Need-returns-2
-unfolding step
+unfolding stateAfter
 returns-2 c = rw (c .before .before .state2 .given .1) (c .bare-step .ensures)
 
 returns-3 : tie.Need-returns-3
@@ -63,11 +63,11 @@ returns-5 : tie.Need-returns-5
 returns-5 c = rw (c .before .enum-told .given .1) (c .cr-step .ensures)
 
 returns-6 : tie.Need-returns-6
-unfolding step
+unfolding stateAfter
 returns-6 c = rw (c .before .enum-told2 .given .1) (c .opening-step2 .ensures)
 
 returns-7 : tie.Need-returns-7
-unfolding step
+unfolding stateAfter
 returns-7 c = rw (c .enum-told3 .given .1) refl
 
 pub step-spec : {M : Type 1} → statement M

@@ -8,16 +8,16 @@ use native.Mathlib.Omega.{arith}
 use lib.ListN.{length, take, drop}
 use lib.Seq.{length-take-le}
 use denote.Ref.{now}
-use Rattle.sheets.specs.Grammar.{Passes, sheetRows}
-use Rattle.sheets.specs.Cursor.{valueAt, sizeAt}
+use Rattle.sheets.specs.Grammar.{IsSheet, sheetRows}
+use Rattle.sheets.specs.InnerCursor.{valueAt, sizeAt}
 use Rattle.sheets.proofs.Records.{commaAt, endAt, Turn, Filling, fill-first, fill-turn, fill-names-length, fill-lengths-length, fill-short, fill-names-room, fill-lengths-room, fill-next, fill-done}
-use Rattle.names.specs.Reading.{Holds, Fits}
+use Rattle.names.specs.InnerReading.{HoldsValue, Fits}
 use Rattle.names.proofs.Values.{holds-short}
 use Rattle.names.proofs.write_names.Statement.{statement}
 use Rattle.names.proofs.write_names.Tie as tie
 
 abbrev Inv-loop : tie.InvT-loop
-Inv-loop text names₀ lengths₀ at₀ start₀ k₀ more₀ names lengths at start k more = (p : Passes text) → Filling text p names₀ lengths₀ names lengths at start k more
+Inv-loop text names₀ lengths₀ at₀ start₀ k₀ more₀ names lengths at start k more = (p : IsSheet text) → Filling text p names₀ lengths₀ names lengths at start k more
 
 abbrev μ-loop : tie.MeasureT-loop
 μ-loop text names₀ lengths₀ at₀ start₀ k₀ more₀ names lengths at start k more = length text + 3 - at
@@ -33,7 +33,7 @@ module _ (c : tie.After-read-field Inv-loop μ-loop) where
   abbrev text-of : List ℕ
   text-of = now (start-of .args .text)
 
-  abbrev form : Passes text-of
+  abbrev form : IsSheet text-of
   form = start-of .pre .0
 
   abbrev room : Fits (sheetRows (form .sheet)) (length (now (start-of .args .names))) (length (now (start-of .args .lengths)))
@@ -62,8 +62,8 @@ module _ (c : tie.After-read-field2 Inv-loop μ-loop) where
   abbrev name : List ℕ
   name = valueAt (drop (commaAt (text-of first) (at-loop first .loop .at) + 1) (text-of first))
 
-  name-held : Holds name (c .read-field2 .result)
-  name-held = subst (λ (n : ℕ). Holds (valueAt (drop (n + 1) (text-of first))) (c .read-field2 .result)) (comma-is first) (c .read-field2 .ensures .0)
+  name-held : HoldsValue name (c .read-field2 .result)
+  name-held = subst (λ (n : ℕ). HoldsValue (valueAt (drop (n + 1) (text-of first))) (c .read-field2 .result)) (comma-is first) (c .read-field2 .ensures .0)
 
   short : length name ≤ 40
   short = fill-short (inv first) (goes-on first)

@@ -7,11 +7,12 @@ use borrow.Author.Needs.{needs}
 use borrow.Author.Tests.{not-true, not-false}
 use borrow.Fn.Kinds.{In}
 use borrow.Fn.PlainCycle.{Measures, is, falls, and}
-use Rattle.semigroups.specs.Tables.{product, Closed}
+use Rattle.semigroups.specs.Tables.{product}
+use Rattle.semigroups.specs.TablesLaws.{Closed}
 use Rattle.semigroups.proofs.Tables.{product-element}
 use Rattle.backtrack.specs.declared.Found.{Found}
 use Rattle.backtrack.proofs.Steps.{lowest}
-use Rattle.narrowing.specs.State.{Due}
+use Rattle.narrowing.specs.InnerState.{Due}
 use Rattle.narrowing.proofs.Extending.{Rest, Turn, Verdict, dead, done-bound, done-found, begins, ends, row-marked, shut, onward, fail, found}
 use Rattle.narrowing.proofs.extend.Reads as extend
 use Rattle.narrowing.proofs.extend.Kinds as extend-kinds

@@ -4,7 +4,7 @@ use mathlib.Core.Bool.{Bool, cond}
 use Prim.Native.Nat.{ℕ}
 use native.Mathlib.Omega.{arith}
 use borrow.Author.Tests.{eq-eqb, ne-eqb}
-use Rattle.narrowing.specs.Rows.{digit}
+use Rattle.narrowing.specs.InnerRows.{digit}
 use Rattle.narrowing.proofs.digit.Statement.{statement}
 use Rattle.narrowing.proofs.digit.Tie as tie
 

@@ -6,7 +6,7 @@ use Rattle.semigroups.specs.Tables.{product}
 use Rattle.semigroups.specs.Scratch.{marked}
 use Rattle.semigroups.specs.Trials.{counted}
 use Rattle.semigroups.proofs.Trials.{counted-finds}
-use Rattle.backtrack.specs.State.{foundIn, bounded}
+use Rattle.backtrack.specs.InnerState.{foundIn, bounded}
 use Rattle.narrowing.proofs.Budget.{not-stopped}
 use Rattle.narrowing.proofs.find.Statement.{statement}
 use Rattle.narrowing.proofs.find.Tie as tie

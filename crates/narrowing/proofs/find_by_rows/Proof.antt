@@ -3,10 +3,11 @@
 use mathlib.Core.Path.{ap, _∙_}
 use borrow.Author.Needs.{needs}
 use borrow.Author.Tests.{not-true}
-use Rattle.semigroups.specs.Tables.{product, Closed}
+use Rattle.semigroups.specs.Tables.{product}
+use Rattle.semigroups.specs.TablesLaws.{Closed}
 use Rattle.semigroups.proofs.Booleans.{clash}
 use Rattle.semigroups.proofs.Tables.{product-element}
-use Rattle.backtrack.specs.State.{foundIn}
+use Rattle.backtrack.specs.InnerState.{foundIn}
 use Rattle.rows.proofs.Room.{roomy-kept}
 use Rattle.narrowing.proofs.Extending.{start as begin, all-found, nowhere}
 use Rattle.narrowing.proofs.find_by_rows.Statement.{statement}

@@ -6,15 +6,15 @@ use Prim.Native.Nat.{ℕ, _+_, _-_}
 use native.Mathlib.Omega.{arith}
 use borrow.Author.Needs.{needs}
 use Rattle.semigroups.specs.Lists.{at}
-use Rattle.semigroups.specs.Tables.{product, Element, Closed}
-use Rattle.semigroups.specs.Maps.{Embedding}
-use Rattle.semigroups.specs.Search.{Among}
+use Rattle.semigroups.specs.Tables.{product, Element}
+use Rattle.semigroups.specs.TablesLaws.{Closed}
+use Rattle.semigroups.specs.MapsLaws.{Embedding, Among}
 use Rattle.semigroups.proofs.Booleans.{clash}
 use Rattle.semigroups.proofs.Tables.{product-element}
-use Rattle.rows.specs.Rows.{has, masked, Shrinks}
+use Rattle.rows.specs.InnerRows.{has, masked, Shrinks}
 use Rattle.rows.proofs.Rows.{shrinks-none, shrinks-more, masked-shrinks}
 use Rattle.narrowing.proofs.Narrowed.{not-empty, mask-kept, narrows-more}
-use Rattle.narrowing.specs.Rows.{Narrows}
+use Rattle.narrowing.specs.InnerRows.{Narrows}
 use Rattle.narrowing.proofs.narrow.Statement.{statement}
 use Rattle.narrowing.proofs.narrow.Tie as tie
 

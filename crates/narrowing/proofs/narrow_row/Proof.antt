@@ -4,9 +4,9 @@ use Prim.Native.Nat.{_-_}
 use native.Mathlib.Omega.{arith}
 use borrow.Author.Needs.{needs}
 use Rattle.semigroups.specs.Tables.{product}
-use Rattle.rows.specs.Rows.{rowOf, packedRow, word, has}
+use Rattle.rows.specs.InnerRows.{rowOf, packedRow, word, has}
 use Rattle.rows.proofs.Rows.{row}
-use Rattle.narrowing.specs.Rows.{pattern, narrowed}
+use Rattle.narrowing.specs.InnerRows.{pattern, narrowed}
 use Rattle.narrowing.proofs.Narrowed.{low-narrowed, high-narrowed}
 use Rattle.narrowing.proofs.narrow_row.Statement.{statement}
 use Rattle.narrowing.proofs.narrow_row.Tie as tie

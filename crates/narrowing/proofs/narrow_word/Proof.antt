@@ -9,9 +9,9 @@ use denote.Ref.{now}
 use lib.Count.{trailingZeros, trailing-le}
 use lib.Pow.{shr-le, pow-mono}
 use Rattle.semigroups.specs.Tables.{product}
-use Rattle.rows.specs.Rows.{word}
+use Rattle.rows.specs.InnerRows.{word}
 use Rattle.rows.proofs.Words.{kept, jump, done, hit, behind, word-more, word-as-was, word-below}
-use Rattle.narrowing.specs.Rows.{stays}
+use Rattle.narrowing.specs.InnerRows.{stays}
 use Rattle.narrowing.proofs.narrow_word.Statement.{statement}
 use Rattle.narrowing.proofs.narrow_word.Tie as tie
 

@@ -1,6 +1,6 @@
 -- `nothing` meets its contract. Assumes nothing.
 use mathlib.Core.Path.{refl}
-use Rattle.backtrack.specs.State.{foundIn}
+use Rattle.backtrack.specs.InnerState.{foundIn}
 use Rattle.narrowing.proofs.nothing.Statement.{statement}
 use Rattle.narrowing.proofs.nothing.Tie as tie
 

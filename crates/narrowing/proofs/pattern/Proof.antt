@@ -2,7 +2,7 @@
 use mathlib.Core.Path.{ap₂}
 use Prim.Native.Nat.{_+_}
 use borrow.Author.Needs.{needs}
-use Rattle.narrowing.specs.Rows.{pattern}
+use Rattle.narrowing.specs.InnerRows.{pattern}
 use Rattle.narrowing.proofs.pattern.Statement.{statement}
 use Rattle.narrowing.proofs.pattern.Tie as tie
 

@@ -5,8 +5,8 @@ use borrow.Author.Tests.{not-true, not-false}
 use borrow.Author.Needs.{needs}
 use lib.Dec.{eqb}
 use Rattle.semigroups.specs.Tables.{product}
-use Rattle.rows.specs.Rows.{inRow}
-use Rattle.narrowing.specs.Rows.{pattern}
+use Rattle.rows.specs.InnerRows.{inRow}
+use Rattle.narrowing.specs.InnerRows.{pattern}
 use Rattle.narrowing.proofs.Narrowed.{left-fails, right-fails, looks-decide}
 use Rattle.narrowing.proofs.stays.Statement.{statement}
 use Rattle.narrowing.proofs.stays.Tie as tie

@@ -10,9 +10,9 @@ use lib.Seq.{length-take-le}
 use denote.Ref.{now}
 use Rattle.semigroups.specs.Calls.{gives, overwritten}
 use Rattle.tables.proofs.Questions.{square-small}
-use Rattle.files.specs.Files.{fileRefusal, fileAnswer, room}
+use Rattle.files.specs.Files.{fileRefusal, room}
+use Rattle.files.specs.Answers.{fileAnswer, failedNumber}
 use Rattle.tables.specs.Answers.{numberedSays}
-use Rattle.files.specs.Answers.{numberOf}
 use Rattle.files.proofs.Files.{Holds, not-accepted, holds, accepted-file}
 use Rattle.files.proofs.Numbers.{failed-small}
 use Rattle.output.proofs.Records.{refused-written}
@@ -88,7 +88,7 @@ returns c =
     let loading = c .before .before .before .before .before .before .before in
     let z = loading .before .before .before .before in
     let no = not-accepted (loading .load-then-check .result) (c .before .before .before .before .before .match .keys2) in
-    let w = refused-written _ 1 _ (no .by) (c .before .failed-question .ensures ∙ ap numberOf (no .says)) (search needs) (c .put-record .ensures .0) (c .put-record .ensures .1) in
+    let w = refused-written _ 1 _ (no .by) (c .before .failed-question .ensures ∙ ap failedNumber (no .says)) (search needs) (c .put-record .ensures .0) (c .put-record .ensures .1) in
     printed (now (z .args .out)) (prints-source (now (z .args .source)) (now (z .args .target)) (replicate 14400 0) refl (no .by) (sym (loading .load-then-check .ensures .0) ∙ no .says)) (w .size) (w .text)
 
 slice-aggregate-load-then-check-2 : tie.Need-slice-aggregate-load-then-check-2
@@ -121,7 +121,7 @@ returns-2 c =
     let first = loading .before .before .before in
     let z = start-of first in
     let no = not-accepted (loading .load-then-check2 .result) (c .before .before .before .before .before .match2 .keys2) in
-    let w = refused-written _ 2 _ (no .by) (c .before .failed-question2 .ensures ∙ ap numberOf (no .says)) (search needs) (c .put-record2 .ensures .0) (c .put-record2 .ensures .1) in
+    let w = refused-written _ 2 _ (no .by) (c .before .failed-question2 .ensures ∙ ap failedNumber (no .says)) (search needs) (c .put-record2 .ensures .0) (c .put-record2 .ensures .1) in
     printed (now (z .args .out)) (prints-target (now (z .args .source)) (now (z .args .target)) (replicate 14400 0) refl (no .by) (source-passes first) (sym (loading .load-then-check2 .ensures .0) ∙ no .says)) (w .size) (w .text)
 
 mul-source-size : tie.Need-mul-source-size

@@ -5,7 +5,6 @@ use native.Mathlib.Omega.{arith}
 use lib.ListN.{length, drop}
 use Rattle.semigroups.specs.Lists.{earlier}
 use Rattle.plain.proofs.Enumeration.{order-next, order-decided, order-end}
-use mathlib.Core.Path.{_≡_, refl}
 use Rattle.plain.proofs.earlier.Statement.{statement}
 use Rattle.plain.proofs.earlier.Tie as tie
 

@@ -6,21 +6,12 @@ use native.Mathlib.Omega.{arith}
 use denote.Ref.{now}
 use lib.ListN.{length}
 use Rattle.semigroups.specs.Lists.{find, lists}
-use Rattle.semigroups.specs.Tables.{IsList, product}
+use Rattle.semigroups.specs.TablesLaws.{IsList}
+use Rattle.semigroups.specs.Tables.{product}
 use Rattle.semigroups.proofs.Booleans.{clash, untrue, unfalse, not-of-true, not-of-false}
-use Rattle.plain.specs.Enumeration.{numbered, keeps}
+use Rattle.plain.specs.InnerEnumeration.{numbered, keeps}
 use Rattle.plain.proofs.Enumeration.{remaining, search-begin, search-skip, search-end, drawn, drawn-list}
 use Rattle.plain.proofs.Pairs.{wrong, every-pair, one-pair}
-use mathlib.Core.Path.{_≡_, refl, sym, subst}
-use Prim.Native.Nat.{ℕ, _-_, _^_, _<_}
-use Rattle.semigroups.specs.Tables.{IsList, product}
-use Rattle.plain.proofs.Enumeration.{remaining, search-begin}
-use Rattle.plain.proofs.Pairs.{wrong}
-use mathlib.Core.Path.{_≡_, refl}
-use Prim.Native.Nat.{_-_}
-use Rattle.semigroups.specs.Tables.{IsList, product}
-use Rattle.plain.proofs.Enumeration.{remaining, search-begin}
-use Rattle.plain.proofs.Pairs.{wrong}
 use Rattle.plain.proofs.is_embedding.Statement.{statement}
 use Rattle.plain.proofs.is_embedding.Tie as tie
 

@@ -6,9 +6,10 @@ use Prim.Native.Nat.{ℕ}
 use denote.Ref.{now}
 use lib.ListN.{take}
 use Rattle.semigroups.specs.Lists.{earlier}
-use Rattle.semigroups.specs.Tables.{IsList, product}
+use Rattle.semigroups.specs.TablesLaws.{IsList}
+use Rattle.semigroups.specs.Tables.{product}
 use Rattle.semigroups.specs.Maps.{isMap}
-use Rattle.plain.specs.Enumeration.{numbered, kindOf}
+use Rattle.plain.specs.InnerEnumeration.{numbered, plainKind}
 use Rattle.plain.proofs.Fronts.{front-read, front-list}
 use borrow.Author.Needs.{needs}
 use Rattle.plain.proofs.is_later_map.Statement.{statement}
@@ -50,7 +51,7 @@ returns : tie.Need-returns
 returns c =
     let d = c .before .before .before .before in
     let a = start-of d .args in
-    let test : List ℕ → Bool = λ f. isMap (kindOf (a .isomorphisms)) (a .m) (product (a .m) (now (a .source))) (a .n) (product (a .n) (now (a .target))) f in
+    let test : List ℕ → Bool = λ f. isMap (plainKind (a .isomorphisms)) (a .m) (product (a .m) (now (a .source))) (a .n) (product (a .n) (now (a .target))) f in
     ap₂ _&&_ (c .before .before .is-map .ensures ∙ ap test (read d)) (c .earlier .ensures ∙ ap (earlier (now (a .after))) (read d))
 
 pub is-later-map-spec : {M : Type 1} → statement M

@@ -4,10 +4,10 @@ use mathlib.Core.List.{[], _∷_}
 use native.Mathlib.Omega.{arith}
 use borrow.Author.Needs.{needs}
 use Rattle.semigroups.specs.Lists.{at}
-use Rattle.semigroups.specs.Questions.{no}
+use Rattle.semigroups.specs.QuestionsLaws.{no}
 use Rattle.semigroups.proofs.Tables.{filled}
 use Rattle.tables.proofs.Questions.{square-small, order-low, order-high, wrong-size, right-size, cells-pass}
-use Rattle.plain.specs.Said.{saidOf}
+use Rattle.plain.specs.InnerSaid.{saidOf}
 use Rattle.plain.specs.declared.Said.{Said}
 use Rattle.plain.proofs.Judging.{said-of-cells, wrong-place, no-place}
 use Rattle.plain.proofs.judge.Statement.{statement}

@@ -5,18 +5,14 @@ use mathlib.Core.Option.{Option·map}
 use Prim.Native.Nat.{ℕ, _-_, _^_, _≤_, _<_}
 use native.Mathlib.Omega.{arith}
 use lib.ListN.{length, getD}
-use Rattle.semigroups.specs.Tables.{IsList, product, badTriple}
-use Rattle.semigroups.specs.Questions.{no}
+use Rattle.semigroups.specs.TablesLaws.{IsList}
+use Rattle.semigroups.specs.Tables.{product, badTriple}
+use Rattle.semigroups.specs.QuestionsLaws.{no}
 use Rattle.semigroups.proofs.Booleans.{clash, untrue, unfalse, not-of-true, not-of-false}
-use Rattle.plain.specs.Enumeration.{numbered}
-use Rattle.plain.specs.Said.{saidOf}
+use Rattle.plain.specs.InnerEnumeration.{numbered}
+use Rattle.plain.specs.InnerSaid.{saidOf}
 use Rattle.plain.proofs.Enumeration.{drawn, drawn-list, entry-element}
 use Rattle.plain.proofs.Triples.{triplesFrom, triples-begin, triples-next, triples-hit, triples-end}
-use mathlib.Core.Path.{_≡_, refl}
-use Prim.Native.Nat.{ℕ, _-_, _^_, _≤_, _<_}
-use lib.ListN.{length, getD}
-use Rattle.semigroups.specs.Tables.{IsList, product, badTriple}
-use Rattle.plain.proofs.Triples.{triplesFrom, triples-begin}
 use Rattle.plain.proofs.judge_triples.Statement.{statement}
 use Rattle.plain.proofs.judge_triples.Tie as tie
 

@@ -10,7 +10,7 @@ use lib.ListN.{length, getD}
 use Rattle.semigroups.specs.Lists.{at}
 use Rattle.semigroups.specs.Tables.{Element, product}
 use Rattle.semigroups.proofs.Tables.{list-at}
-use Rattle.plain.specs.Enumeration.{keeps}
+use Rattle.plain.specs.InnerEnumeration.{keeps}
 use Rattle.plain.proofs.Enumeration.{entry-element}
 use Rattle.plain.proofs.keeps.Statement.{statement}
 use Rattle.plain.proofs.keeps.Tie as tie

@@ -8,7 +8,7 @@ use denote.Ref.{now}
 use lib.ListN.{length}
 use Rattle.semigroups.specs.Tables.{product}
 use Rattle.semigroups.specs.Maps.{maps, next, earliest}
-use Rattle.plain.specs.Enumeration.{isFound, kindOf}
+use Rattle.plain.specs.InnerEnumeration.{isFound, plainKind}
 use Rattle.plain.proofs.Enumeration.{remaining, search-begin, search-skip, search-hit, search-end, drawn, drawn-list}
 use Rattle.plain.proofs.Earliest.{later, earliest-later}
 use Rattle.plain.proofs.next_map.Statement.{statement}
@@ -18,7 +18,7 @@ abbrev Inv-loop : tie.InvT-loop
 Inv-loop isomorphisms source m target n after map₀ total k₀ map k =
     let s = product m source in
     let t = product n target in
-    let kind = kindOf isomorphisms in
+    let kind = plainKind isomorphisms in
     (map ≡ map₀) × (earliest (next after) (maps kind m s n t) ≡ remaining (later m s n t kind after) m n k)
 
 abbrev μ-loop : tie.MeasureT-loop

@@ -4,9 +4,8 @@ use Prim.Native.Nat.{_-_, _<_}
 use native.Mathlib.Nat.{mod-lt}
 use native.Mathlib.Omega.{arith}
 use lib.ListN.{length}
-use Rattle.plain.specs.Enumeration.{numbered}
+use Rattle.plain.specs.InnerEnumeration.{numbered}
 use Rattle.plain.proofs.Enumeration.{Written, write-begin, write-length, write-end, write-next}
-use Rattle.plain.proofs.Enumeration.{Written, write-begin}
 use Rattle.plain.proofs.write_list.Statement.{statement}
 use Rattle.plain.proofs.write_list.Tie as tie
 

@@ -1,5 +1,5 @@
 -- `find` meets its contract: without a limit the search finds the map asked for. Assumes nothing.
-use Rattle.search.specs.Kinds.{kindOf}
+use Rattle.search.specs.Answers.{kindOf}
 use Rattle.search.specs.Calls.{lend}
 use Rattle.search.proofs.Searching.{as-answered}
 use borrow.Author.Needs.{needs}

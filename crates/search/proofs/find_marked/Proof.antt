@@ -9,8 +9,8 @@ use Rattle.semigroups.specs.Tables.{product}
 use Rattle.semigroups.specs.Scratch.{marked}
 use Rattle.semigroups.specs.Trials.{Work}
 use Rattle.semigroups.proofs.Trials.{counted-finds}
-use Rattle.backtrack.specs.State.{foundIn, bounded}
-use Rattle.search.specs.Searching.{markedWork}
+use Rattle.backtrack.specs.InnerState.{foundIn, bounded}
+use Rattle.search.specs.InnerSearching.{markedWork}
 use Rattle.search.proofs.Marked.{found-none, found-some, leaves-found}
 use Rattle.search.proofs.find_marked.Statement.{statement}
 use Rattle.search.proofs.find_marked.Tie as tie

@@ -6,7 +6,7 @@ use borrow.Author.Needs.{needs}
 use lib.ListN.{take}
 use Rattle.semigroups.specs.Trials.{Work}
 use Rattle.backtrack.specs.declared.Found.{Found}
-use Rattle.search.specs.Searching.{markedWork}
+use Rattle.search.specs.InnerSearching.{markedWork}
 use Rattle.search.proofs.Marked.{found-none, found-some, leaves-stopped, left-within, found-here, leaves-ended}
 use Rattle.search.proofs.find_marked_within.Statement.{statement}
 use Rattle.search.proofs.find_marked_within.Tie as tie

@@ -2,9 +2,8 @@
 use mathlib.Core.Path.{_≡_, refl, sym, ap, _∙_}
 use mathlib.Core.Bool.{true, false}
 use mathlib.Core.Option.{none}
-use Rattle.search.specs.Kinds.{kindOf}
+use Rattle.search.specs.Answers.{kindOf, questionsRefusal}
 use Rattle.search.specs.Calls.{Lent, lend, refusalOf}
-use Rattle.search.specs.Answers.{questionsRefusal}
 use Rattle.search.proofs.Calls.{stands}
 use Rattle.search.proofs.Limited.{refused-unchanged, as-limited}
 use borrow.Author.Needs.{needs}

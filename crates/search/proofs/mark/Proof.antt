@@ -5,9 +5,9 @@ use mathlib.Core.List.{List}
 use Prim.Native.Nat.{ℕ}
 use borrow.Author.Needs.{needs}
 use Rattle.semigroups.specs.Tables.{product}
-use Rattle.semigroups.specs.Calls.{scratchAfter}
+use Rattle.semigroups.specs.InnerCalls.{scratchAfter}
 use Rattle.semigroups.specs.Candidates.{candidate}
-use Rattle.search.specs.Kinds.{straight}
+use Rattle.search.specs.InnerSearching.{straight}
 use Rattle.search.proofs.mark.Statement.{statement}
 use Rattle.search.proofs.mark.Tie as tie
 

@@ -6,7 +6,7 @@ use Rattle.semigroups.specs.Tables.{product}
 use Rattle.semigroups.specs.Calls.{overwritten}
 use Rattle.semigroups.specs.Maps.{embeddings}
 use Rattle.semigroups.specs.Candidates.{candidate}
-use Rattle.search.specs.Masks.{masked}
+use Rattle.search.specs.InnerMasks.{masked}
 use Rattle.search.proofs.Masks.{masked-scratch}
 use borrow.Author.Needs.{needs}
 use Rattle.search.proofs.mark_among.Statement.{statement}

@@ -2,7 +2,7 @@
 use mathlib.Core.Path.{ap, sym}
 use mathlib.Core.Bool.{Bool}
 use Rattle.search.specs.Kinds.{orderFits}
-use Rattle.search.specs.Kinds.{straight}
+use Rattle.search.specs.InnerSearching.{straight}
 use Rattle.search.proofs.order_fits.Statement.{statement}
 use Rattle.search.proofs.order_fits.Tie as tie
 

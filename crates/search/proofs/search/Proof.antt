@@ -1,9 +1,8 @@
 -- `search` meets its contract: a failed question changes no byte; behind the questions stands the map asked for. Assumes nothing.
 use mathlib.Core.Path.{_≡_, sym, ap, _∙_}
 use mathlib.Core.Option.{none}
-use Rattle.search.specs.Kinds.{kindOf}
+use Rattle.search.specs.Answers.{kindOf, questionsRefusal}
 use Rattle.search.specs.Calls.{Lent, lend, refusalOf}
-use Rattle.search.specs.Answers.{questionsRefusal}
 use Rattle.search.proofs.Calls.{stands, refused-unchanged, passing}
 use borrow.Author.Needs.{needs}
 use Rattle.search.proofs.search.Statement.{statement}

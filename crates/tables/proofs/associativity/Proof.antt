@@ -4,11 +4,10 @@ use mathlib.Core.Option.{Option·map}
 use borrow.Author.Needs.{needs}
 use denote.Ref.{now}
 use Rattle.semigroups.specs.Tables.{product}
-use Rattle.semigroups.specs.Questions.{no}
+use Rattle.semigroups.specs.QuestionsLaws.{no}
 use Rattle.semigroups.proofs.Tables.{no-bad-triple, filled-closed}
-use Rattle.tables.specs.Choice.{LightsAnswer}
+use Rattle.tables.specs.InnerChoice.{LightsAnswer}
 use Rattle.tables.proofs.Choice.{lights-yes}
-use borrow.Author.Needs.{needs}
 use Rattle.tables.proofs.associativity.Statement.{statement}
 use Rattle.tables.proofs.associativity.Tie as tie
 

@@ -5,7 +5,7 @@ use Prim.Native.Nat.{_+_, _-_, _≤_}
 use native.Mathlib.Omega.{arith}
 use lib.ListN.{length, drop}
 use denote.Ref.{now}
-use Rattle.csv.specs.Decimals.{digits}
+use Rattle.csv.specs.InnerCursor.{digits}
 use Rattle.csv.proofs.Fields.{is-digit, below-digit, above-digit, digits-past, digits-none, digits-more}
 use Rattle.text.proofs.digits_end.Statement.{statement}
 use Rattle.text.proofs.digits_end.Tie as tie

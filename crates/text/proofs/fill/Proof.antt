@@ -6,9 +6,9 @@ use Prim.Native.Nat.{_+_, _-_, _≤_}
 use native.Mathlib.Omega.{arith}
 use lib.ListN.{length, drop}
 use denote.Ref.{now}
-use Rattle.csv.specs.Decimals.{digits}
+use Rattle.csv.specs.InnerCursor.{digits}
 use Rattle.csv.specs.Tables.{cellsOf}
-use Rattle.csv.specs.Passing.{Number}
+use Rattle.csv.specs.PassingLaws.{Number}
 use Rattle.csv.proofs.Fields.{field-passed}
 use Rattle.csv.proofs.Reading.{turn-forward}
 use Rattle.csv.proofs.Filling.{Filling, here, fill-first, fill-done, fill-length, fill-field, fill-room, fill-next}

@@ -7,7 +7,7 @@ use native.Mathlib.Omega.{arith}
 use lib.ListN.{length, getD, drop}
 use denote.Ref.{now}
 use borrow.Author.Needs.{needs}
-use Rattle.csv.specs.Decimals.{digits}
+use Rattle.csv.specs.InnerCursor.{digits}
 use Rattle.csv.proofs.Fields.{digit-here, digits-first, field-empty, field-long, field-zero, field-large, field-passes}
 use Rattle.text.proofs.judge_field.Statement.{statement}
 use Rattle.text.proofs.judge_field.Tie as tie

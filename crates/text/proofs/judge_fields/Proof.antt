@@ -11,11 +11,10 @@ use lib.ListN.{length, drop}
 use denote.Ref.{now}
 use borrow.Author.Needs.{needs}
 use borrow.Author.Tests.{not-true, not-false}
-use Rattle.csv.specs.Decimals.{digits}
-use Rattle.csv.specs.Cursor.{commaBehind}
-use Rattle.csv.specs.Questions.{fieldRefusal}
+use Rattle.csv.specs.InnerCursor.{digits, commaBehind}
+use Rattle.csv.specs.QuestionsLaws.{fieldRefusal}
 use Rattle.text.specs.declared.Field.{Field}
-use Rattle.text.specs.Fields.{fieldAt}
+use Rattle.text.specs.InnerFields.{fieldAt}
 use Rattle.text.specs.Answers.{judgedRefusal}
 use Rattle.csv.proofs.Reading.{turn-forward}
 use Rattle.csv.proofs.Judging.{Judging, here, judge-first, judge-refused, judge-comma, judge-break, judge-uneven, says-field, end-uneven, end-many, end-square}

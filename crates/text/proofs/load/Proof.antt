@@ -10,7 +10,7 @@ use denote.Ref.{now}
 use borrow.Author.Needs.{needs}
 use Rattle.tables.proofs.Questions.{square-small}
 use Rattle.semigroups.specs.Calls.{Answer, gives}
-use Rattle.csv.specs.Questions.{bytesRefusal, gridRefusal}
+use Rattle.csv.specs.InnerQuestions.{bytesRefusal, gridRefusal}
 use Rattle.text.specs.Answers.{judgedRefusal}
 use Rattle.csv.proofs.Loading.{too-short, too-long, bad-byte, bad-grid, bad-order, bad-room, loads, load-refused, load-given, grid-passed, cells-length}
 use Rattle.text.proofs.load.Statement.{statement}

@@ -7,7 +7,7 @@ use Prim.Native.Nat.{ℕ}
 use native.Mathlib.Omega.{arith}
 use Rattle.csv.proofs.Fields.{Goes, end-inside, nothing-behind, comma-behind, break-behind}
 use Rattle.text.specs.declared.Field.{Field}
-use Rattle.text.specs.Fields.{fieldAt}
+use Rattle.text.specs.InnerFields.{fieldAt}
 use denote.Ref.{now}
 use borrow.Author.Needs.{needs}
 use Rattle.text.proofs.next_field.Statement.{statement}

@@ -7,7 +7,8 @@ use Prim.Native.Nat.{_+_, _-_, _^_, _≤_, _<_}
 use native.Mathlib.Omega.{arith}
 use lib.ListN.{length, drop, getD}
 use denote.Ref.{now}
-use Rattle.csv.specs.Decimals.{isDigit, digits, value, valueFrom}
+use Rattle.csv.specs.Decimals.{isDigit, value, valueFrom}
+use Rattle.csv.specs.InnerCursor.{digits}
 use Rattle.csv.proofs.Fields.{empty, digit-here, digits-more, bound-more, bound-two}
 use Rattle.csv.proofs.Rows.{digit-range}
 use Rattle.text.proofs.read_number.Statement.{statement}

@@ -3,7 +3,7 @@ use mathlib.Core.Path.{refl, ap, _∙_}
 use native.Mathlib.Omega.{arith}
 use Rattle.semigroups.specs.Lists.{at}
 use Rattle.semigroups.specs.Tables.{product}
-use Rattle.semigroups.specs.Search.{passes}
+use Rattle.semigroups.specs.Trials.{passes}
 use Rattle.semigroups.proofs.Tables.{product-element}
 use Rattle.constraints.proofs.Placing.{image-element, newest-prefix, newest-fresh, newest-trial}
 use Rattle.constraints.proofs.Noting.{newest-tracks}

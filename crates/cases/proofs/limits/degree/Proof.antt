@@ -1,9 +1,9 @@
 -- `degree` meets its contract: what is compared is what the definition of the call says and leaves. Assumes nothing.
 use mathlib.Core.Path.{ap, ap₂, _∙_}
 use Rattle.plain.specs.declared.Said.{Said}
-use Rattle.judging.specs.Said.{sameSaid}
-use Rattle.cases.specs.Answering.{answerSaid}
-use Rattle.judging.specs.Tally.{counted}
+use Rattle.judging.specs.InnerSaid.{sameSaid}
+use Rattle.cases.specs.InnerAnswering.{answerSaid}
+use Rattle.judging.specs.InnerTally.{counted}
 use Rattle.cases.proofs.Bytes.{same-left}
 use borrow.Author.Needs.{needs}
 use Rattle.cases.proofs.limits.degree.Statement.{statement}

@@ -1,4 +1,4 @@
--- `degrees` meets its contract: what 01 says of the four degrees is what the definition says. Assumes nothing.
+-- `degrees` meets its contract: what RULES 23.4 says of the four degrees is what the definition says. Assumes nothing.
 use mathlib.Core.Path.{_≡_, refl, ap, _∙_}
 use mathlib.Core.Bool.{true}
 use mathlib.Core.List.{[], _∷_, flatMap}
@@ -9,12 +9,12 @@ use Rattle.semigroups.specs.Lists.{range, elements, at, sum, count, earlier, li
 use Rattle.semigroups.specs.Tables.{grid, isElement}
 use Rattle.semigroups.specs.Maps.{after}
 use Rattle.semigroups.specs.Transformations.{transformations, transformationOrder, transformation, numberOf, transformationProduct, transformationCells, transformationRefusal}
-use Rattle.transformations.specs.Answers.{transformationSays, transformationCellsAfter}
+use Rattle.transformations.specs.Calls.{transformationSays, transformationCellsAfter}
 use Rattle.plain.specs.declared.Said.{Said}
-use Rattle.judging.specs.Said.{sameSaid}
+use Rattle.judging.specs.InnerSaid.{sameSaid}
 use Rattle.semigroups.specs.Copies.{sameList}
-use Rattle.cases.specs.Answering.{answerSaid}
-use Rattle.judging.specs.Tally.{empty, agreed}
+use Rattle.cases.specs.InnerAnswering.{answerSaid}
+use Rattle.judging.specs.InnerTally.{empty, agreed}
 use Rattle.judging.proofs.Counting.{two-more}
 use borrow.Author.Needs.{needs}
 use Rattle.cases.proofs.limits.degrees.Statement.{statement}

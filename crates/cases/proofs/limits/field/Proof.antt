@@ -3,10 +3,10 @@ use Prim.Native.Nat.{ℕ}
 use mathlib.Core.Path.{ap, ap₂, _∙_}
 use mathlib.Core.List.{List, [], _∷_}
 use Rattle.plain.specs.declared.Said.{Said}
-use Rattle.judging.specs.Said.{sameSaid}
+use Rattle.judging.specs.InnerSaid.{sameSaid}
 use Rattle.semigroups.specs.Copies.{sameList}
-use Rattle.cases.specs.Answering.{answerSaid}
-use Rattle.judging.specs.Tally.{counted}
+use Rattle.cases.specs.InnerAnswering.{answerSaid}
+use Rattle.judging.specs.InnerTally.{counted}
 use borrow.Author.Needs.{needs}
 use Rattle.cases.proofs.limits.field.Statement.{statement}
 use Rattle.cases.proofs.limits.field.Tie as tie

@@ -1,4 +1,4 @@
--- `fields` meets its contract: what 01 says of the four texts is what the definition says. Assumes nothing.
+-- `fields` meets its contract: what RULES 23.4 says of the four texts is what the definition says. Assumes nothing.
 use mathlib.Core.Path.{_≡_, refl, ap, _∙_}
 use mathlib.Core.Bool.{true}
 use mathlib.Core.List.{List, [], _∷_, flatMap, flatten}
@@ -9,13 +9,15 @@ use Rattle.semigroups.specs.Tables.{isElement}
 use Rattle.csv.specs.Decimals.{isDigit, value, valueFrom}
 use Rattle.csv.specs.Records.{isBreak, onto, records, fields, rows}
 use Rattle.csv.specs.Tables.{fieldsOf, orderOf, cellsOf}
-use Rattle.csv.specs.Questions.{breakAt, inBreak, isAllowed, firstOther, bytesRefusal, fieldRefusal, fieldsRefusal, isSquare, fieldsQuestions, loadRefusal}
+use Rattle.csv.specs.Questions.{breakAt, inBreak, isAllowed, firstOther, isSquare, fieldsQuestions, loadRefusal}
+use Rattle.csv.specs.InnerQuestions.{bytesRefusal, fieldsRefusal}
+use Rattle.csv.specs.QuestionsLaws.{fieldRefusal}
 use Rattle.csv.specs.Calls.{loadAnswer, cellsAfter}
 use Rattle.plain.specs.declared.Said.{Said}
-use Rattle.judging.specs.Said.{sameSaid}
+use Rattle.judging.specs.InnerSaid.{sameSaid}
 use Rattle.semigroups.specs.Copies.{sameList}
-use Rattle.cases.specs.Answering.{answerSaid}
-use Rattle.judging.specs.Tally.{empty, agreed}
+use Rattle.cases.specs.InnerAnswering.{answerSaid}
+use Rattle.judging.specs.InnerTally.{empty, agreed}
 use Rattle.judging.proofs.Counting.{two-more}
 use borrow.Author.Needs.{needs}
 use Rattle.cases.proofs.limits.fields.Statement.{statement}

@@ -8,18 +8,19 @@ use native.Mathlib.Omega.{arith}
 use lib.ListN.{length, drop, replicate}
 use Rattle.semigroups.specs.Lists.{range, elements, at, lists, find, firstOf}
 use Rattle.semigroups.specs.Tables.{Accepted, product, isElement, associates, badCell, badTriple}
-use Rattle.semigroups.specs.Questions.{cellsRefusal, tableRefusal}
+use Rattle.semigroups.specs.QuestionsLaws.{cellsRefusal}
+use Rattle.semigroups.specs.Questions.{tableRefusal}
 use Rattle.semigroups.specs.Transformations.{transformationOrder, transformationCells, transformationRefusal}
 use Rattle.semigroups.proofs.Tables.{accepted}
 use Rattle.semigroups.proofs.Transformations.{degrees-accepted, length-cells}
-use Rattle.transformations.specs.Answers.{transformationSays, transformationCellsAfter}
+use Rattle.transformations.specs.Calls.{transformationSays, transformationCellsAfter}
 use Rattle.plain.specs.declared.Said.{Said}
 use Rattle.judging.specs.declared.tally.Tally.{Tally}
-use Rattle.judging.specs.Said.{sameSaid}
-use Rattle.cases.specs.Answering.{answerSaid}
-use Rattle.cases.specs.Embedded.{mat5Cells}
-use Rattle.judging.specs.Tally.{empty, counted, agreed}
-use Rattle.comparisons.specs.Walking.{walkCalls}
+use Rattle.judging.specs.InnerSaid.{sameSaid}
+use Rattle.cases.specs.InnerAnswering.{answerSaid}
+use Rattle.cases.specs.InnerEmbedded.{mat5Cells}
+use Rattle.judging.specs.InnerTally.{empty, counted, agreed}
+use Rattle.comparisons.specs.InnerWalking.{walkCalls}
 use Rattle.judging.proofs.Counting.{agreed-counted}
 use borrow.Author.Needs.{needs}
 use Rattle.cases.proofs.limits.large_target.Statement.{statement}

@@ -3,7 +3,7 @@ use mathlib.Core.Path.{_≡_, sym, ap, _∙_}
 use Rattle.tables.specs.declared.Numbered.{Numbered}
 use Rattle.tables.specs.Answers.{numberedSays}
 use Rattle.plain.specs.declared.Said.{Said}
-use Rattle.cases.specs.Answering.{answerSaid}
+use Rattle.cases.specs.InnerAnswering.{answerSaid}
 use borrow.Author.Needs.{needs}
 use Rattle.cases.proofs.limits.numbered_said.Statement.{statement}
 use Rattle.cases.proofs.limits.numbered_said.Tie as tie

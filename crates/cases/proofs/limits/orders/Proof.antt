@@ -7,13 +7,14 @@ use Prim.Native.Nat.{ℕ}
 use native.Mathlib.Omega.{arith}
 use lib.ListN.{replicate}
 use Rattle.semigroups.specs.Lists.{at}
-use Rattle.semigroups.specs.Questions.{no, tableRefusal}
+use Rattle.semigroups.specs.QuestionsLaws.{no}
+use Rattle.semigroups.specs.Questions.{tableRefusal}
 use Rattle.tables.proofs.Questions.{order-high, cells-refused}
 use Rattle.plain.specs.declared.Said.{Said}
-use Rattle.plain.specs.Said.{saidOf}
+use Rattle.plain.specs.InnerSaid.{saidOf}
 use Rattle.judging.specs.declared.tally.Tally.{Tally}
-use Rattle.judging.specs.Said.{sameSaid}
-use Rattle.judging.specs.Tally.{empty, counted, agreed}
+use Rattle.judging.specs.InnerSaid.{sameSaid}
+use Rattle.judging.specs.InnerTally.{empty, counted, agreed}
 use Rattle.judging.proofs.Agreement.{same-said-itself}
 use Rattle.judging.proofs.Counting.{two-more}
 use borrow.Author.Needs.{needs}

@@ -4,16 +4,17 @@ use mathlib.Core.List.{[], _∷_, flatMap}
 use mathlib.Core.Option.{orElse}
 use Rattle.semigroups.specs.Lists.{range, elements, at, all, find, keep, member, distinct, sum, count, least, lists, firstOf}
 use Rattle.semigroups.specs.Tables.{product, grid, isElement, associates, badCell, badTriple}
-use Rattle.semigroups.specs.Questions.{cellsRefusal, tableRefusal, tablesRefusal, checkRefusal, searchRefusal}
+use Rattle.semigroups.specs.QuestionsLaws.{cellsRefusal, tablesRefusal}
+use Rattle.semigroups.specs.Questions.{tableRefusal, checkRefusal, searchRefusal}
 use Rattle.semigroups.specs.Scratch.{packedByte, scratchSize, pairMarks, marks}
-use Rattle.semigroups.specs.Calls.{scratchAfter}
+use Rattle.semigroups.specs.InnerCalls.{scratchAfter}
 use Rattle.semigroups.specs.Invariants.{power, periodFrom, index, period, indexPeriod, sameIndexPeriod}
 use Rattle.semigroups.specs.Candidates.{candidate}
 use Rattle.semigroups.specs.Maps.{isHomomorphism, isEmbedding, maps, earliest}
 use Rattle.search.specs.Calls.{call}
 use Rattle.semigroups.specs.Copies.{sameList}
-use Rattle.cases.specs.Embedded.{embeddedTally}
-use Rattle.judging.specs.Tally.{empty, agreed}
+use Rattle.cases.specs.InnerEmbedded.{embeddedTally}
+use Rattle.judging.specs.InnerTally.{empty, agreed}
 use borrow.Author.Needs.{needs}
 use Rattle.cases.proofs.limits.scratch.Statement.{statement}
 use Rattle.cases.proofs.limits.scratch.Tie as tie

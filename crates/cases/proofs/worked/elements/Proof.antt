@@ -1,16 +1,17 @@
--- `elements` meets its contract: the numbers of 01 are those of the definitions. Assumes nothing.
+-- `elements` meets its contract: the numbers of RULES 23.2 are those of the definitions. Assumes nothing.
 use mathlib.Core.Path.{_≡_, refl, ap, _∙_}
 use mathlib.Core.Bool.{true}
 use mathlib.Core.List.{flatMap}
 use mathlib.Core.Option.{orElse}
 use Rattle.semigroups.specs.Lists.{range, elements, at, find, sum, count, least, lists, firstOf}
 use Rattle.semigroups.specs.Tables.{product, isElement, associates, badCell, badTriple}
-use Rattle.semigroups.specs.Questions.{cellsRefusal, tableRefusal, elementRefusal}
+use Rattle.semigroups.specs.QuestionsLaws.{cellsRefusal}
+use Rattle.semigroups.specs.Questions.{tableRefusal, elementRefusal}
 use Rattle.semigroups.specs.Calls.{Answer, givenUnless}
 use Rattle.semigroups.specs.Invariants.{IndexPeriod, Profile, power, periodFrom, index, period, idempotentPower, indexPeriod, sameIndexPeriod, frequency, diagonalFrequency, rowFrequency, columnFrequency, commuting, profile, sameProfile}
-use Rattle.cases.specs.Answering.{sameGivenPowers, sameGivenProfile}
-use Rattle.cases.specs.Embedded.{mat5Cells}
-use Rattle.judging.specs.Tally.{empty, counted, agreed}
+use Rattle.cases.specs.InnerAnswering.{sameGivenPowers, sameGivenProfile}
+use Rattle.cases.specs.InnerEmbedded.{mat5Cells}
+use Rattle.judging.specs.InnerTally.{empty, counted, agreed}
 use Rattle.judging.proofs.Counting.{two-more}
 use Rattle.judging.specs.declared.tally.Tally.{Tally}
 use borrow.Author.Needs.{needs}

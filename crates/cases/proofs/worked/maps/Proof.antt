@@ -1,4 +1,4 @@
--- `maps` meets its contract: the tables are accepted, every call agrees, and the full lists have as many maps as 01 gives. Assumes nothing.
+-- `maps` meets its contract: the tables are accepted, every call agrees, and the full lists have as many maps as RULES 23.2 gives. Assumes nothing.
 use mathlib.Core.Path.{_≡_, refl}
 use mathlib.Core.Bool.{true, false}
 use mathlib.Core.List.{List, [], _∷_, flatMap}
@@ -8,12 +8,13 @@ use native.Mathlib.Omega.{arith}
 use lib.ListN.{replicate}
 use Rattle.semigroups.specs.Lists.{range, elements, at, all, find, keep, sum, count, member, distinct, earlier, lists, firstOf}
 use Rattle.semigroups.specs.Tables.{Accepted, product, isElement, associates, badCell, badTriple}
-use Rattle.semigroups.specs.Questions.{cellsRefusal, tableRefusal}
+use Rattle.semigroups.specs.QuestionsLaws.{cellsRefusal}
+use Rattle.semigroups.specs.Questions.{tableRefusal}
 use Rattle.semigroups.specs.Maps.{isHomomorphism, isEmbedding, isIsomorphism, maps}
 use Rattle.semigroups.proofs.Tables.{accepted}
-use Rattle.cases.specs.Embedded.{mat5Cells}
-use Rattle.judging.specs.Tally.{empty, agreed}
-use Rattle.comparisons.specs.Walking.{laterMaps, walkCalls}
+use Rattle.cases.specs.InnerEmbedded.{mat5Cells}
+use Rattle.judging.specs.InnerTally.{empty, agreed}
+use Rattle.comparisons.specs.InnerWalking.{laterMaps, walkCalls}
 use Rattle.judging.proofs.Counting.{calls-more}
 use borrow.Author.Needs.{needs}
 use Rattle.cases.proofs.worked.maps.Statement.{statement}

@@ -5,7 +5,7 @@ use borrow.Author.Needs.{needs}
 use Rattle.semigroups.specs.Invariants.{sameIndexPeriod}
 use Rattle.invariants.specs.declared.IndexPeriodAnswer.{IndexPeriodAnswer}
 use Rattle.invariants.specs.Answers.{indexPeriodValue, indexPeriodSays}
-use Rattle.cases.specs.Answering.{sameGivenPowers}
+use Rattle.cases.specs.InnerAnswering.{sameGivenPowers}
 use Rattle.cases.proofs.worked.same_powers.Statement.{statement}
 use Rattle.cases.proofs.worked.same_powers.Tie as tie
 

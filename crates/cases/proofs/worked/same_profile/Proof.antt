@@ -5,7 +5,7 @@ use borrow.Author.Needs.{needs}
 use Rattle.semigroups.specs.Invariants.{sameIndexPeriod, sameProfile}
 use Rattle.invariants.specs.declared.ProfileAnswer.{ProfileAnswer}
 use Rattle.invariants.specs.Answers.{profileValue, profileSays}
-use Rattle.cases.specs.Answering.{sameGivenProfile}
+use Rattle.cases.specs.InnerAnswering.{sameGivenProfile}
 use Rattle.cases.proofs.worked.same_profile.Statement.{statement}
 use Rattle.cases.proofs.worked.same_profile.Tie as tie
 

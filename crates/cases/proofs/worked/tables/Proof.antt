@@ -1,15 +1,16 @@
--- `tables` meets its contract: what 01 says of the three tables is what the definition says. Assumes nothing.
+-- `tables` meets its contract: what RULES 23.2 says of the three tables is what the definition says. Assumes nothing.
 use mathlib.Core.Path.{_≡_, refl, ap, _∙_}
 use mathlib.Core.Bool.{true}
 use mathlib.Core.List.{[], _∷_, flatMap}
 use mathlib.Core.Option.{orElse}
 use Rattle.semigroups.specs.Lists.{range, elements, at, find, lists, firstOf}
 use Rattle.semigroups.specs.Tables.{product, isElement, associates, badCell, badTriple}
-use Rattle.semigroups.specs.Questions.{cellsRefusal, tableRefusal}
+use Rattle.semigroups.specs.QuestionsLaws.{cellsRefusal}
+use Rattle.semigroups.specs.Questions.{tableRefusal}
 use Rattle.plain.specs.declared.Said.{Said}
-use Rattle.plain.specs.Said.{saidOf}
-use Rattle.judging.specs.Said.{sameSaid}
-use Rattle.judging.specs.Tally.{empty, agreed}
+use Rattle.plain.specs.InnerSaid.{saidOf}
+use Rattle.judging.specs.InnerSaid.{sameSaid}
+use Rattle.judging.specs.InnerTally.{empty, agreed}
 use Rattle.judging.proofs.Counting.{two-more}
 use borrow.Author.Needs.{needs}
 use Rattle.cases.proofs.worked.tables.Statement.{statement}

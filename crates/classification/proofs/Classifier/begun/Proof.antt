@@ -3,9 +3,8 @@ use mathlib.Core.Path.{_≡_, sym, ap, _∙_}
 use native.Mathlib.Omega.{arith}
 use denote.Ref.{now}
 use Rattle.semigroups.specs.Calls.{gives}
-use Rattle.files.specs.Files.{fileAnswer}
+use Rattle.files.specs.Answers.{fileAnswer, failedNumber}
 use Rattle.tables.specs.Answers.{numberedSays}
-use Rattle.files.specs.Answers.{numberOf}
 use Rattle.files.proofs.Files.{Holds, not-accepted, holds}
 use Rattle.files.proofs.Numbers.{failed-small}
 use Rattle.classification.proofs.Steps.{begun-refused, begun-accepted}
@@ -56,7 +55,7 @@ returns c =
     let z = loaded .before .before .before .before in
     let no = not-accepted (loaded .load-then-check .result) (m .match .keys2) in (
       c .noted .ensures _
-          ∙ begun-refused _ _ (z .pre .1) _ (no .by) (sym (loaded .load-then-check .ensures .0) ∙ no .says) _ (c .before .failed-question .ensures ∙ ap numberOf (no .says)),
+          ∙ begun-refused _ _ (z .pre .1) _ (no .by) (sym (loaded .load-then-check .ensures .0) ∙ no .says) _ (c .before .failed-question .ensures ∙ ap failedNumber (no .says)),
       loaded .load-then-check .ensures .1,
     )
 

@@ -5,8 +5,8 @@ use native.Mathlib.Omega.{arith}
 use borrow.Author.Needs.{needs}
 use lib.ListN.{length}
 use Rattle.plain.proofs.Fronts.{front-long, front-read}
-use Rattle.judging.specs.Tally.{empty, agreed}
-use Rattle.comparisons.specs.Walking.{callsFrom}
+use Rattle.judging.specs.InnerTally.{empty, agreed}
+use Rattle.comparisons.specs.InnerWalking.{callsFrom}
 use Rattle.comparisons.proofs.Walking.{cells-few, from-begin, from-next}
 use Rattle.comparisons.proofs.small.all_maps.Statement.{statement}
 use Rattle.comparisons.proofs.small.all_maps.Tie as tie

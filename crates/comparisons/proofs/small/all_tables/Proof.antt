@@ -7,7 +7,7 @@ use borrow.Author.Needs.{needs}
 use lib.ListN.{length}
 use Rattle.plain.proofs.Fronts.{front-long}
 use Rattle.judging.specs.declared.tally.Tally.{Tally}
-use Rattle.judging.specs.Tally.{empty, counted, agreed}
+use Rattle.judging.specs.InnerTally.{empty, counted, agreed}
 use Rattle.judging.proofs.Counting.{agreed-next}
 use Rattle.comparisons.proofs.Walking.{cells-few}
 use Rattle.comparisons.proofs.small.all_tables.Statement.{statement}

@@ -3,7 +3,7 @@ use mathlib.Core.Path.{sym, ap, _∙_}
 use Prim.Native.Nat.{ℕ}
 use denote.Ref.{now}
 use Rattle.plain.proofs.Judging.{judged-accepted}
-use Rattle.judging.specs.Tally.{agreed}
+use Rattle.judging.specs.InnerTally.{agreed}
 use Rattle.judging.proofs.Counting.{agreed-none, agreed-add}
 use Rattle.comparisons.proofs.Walking.{left-out, taken-in}
 use borrow.Author.Needs.{needs}

@@ -6,8 +6,8 @@ use borrow.Author.Needs.{needs}
 use denote.Ref.{now}
 use lib.ListN.{length}
 use Rattle.plain.proofs.Fronts.{front-long, front-read}
-use Rattle.judging.specs.Tally.{agreed}
-use Rattle.comparisons.specs.Walking.{callsTo}
+use Rattle.judging.specs.InnerTally.{agreed}
+use Rattle.comparisons.specs.InnerWalking.{callsTo}
 use Rattle.comparisons.proofs.Walking.{cells-few, calls-begin, calls-next}
 use Rattle.comparisons.proofs.small.maps_to.Statement.{statement}
 use Rattle.comparisons.proofs.small.maps_to.Tie as tie

@@ -6,8 +6,8 @@ use Prim.Native.Nat.{_≤_}
 use native.Mathlib.Omega.{arith}
 use mathlib.Core.List.{_++_}
 use denote.Ref.{now}
-use Rattle.comparisons.specs.Said.{saidNumber}
-use Rattle.comparisons.specs.Walking.{called}
+use Rattle.comparisons.specs.InnerSaid.{saidNumber}
+use Rattle.comparisons.specs.InnerWalking.{called}
 use lib.ListN.{length, drop}
 use lib.Seq.{length-take-le}
 use Rattle.comparisons.proofs.Walking.{behind, behind-next, behind-zeros, behind-long, second-says, second-map}

@@ -8,8 +8,8 @@ use native.Mathlib.Omega.{arith}
 use borrow.Author.Needs.{needs}
 use denote.Ref.{now}
 use lib.ListN.{length}
-use Rattle.judging.specs.Tally.{counted, agreed}
-use Rattle.comparisons.specs.Walking.{laterMaps}
+use Rattle.judging.specs.InnerTally.{counted, agreed}
+use Rattle.comparisons.specs.InnerWalking.{laterMaps}
 use Rattle.judging.proofs.Counting.{walk-ends, walk-goes}
 use Rattle.comparisons.proofs.Walking.{left-found, left-none}
 use Rattle.comparisons.proofs.walk.walk.Statement.{statement}

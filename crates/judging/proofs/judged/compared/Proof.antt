@@ -1,7 +1,7 @@
 -- `compared` meets its contract: the library's check and the second judge both say what the definition says. Assumes nothing.
 use mathlib.Core.Path.{sym, ap, _∙_}
-use Rattle.plain.specs.Said.{saidOf}
-use Rattle.judging.specs.Tally.{counted}
+use Rattle.plain.specs.InnerSaid.{saidOf}
+use Rattle.judging.specs.InnerTally.{counted}
 use Rattle.judging.proofs.Agreement.{same-said-itself}
 use borrow.Author.Needs.{needs}
 use Rattle.judging.proofs.judged.compared.Statement.{statement}

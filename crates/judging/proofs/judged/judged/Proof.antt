@@ -2,10 +2,10 @@
 use mathlib.Core.Path.{ap, _∙_}
 use mathlib.Core.Bool.{true}
 use Rattle.plain.specs.declared.Said.{Said}
-use Rattle.plain.specs.Said.{saidOf}
+use Rattle.plain.specs.InnerSaid.{saidOf}
 use Rattle.judging.specs.declared.tally.Tally.{Tally}
-use Rattle.judging.specs.Said.{sameSaid}
-use Rattle.judging.specs.Tally.{counted}
+use Rattle.judging.specs.InnerSaid.{sameSaid}
+use Rattle.judging.specs.InnerTally.{counted}
 use borrow.Author.Needs.{needs}
 use Rattle.judging.proofs.judged.judged.Statement.{statement}
 use Rattle.judging.proofs.judged.judged.Tie as tie

@@ -3,7 +3,7 @@ use mathlib.Core.Path.{sym, ap, _∙_}
 use borrow.Author.Needs.{needs}
 use Rattle.tables.specs.Answers.{verdictRefusal}
 use Rattle.tables.specs.declared.Verdict.{Verdict}
-use Rattle.plain.specs.Said.{refusalSaid, saidOf}
+use Rattle.plain.specs.InnerSaid.{refusalSaid, saidOf}
 use Rattle.plain.specs.declared.Said.{Said}
 use Rattle.judging.proofs.said.said_of.Statement.{statement}
 use Rattle.judging.proofs.said.said_of.Tie as tie

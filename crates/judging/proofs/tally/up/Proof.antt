@@ -1,6 +1,6 @@
 -- `up` meets its contract, full and not. Assumes nothing.
 use borrow.Author.Tests.{eq-eqb, ne-eqb}
-use Rattle.judging.specs.Tally.{up}
+use Rattle.judging.specs.InnerTally.{up}
 use borrow.Author.Needs.{needs}
 use Rattle.judging.proofs.tally.up.Statement.{statement}
 use Rattle.judging.proofs.tally.up.Tie as tie

@@ -4,7 +4,7 @@ use denote.Ref.{now}
 use lib.ListN.{length}
 use Rattle.semigroups.specs.Tables.{product}
 use Rattle.semigroups.specs.Invariants.{frequency}
-use Rattle.tables.specs.Counting.{occurrences}
+use Rattle.tables.specs.InnerCounting.{occurrences}
 use Rattle.tables.proofs.Counting.{cells-at-most, table-in-range, table-counted}
 use Rattle.tables.proofs.PerElement.{per-element-same}
 use Rattle.tables.proofs.counts.frequencies.Statement.{statement}

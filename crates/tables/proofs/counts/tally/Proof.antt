@@ -7,8 +7,8 @@ use Prim.Native.Nat.{ℕ, _+_, _-_, _*_, _≤_, _<_}
 use mathlib.Core.Path.{_≡_, refl, ap, _∙_}
 use lib.ListN.{length, getD, set}
 use Rattle.semigroups.specs.Tables.{Element}
-use Rattle.tables.specs.Counting.{occurrences}
-use Rattle.tables.specs.PerElement.{perElement}
+use Rattle.tables.specs.InnerCounting.{occurrences}
+use Rattle.tables.specs.InnerPerElement.{perElement}
 use Rattle.tables.proofs.Counting.{occurs-none, occurs, occurs-not, occurs-at-most}
 use Rattle.tables.proofs.PerElement.{per-element-at, zero-start, raise}
 use Rattle.tables.proofs.counts.tally.Statement.{statement}

@@ -9,7 +9,6 @@ use lib.ListN.{length}
 use lib.Seq.{length-take-le}
 use Rattle.semigroups.specs.Tables.{product}
 use Rattle.tables.proofs.Choice.{chosen-inside, answer-given-up, answer-chosen}
-use borrow.Author.Needs.{needs}
 use Rattle.tables.proofs.generators.accept.Statement.{statement}
 use Rattle.tables.proofs.generators.accept.Tie as tie
 

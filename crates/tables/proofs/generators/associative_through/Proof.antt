@@ -9,7 +9,7 @@ use denote.Ref.{now}
 use lib.ListN.{length, getD}
 use Rattle.semigroups.specs.Tables.{product}
 use Rattle.semigroups.proofs.NoRepeats.{place-mem}
-use Rattle.tables.specs.Choice.{goodMiddle}
+use Rattle.tables.specs.InnerChoice.{goodMiddle}
 use Rattle.tables.proofs.Choice.{through-next, through-good, through-bad}
 use Rattle.tables.proofs.generators.associative_through.Statement.{statement}
 use Rattle.tables.proofs.generators.associative_through.Tie as tie

@@ -6,7 +6,7 @@ use denote.Ref.{now}
 use lib.ListN.{length, take, drop, getD}
 use Rattle.semigroups.specs.Tables.{Product, Element, product}
 use Rattle.semigroups.proofs.NoRepeats.{place-mem}
-use Rattle.tables.specs.Found.{addingAll, Found}
+use Rattle.tables.specs.InnerFound.{addingAll, Found}
 use Rattle.tables.proofs.Found.{found-room, found-element, found-again}
 use Rattle.tables.proofs.Choice.{right-none, right-added, right-all}
 use Rattle.tables.proofs.generators.multiply_right.Statement.{statement}

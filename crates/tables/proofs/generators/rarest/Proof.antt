@@ -6,7 +6,7 @@ use native.Mathlib.Omega.{arith}
 use borrow.Author.Needs.{needs}
 use denote.Ref.{now}
 use lib.ListN.{getD}
-use Rattle.tables.specs.Choice.{RarestOrNone}
+use Rattle.tables.specs.InnerChoice.{RarestOrNone}
 use Rattle.tables.proofs.Choice.{rarest-start, rarest-at-most, rarest-skip, rarest-first, rarest-better, rarest-keep, rarest-end}
 use Rattle.tables.proofs.generators.rarest.Statement.{statement}
 use Rattle.tables.proofs.generators.rarest.Tie as tie

@@ -8,10 +8,10 @@ use denote.Ref.{now}
 use lib.ListN.{length, take, getD}
 use lib.Seq.{getD-take}
 use Rattle.semigroups.specs.Tables.{Element, Filled, product}
-use Rattle.semigroups.specs.Generated.{Inside}
+use Rattle.semigroups.specs.GeneratedLaws.{Inside}
 use Rattle.semigroups.proofs.NoRepeats.{place-mem}
 use Rattle.semigroups.proofs.Tables.{filled-closed}
-use Rattle.tables.specs.Found.{Found}
+use Rattle.tables.specs.InnerFound.{Found}
 use Rattle.tables.proofs.Found.{found-room, found-again}
 use Rattle.tables.proofs.Choice.{right-longer, Reaching, Entering, entering-start, entering-longer, entering-next, reaching-whole, reached, reaching-inside}
 use Rattle.tables.proofs.generators.reach.Statement.{statement}

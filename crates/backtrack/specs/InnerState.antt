@@ -1,0 +1,59 @@
+-- What the contracts of the search say of its state, a partial map, and of what a search answers.
+-- Assumes nothing.
+use mathlib.Core.Path.{_≡_}
+use mathlib.Core.Bool.{Bool, true, false, cond}
+use mathlib.Core.Option.{Option, none, some}
+use mathlib.Core.List.{List, _++_}
+use Prim.Native.Nat.{ℕ, _-_, _≤_}
+use lib.Dec.{leb}
+use lib.ListN.{length, take, replicate}
+use Rattle.semigroups.specs.Tables.{Product}
+use Rattle.semigroups.specs.Scratch.{scratchSize}
+use Rattle.semigroups.specs.Maps.{Ask, first, next}
+use Rattle.semigroups.specs.Trials.{passes, Work}
+use Rattle.constraints.specs.InnerTracking.{Placing, Tracks}
+use Rattle.backtrack.specs.declared.Partial.{Partial}
+use Rattle.backtrack.specs.declared.Found.{Found}
+use Rattle.backtrack.specs.declared.Outcome.{Outcome}
+
+-- The list placed so far.
+abbrev pub prefix : Partial → List ℕ
+prefix p = take (p .len) (p .image)
+
+-- A partial map says of its list what it should.
+pub record Holds (s : Product) (n : ℕ) (t : Product) (p : Partial) : Type 0 where
+  pub placing : Placing n (p .image) (p .used) (p .len)
+  pub tracks : Tracks s t (prefix p) (p .len) 0 (p .forced) (p .owner)
+
+-- What a search answers: the map's images, zeros behind them; zeros alone where there is none.
+unfoldable pub foundIn : Option (List ℕ) → Found
+foundIn (some f) = record { ok = true; image = f ++ replicate (120 - length f) 0 }
+foundIn none = record { ok = false; image = replicate 120 0 }
+
+-- What becomes of the trials that a search may take: they are not enough; or so many are left, with what is found.
+pub data Remainder : Type 0 where
+  exhausted : Remainder
+  remaining : ℕ → Option (List ℕ) → Remainder
+
+-- A search that may take so many trials.
+unfoldable pub within : ℕ → Work → Remainder
+within limit w = cond (leb (w .trials) limit) (remaining (limit - w .trials) (w .found)) exhausted
+
+-- What a search with a limit answers; zeros where it is stopped.
+unfoldable pub outcomeOf : Remainder → Outcome
+outcomeOf exhausted = record { stopped = true; left = 0; ok = false; image = replicate 120 0 }
+outcomeOf (remaining left o) = record { stopped = false; left = left; ok = foundIn o .ok; image = foundIn o .image }
+
+-- The search is bound by a list as long as what is placed equals its beginning.
+abbrev pub bounded : Bool → List ℕ → Ask
+bounded true after = next after
+bounded false after = first
+
+-- What holds where the search goes on from a partial map.
+pub record Ready (s : Product) (m : ℕ) (t : Product) (n : ℕ) (scratch after : List ℕ) (tight : Bool) (p : Partial) : Type 0 where
+  pub holds : Holds s n t p
+  pub within : p .len ≤ m
+  pub passed : passes s t (prefix p) ≡ true
+  pub space : scratchSize m n ≤ length scratch
+  pub bound : length after ≡ m
+  pub same : tight ≡ true → take (p .len) after ≡ prefix p

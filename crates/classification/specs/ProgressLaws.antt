@@ -1,0 +1,34 @@
+-- That the program ends, and what it then prints: steps that are answered from any folder make `folderOutput`.
+-- Assumes nothing.
+use mathlib.Core.Path.{_≡_}
+use mathlib.Core.List.{List}
+use mathlib.Core.Option.{Option}
+use Prim.Native.Nat.{ℕ, suc, _-_, _*_, _≤_, _<_}
+use lib.ListN.{length}
+use Rattle.classification.specs.Classes.{Folder, mostFiles, Note}
+use Rattle.classification.specs.Output.{notesText, folderOutput}
+use Rattle.classification.specs.Progress.{Phase, reading, comparing, over, Progress, wanted, served, start, Sound, step}
+
+-- ---- what holds of the progress at all times
+
+-- How many files may still be asked for.
+abbrev pub stillToReadIn : List Note → Phase → ℕ
+stillToReadIn notes reading = (mostFiles - length notes) * suc mostFiles
+stillToReadIn notes (comparing n cells j) = (mostFiles - length notes) * suc mostFiles - j
+stillToReadIn notes over = 0
+
+abbrev pub stillToRead : Progress → ℕ
+stillToRead s = stillToReadIn (s .notes) (s .phase)
+
+-- ---- the whole way
+
+-- After at most 2,550 steps nothing is asked for, and the notes make the whole output.
+pub record Prints (folder : Folder) : Type 0 where
+  pub ends : wanted (served folder (mostFiles * suc mostFiles) start) ≡ 0
+  pub output : notesText (served folder (mostFiles * suc mostFiles) start .notes) ≡ folderOutput folder
+
+-- A step asks again, or ends: what holds goes on holding, fewer files are left to ask for, and no file above 50 is asked for.
+pub record Goes (s : Progress) : Type 0 where
+  pub sound : (answer : Option (List ℕ)) → Sound (step s answer)
+  pub fewer : (answer : Option (List ℕ)) → stillToRead (step s answer) < stillToRead s
+  pub within : wanted s ≤ mostFiles

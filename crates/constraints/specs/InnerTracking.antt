@@ -1,0 +1,35 @@
+-- What the contracts say of the images placed and of the constraints. Assumes nothing.
+use mathlib.Core.Path.{_≡_}
+use mathlib.Core.Bool.{cond, _&&_}
+use mathlib.Core.List.{List}
+use Prim.Native.Nat.{ℕ, suc, _-_, _≤_, _<_}
+use lib.ListN.{length, getD, take, drop, replicate}
+use Rattle.semigroups.specs.Lists.{elements, at, all, member}
+use Rattle.semigroups.specs.Tables.{Product, Element}
+use Rattle.semigroups.specs.InnerSearch.{Placed}
+use Rattle.constraints.specs.InnerConstraints.{imageProduct, asks, agreeOn, cross, Reads}
+
+-- The images of the first `len` elements, zeros behind them, and which target elements they use.
+pub record Placing (n : ℕ) (image used : List ℕ) (len : ℕ) : Type 0 where
+  pub long : length image ≡ 120
+  pub wide : length used ≡ 121
+  pub fit : len ≤ 120
+  pub padded : drop len image ≡ replicate (120 - len) 0
+  pub placed : Placed n (take len image)
+  pub uses : (y : ℕ) → y ≤ 120 → getD used y 0 ≡ cond (member y (take len image)) 1 0
+
+-- The images of the first `len` elements, x as that of the next, and which target elements other than x they use.
+pub record Trial (n : ℕ) (image used : List ℕ) (len x : ℕ) : Type 0 where
+  pub long : length image ≡ 120
+  pub wide : length used ≡ 121
+  pub room : len < 120
+  pub placed : (a : ℕ) → Element len a → Element n (at image a)
+  pub element : Element n x
+  pub uses : (y : ℕ) → y ≤ 120 → (y ≡ x → ⊥) → getD used y 0 ≡ cond (member y (take len image)) 1 0
+
+-- The constraints say what the pairs of the first k elements ask, and the first j of the pairs with element k + 1.
+pub record Tracks (s t : Product) (f : List ℕ) (k j : ℕ) (forced owner : List ℕ) : Type 0 where
+  pub long : length forced ≡ 121
+  pub wide : length owner ≡ 121
+  pub required : Reads forced (λ c y. agreeOn s (imageProduct t f) k c y && all (λ i. cross (asks s (imageProduct t f) c y) (suc k) i) (elements j))
+  pub reserved : Reads owner (λ y c. agreeOn (imageProduct t f) s k y c && all (λ i. cross (asks (imageProduct t f) s y c) (suc k) i) (elements j))

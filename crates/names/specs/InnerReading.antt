@@ -1,0 +1,74 @@
+-- What the functions that read and judge hand on. They serve the proofs; no contract of an entry point cites them.
+-- Assumes nothing.
+use mathlib.Core.Path.{_≡_}
+use mathlib.Core.List.{List, flatten}
+use mathlib.Core.Option.{Option, none, some}
+use Prim.Native.Nat.{ℕ, _≤_}
+use lib.ListN.{length, take}
+use Rattle.semigroups.specs.Questions.{firstNo}
+use Rattle.tables.specs.Answers.{noRefusal}
+use Rattle.sheets.specs.Grammar.{Row}
+use Rattle.sheets.specs.Readings.{rowsNames}
+use Rattle.sheets.specs.Names.{namesText, namesAt}
+use Rattle.sheets.specs.Questions.{rowsQuestions, namesQuestions}
+use Rattle.sheets.specs.InnerAutomaton as automaton
+use Rattle.names.specs.declared.Part.{Part}
+use Rattle.names.specs.declared.Part.the-variants.{Number, Name}
+use Rattle.names.specs.declared.State.{State}
+use Rattle.names.specs.declared.State.the-variants.{Opening, Bare, Quoted, Shut, Cr, Line, Dead}
+use Rattle.names.specs.declared.Form.{Form}
+use Rattle.names.specs.declared.Form.the-variants.{Sheet, Offends}
+use Rattle.names.specs.declared.Value.{Value}
+use Rattle.names.specs.declared.Judged.{Judged}
+use Rattle.names.specs.declared.Judged.the-variants.{Passed, Failed}
+
+-- ---- the automaton
+
+abbrev pub partOf : Part → automaton.Column
+partOf Number = automaton.number-part
+partOf Name = automaton.name-part
+
+abbrev pub stateOf : State → automaton.State
+stateOf (Opening n) = automaton.opening (partOf n)
+stateOf (Bare n) = automaton.bare (partOf n)
+stateOf (Quoted n) = automaton.quoted (partOf n)
+stateOf (Shut n) = automaton.shut (partOf n)
+stateOf Cr = automaton.cr
+stateOf Line = automaton.line
+stateOf Dead = automaton.dead
+
+-- The place where a text offends.
+abbrev pub formPlace : Form → Option ℕ
+formPlace Sheet = none
+formPlace (Offends k) = some k
+
+-- ---- a field
+
+-- The bytes s, or their first 41.
+pub record HoldsValue (s : List ℕ) (v : Value) : Type 0 where
+  pub bytes : take (v .size) (v .bytes) ≡ take 41 s
+  pub size : v .size ≡ length (take 41 s)
+  pub room : length (v .bytes) ≡ 41
+
+-- ---- the records of a sheet, the names in memory
+
+-- 42 and 41 of each record, how many names there are, and how many bytes they have.
+abbrev pub Judges : List Row → Judged → Type 0
+Judges rows (Passed count total) = (firstNo (rowsQuestions 1 rows) ≡ none) × (count ≡ length rows) × (total ≡ length (flatten (rowsNames rows)))
+Judges rows (Failed fault) = firstNo (rowsQuestions 1 rows) ≡ some (noRefusal fault)
+
+-- The records pass, and the buffers have room for the names and for their lengths.
+pub record Fits (rows : List Row) (nameRoom lengthRoom : ℕ) : Type 0 where
+  pub passed : firstNo (rowsQuestions 1 rows) ≡ none
+  pub names : length (flatten (rowsNames rows)) ≤ nameRoom
+  pub lengths : length rows ≤ lengthRoom
+
+-- 41 of each name, how many names there are, and the length of their text.
+abbrev pub JudgesNames : List ℕ → List ℕ → Judged → Type 0
+JudgesNames bytes lengths (Passed count total) = (firstNo (namesQuestions 1 bytes lengths) ≡ none) × (count ≡ length lengths) × (total ≡ length (namesText (namesAt bytes lengths)))
+JudgesNames bytes lengths (Failed fault) = firstNo (namesQuestions 1 bytes lengths) ≡ some (noRefusal fault)
+
+-- There are at most 120 names, and each passes.
+pub record Nameable (bytes lengths : List ℕ) : Type 0 where
+  pub few : length lengths ≤ 120
+  pub passed : firstNo (namesQuestions 1 bytes lengths) ≡ none

@@ -1,0 +1,70 @@
+-- Rows of bits: for each source element the target elements that are left for it. Target elements 1 to 60 are the bits of one word, from its lowest,
+-- and 61 to 120 those of another. Assumes nothing.
+use mathlib.Core.Path.{_≡_}
+use mathlib.Core.Bool.{Bool, true, _&&_, cond}
+use mathlib.Core.List.{List}
+use Prim.Native.Nat.{ℕ, zero, suc, _+_, _-_, _/_, _%_, _^_, min}
+use lib.Bits.{bitAnd}
+use lib.Dec.{eqb, leb}
+use lib.ListN.{set}
+use Rattle.semigroups.specs.Lists.{at}
+use Rattle.semigroups.specs.Tables.{Element}
+use Rattle.semigroups.specs.Scratch.{marked}
+use Rattle.rows.specs.declared.Row.{Row}
+
+-- Whether bit j of the word is set.
+unfoldable pub hasBit : ℕ → ℕ → Bool
+hasBit w j = eqb (w / 2 ^ j % 2) 1
+
+-- Whether target element y is in the row.
+unfoldable pub inRow : Row → ℕ → Bool
+inRow row y = cond (leb y 60) (hasBit (row .lo) (y - 1)) (hasBit (row .hi) (y - 61))
+
+-- Whether neither word of the row has a bit set.
+unfoldable pub isEmpty : Row → Bool
+isEmpty row = eqb (row .lo) 0 && eqb (row .hi) 0
+
+-- The row of source element c.
+abbrev pub rowOf : List ℕ → List ℕ → ℕ → Row
+rowOf lo hi c = record { lo = at lo c; hi = at hi c }
+
+-- Whether target element y is left for source element c.
+unfoldable pub has : List ℕ → List ℕ → ℕ → ℕ → Bool
+has lo hi c y = inRow (rowOf lo hi c) y
+
+-- The word of the k target elements from `from` on: bit j is set where from + j passes.
+unfoldable pub word : (ℕ → Bool) → ℕ → ℕ → ℕ
+word p from zero = 0
+word p from (suc k) = word p from k + cond (p (from + k)) (2 ^ k) 0
+
+-- The row of a test of n target elements.
+unfoldable pub packedRow : ℕ → (ℕ → Bool) → Row
+packedRow n p = record { lo = word p 1 (min n 60); hi = word p 61 (n - 60) }
+
+-- Words with the bits of one more word asked of the entry of c.
+unfoldable pub masked : List ℕ → ℕ → ℕ → List ℕ
+masked words c w = set words (c - 1) (bitAnd (at words c) w)
+
+-- The row of v alone.
+unfoldable pub singleRow : ℕ → Row
+singleRow v = packedRow 120 (λ y. eqb y v)
+
+-- Every bit of row a is one of row b.
+abbrev pub Inside : Row → Row → Type 0
+Inside a b = (bitAnd (a .lo) (b .lo) ≡ a .lo) × (bitAnd (a .hi) (b .hi) ≡ a .hi)
+
+-- Row c has at most v.
+abbrev pub Only : List ℕ → List ℕ → ℕ → ℕ → Type 0
+Only lo hi c v = Inside (rowOf lo hi c) (singleRow v)
+
+-- No row has gained a bit.
+abbrev pub Shrinks : List ℕ → List ℕ → List ℕ → List ℕ → Type 0
+Shrinks lo hi newLo newHi = (c : ℕ) → Element 120 c → Inside (rowOf newLo newHi c) (rowOf lo hi c)
+
+-- Row c is masked by the row of v alone, and no other word has changed.
+abbrev pub Forced : ℕ → ℕ → List ℕ → List ℕ → List ℕ → List ℕ → Type 0
+Forced c v lo hi newLo newHi = (newLo ≡ masked lo c (singleRow v .lo)) × (newHi ≡ masked hi c (singleRow v .hi))
+
+-- In each of the first m rows the elements that were there, are at most n and are marked; the rows above m as they were.
+abbrev pub Marked : ℕ → ℕ → List ℕ → (ℕ → ℕ → Bool) → (ℕ → ℕ → Bool) → Type 0
+Marked m n scratch old new = (c y : ℕ) → Element 120 c → Element 120 y → new c y ≡ (old c y && cond (leb c m) (leb y n && marked n scratch c y) true)

@@ -1,0 +1,61 @@
+-- What is said of questions in plain words: which one is the earliest that fails, and what the refusal of a table says.
+-- Assumes nothing.
+use mathlib.Core.List.{List, [], _∷_, _++_, map}
+use mathlib.Core.Option.{Option, none, some}
+use mathlib.Core.Path.{_≡_}
+use Prim.Native.Nat.{ℕ, _*_, _≤_, _<_}
+use lib.ListN.{length, getD}
+use Rattle.semigroups.specs.Lists.{at}
+use Rattle.semigroups.specs.ListsLaws.{Earliest}
+use Rattle.semigroups.specs.Tables.{product, Element}
+use Rattle.semigroups.specs.TablesLaws.{FailingTriple}
+use Rattle.semigroups.specs.Questions.{Refusal, Question, firstNo, cellsQuestions, tablesQuestions}
+
+-- ---- a refusal
+
+-- The refusal with this number and these values that names no side.
+abbrev pub no : ℕ → List ℕ → Refusal
+no number values = record { number = number; side = none; values = values }
+
+-- The refusal of one of two tables names its side.
+abbrev pub naming : ℕ → Refusal → Refusal
+naming side r = record { number = r .number; side = some side; values = r .values }
+
+-- Every question of a list passes.
+abbrev pub Passed : List Question → Type 0
+Passed [] = Unit {0}
+Passed (q ∷ qs) = (q .fails ≡ none) × Passed qs
+
+-- In plain words: r is what the earliest question that fails says. It has a place in the list, and every question before it passes.
+pub record EarliestNo (qs : List Question) (r : Refusal) : Type 0 where
+  pub before : List Question
+  pub question : Question
+  pub behind : List Question
+  pub place : qs ≡ before ++ question ∷ behind
+  pub passed : Passed before
+  pub fails : question .fails ≡ some (r .values)
+  pub number : question .number ≡ r .number
+  pub side : question .side ≡ r .side
+
+-- The numbers of a list of questions.
+abbrev pub numbers : List Question → List ℕ
+numbers qs = map (λ q. q .number) qs
+
+-- ---- about a table
+
+unfoldable pub cellsRefusal : ℕ → List ℕ → Option Refusal
+cellsRefusal n cells = firstNo (cellsQuestions n cells)
+
+-- What the refusal of a table says: the earliest question whose answer is "no", with the earliest cell or triple.
+pub data Refused (n : ℕ) (cells : List ℕ) : Refusal → Type 0 where
+  wrong-order : (Element 120 n → ⊥) → Refused n cells (no 1 [])
+  wrong-size : Element 120 n → (length cells ≡ n * n → ⊥) → Refused n cells (no 2 [])
+  wrong-cell : (k : ℕ) → Element 120 n → length cells ≡ n * n → Element (length cells) k → (Element n (at cells k) → ⊥) → ((j : ℕ) → 1 ≤ j → j < k → Element n (at cells j))
+      → Refused n cells (no 3 (k ∷ []))
+  wrong-triple : (l : List ℕ) → Element 120 n → length cells ≡ n * n → ((k : ℕ) → k < length cells → Element n (getD cells k 0)) → Earliest (FailingTriple n (product n cells)) l
+      → Refused n cells (no 4 l)
+
+-- ---- about an element, a map check, a search
+
+unfoldable pub tablesRefusal : ℕ → List ℕ → ℕ → List ℕ → Option Refusal
+tablesRefusal m source n target = firstNo (tablesQuestions m source n target)

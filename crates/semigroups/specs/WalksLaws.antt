@@ -1,0 +1,55 @@
+-- Walks (RULES 13): lists of calls on one map buffer, each of which is refused or asks for the next entry of a list.
+-- C is a call with all that it lends apart from the map buffer.
+-- Assumes nothing.
+use mathlib.Core.Bool.{cond}
+use mathlib.Core.List.{List, [], _∷_}
+use mathlib.Core.Option.{Option, none, some}
+use Prim.Native.Nat.{ℕ, suc, min}
+use lib.Dec.{leb}
+use lib.ListN.{length, getD}
+use Rattle.semigroups.specs.Questions.{Refusal}
+use Rattle.semigroups.specs.Calls.{Answer, givenUnless, mapUnless}
+use Rattle.semigroups.specs.Maps.{next, earliest, Sought, found, nothing, sought}
+
+-- What a call says, and the map buffer as it leaves it.
+pub record Outcome : Type 0 where
+  pub says : Answer Sought
+  pub buffer : List ℕ
+
+-- The buffer after k calls of a walk that were not refused: z, what it held at first, for 0; then entry k; from the last entry on the last one.
+unfoldable pub held : List ℕ → List (List ℕ) → ℕ → List ℕ
+held z l k = getD (z ∷ l) (min k (length l)) z
+
+-- What a "next" call says and leaves in the buffer b, from its refusal, if there is one, and the full list of the tables that it lends.
+abbrev pub nextOutcome : Option Refusal → List (List ℕ) → List ℕ → Outcome
+nextOutcome o l b = let f = earliest (next b) l in record { says = givenUnless o (sought f); buffer = mapUnless o f b }
+
+-- The calls not refused, counted on from k.
+abbrev pub counted : ℕ → Option Refusal → ℕ
+counted k (some r) = k
+counted k none = suc k
+
+-- What the walk's claim says of a call before which k calls were not refused: the k-th from 1 finds entry k while there is one.
+abbrev pub claimed : List ℕ → List (List ℕ) → ℕ → Option Refusal → Outcome
+claimed z l k o = record { says = givenUnless o (cond (leb (suc k) (length l)) found nothing); buffer = held z l (counted k o) }
+
+module _ {C : Type 0} where
+  -- What each call of a walk says and leaves: each gets the buffer as the last one left it.
+  abbrev pub walk : (C → List ℕ → Outcome) → List C → List ℕ → List Outcome
+  walk call [] b = []
+  walk call (c ∷ cs) b = let o = call c b in o ∷ walk call cs (o .buffer)
+
+  -- The claim about a whole walk on a buffer that held z at first, k calls of which were not refused already.
+  abbrev pub claim : (C → Option Refusal) → List ℕ → List (List ℕ) → ℕ → List C → List Outcome
+  claim refusal z l k [] = []
+  claim refusal z l k (c ∷ cs) = claimed z l k (refusal c) ∷ claim refusal z l (counted k (refusal c)) cs
+
+  -- How many calls were not refused, counted on from k.
+  abbrev pub answered : (C → Option Refusal) → ℕ → List C → ℕ
+  answered refusal k [] = k
+  answered refusal k (c ∷ cs) = answered refusal (counted k (refusal c)) cs
+
+-- The buffer after a walk on b.
+abbrev pub finally : List ℕ → List Outcome → List ℕ
+finally b [] = b
+finally b (o ∷ os) = finally (o .buffer) os

@@ -1,0 +1,12 @@
+-- Every text has a reading, and only one as far as a call can tell.
+-- Assumes nothing.
+use mathlib.Core.Path.{_≡_}
+use mathlib.Core.List.{List}
+use Prim.Native.Nat.{ℕ}
+use Rattle.sheets.specs.Readings.{Reading, offence, readRows}
+
+abbrev pub Readable : Type 0
+Readable = (t : List ℕ) → Reading t
+
+abbrev pub SameReading : Type 0
+SameReading = (t : List ℕ) (v w : Reading t) → (offence v ≡ offence w) × (readRows v ≡ readRows w)

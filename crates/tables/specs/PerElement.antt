@@ -1,9 +1,0 @@
--- Arrays with a place for each element of a table of any order (01, "Tables and elements": the order is at most 120). Assumes nothing.
-use mathlib.Core.List.{List, map, _++_}
-use Prim.Native.Nat.{ℕ, _-_}
-use lib.ListN.{replicate}
-use Rattle.semigroups.specs.Lists.{elements}
-
--- The values of w at the elements 1 to n, element a's at place a - 1; then zeros: 120 entries in all.
-unfoldable pub perElement : ℕ → (ℕ → ℕ) → List ℕ
-perElement n w = map w (elements n) ++ replicate (120 - n) 0
