@@ -16,12 +16,12 @@ use Rattle.files.specs.Files.{fileRefusal}
 use Rattle.classification.specs.Classes.{filesFrom, filesOf, accepted, isomorphic, holdsLike, alike, file, lowest, noteOf, notesOf}
 use Rattle.classification.specs.Output.{note, names, lowestFiles, members, totalRecord, noteRecords, totalRecords, notesText, classesOutput}
 use Rattle.classification.specs.Held.{fileName}
-use Rattle.classification.specs.Example.{swapFile, nullFile, printed, emptyPrinted, gapFolder, fullFolder}
+use Rattle.classification.specs.Example.{swapFile, nullFile, printed, ClassesExample, emptyPrinted, gapFolder, fullFolder}
 use Rattle.classification.specs.Laws.{IsAccepted}
 use Rattle.classification.specs.Progress.{start, Goes}
 use Rattle.classification.proofs.Progress.{goes}
 
-pub example : classesOutput (swapFile ∷ nullFile ∷ swapFile ∷ []) ≡ printed
+pub example : ClassesExample
 unfolding classesOutput notesText noteRecords totalRecords totalRecord members lowestFiles names note notesOf noteOf lowest file alike holdsLike isomorphic accepted swapFile nullFile printed fileRefusal isDigit value valueFrom numeralWithin numeral isBreak onto records fields rows recordText lineText rowsText fieldsOf orderOf cellsOf breakAt inBreak isAllowed firstOther fieldsQuestions isSquare range elements at all find keep sum count least member distinct lists product isElement associates badCell badTriple firstOf isHomomorphism isEmbedding isIsomorphism maps earliest orElse flatMap flatten
 example = refl
 

@@ -19,8 +19,8 @@ use Rattle.output.specs.Records.{firstRecord, pairRecord, pairRecords, f
 use Rattle.files.specs.Files.{fileRefusal, fileAnswer, room}
 use Rattle.files.proofs.Files.{Holds, refused-file}
 use Rattle.files.proofs.Length.{Cut, whole, too-much, cut}
-use Rattle.output.specs.Program.{answerRecords, recueRecords, recueOutput}
-use Rattle.output.specs.Example.{sourceFile, targetFile, printed}
+use Rattle.output.specs.Program.{answerRecords, recueRecords, recueOutput, FirstBytesDecide}
+use Rattle.output.specs.Example.{sourceFile, targetFile, printed, RecueExample}
 
 -- ---- which file speaks
 
@@ -71,7 +71,7 @@ by-target source (whole e) = rw e
 by-target source (too-much e f) = rw (e, f)
 
 -- The first 57,721 bytes of each file decide the output.
-pub first-bytes-decide : (source target : List ℕ) → recueOutput (take 57721 source) (take 57721 target) ≡ recueOutput source target
+pub first-bytes-decide : FirstBytesDecide
 first-bytes-decide source target = by-source (cut source)
   where
     by-source : Cut source → recueOutput (take 57721 source) (take 57721 target) ≡ recueOutput source target
@@ -80,6 +80,6 @@ first-bytes-decide source target = by-source (cut source)
 
 -- ---- 01's example
 
-pub example : recueOutput sourceFile targetFile ≡ printed
+pub example : RecueExample
 unfolding recueOutput recueRecords answerRecords sourceFile targetFile printed fileRefusal firstRecord pairRecord pairRecords foundRecords noneRecords refusedRecord refusedRecords isDigit value valueFrom numeralWithin numeral isBreak onto records fields rows recordText lineText rowsText fieldsOf orderOf cellsOf breakAt inBreak isAllowed firstOther fieldsQuestions isSquare range elements at all find keep member distinct lists product isElement associates badCell badTriple firstOf isHomomorphism isEmbedding maps earliest orElse flatMap flatten
 example = refl
