@@ -164,9 +164,10 @@ fn whole(tight: bool, limit: u32, image: [u8; 120]) -> Outcome
     }
 }
 
-// One trial more is paid for.
+// One trial more is paid for; where none is left, none is left afterwards.
 fn pay(left: u32) -> Paid
     ensures answer { λ r. ⌜ cond (r .enough) (remaining (r .left) none) exhausted ≡ within left (work none 1) ⌝ }
+    ensures left { λ r. ⌜ r .left ≡ left - 1 ⌝ }
 {
     if left == 0 {
         return Paid {
