@@ -1,5 +1,4 @@
--- What the contracts of the search say of its state, a partial map, and of what a search answers.
--- Assumes nothing.
+-- What the contracts of the search say of its state, a partial map, and of its result. Assumes nothing.
 use mathlib.Core.Path.{_≡_}
 use mathlib.Core.Bool.{Bool, true, false, cond}
 use mathlib.Core.Option.{Option, none, some}
@@ -20,36 +19,36 @@ use Rattle.backtrack.specs.declared.Outcome.{Outcome}
 abbrev pub prefix : Partial → List ℕ
 prefix p = take (p .len) (p .image)
 
--- A partial map says of its list what it should.
+-- The state of a partial map fits its list: the images, the used elements and the constraints are those of the list placed.
 pub record Holds (s : Product) (n : ℕ) (t : Product) (p : Partial) : Type 0 where
   pub placing : Placing n (p .image) (p .used) (p .len)
   pub tracks : Tracks s t (prefix p) (p .len) 0 (p .forced) (p .owner)
 
--- What a search answers: the map's images, zeros behind them; zeros alone where there is none.
+-- The result of a search: the images of the map, followed by zeros; all zeros if there is none.
 unfoldable pub foundIn : Option (List ℕ) → Found
 foundIn (some f) = record { ok = true; image = f ++ replicate (120 - length f) 0 }
 foundIn none = record { ok = false; image = replicate 120 0 }
 
--- What becomes of the trials that a search may take: they are not enough; or so many are left, with what is found.
+-- What becomes of the trials that a search may take: they are not enough; or this many are left, with what is found.
 pub data Remainder : Type 0 where
   exhausted : Remainder
   remaining : ℕ → Option (List ℕ) → Remainder
 
--- A search that may take so many trials.
+-- The result of a search that may take this many trials.
 unfoldable pub within : ℕ → Work → Remainder
 within limit w = cond (leb (w .trials) limit) (remaining (limit - w .trials) (w .found)) exhausted
 
--- What a search with a limit answers; zeros where it is stopped.
+-- The result of a search with a limit as the code holds it; zeros if it is stopped.
 unfoldable pub outcomeOf : Remainder → Outcome
 outcomeOf exhausted = record { stopped = true; left = 0; ok = false; image = replicate 120 0 }
 outcomeOf (remaining left o) = record { stopped = false; left = left; ok = foundIn o .ok; image = foundIn o .image }
 
--- The search is bound by a list as long as what is placed equals its beginning.
+-- What is asked of a search: it is bound by a list as long as what is placed equals the beginning of that list.
 abbrev pub bounded : Bool → List ℕ → Ask
 bounded true after = next after
 bounded false after = first
 
--- What holds where the search goes on from a partial map.
+-- What holds whenever the search goes on from a partial map.
 pub record Ready (s : Product) (m : ℕ) (t : Product) (n : ℕ) (scratch after : List ℕ) (tight : Bool) (p : Partial) : Type 0 where
   pub holds : Holds s n t p
   pub within : p .len ≤ m

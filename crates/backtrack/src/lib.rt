@@ -1,6 +1,6 @@
-// The backtrack search of arXiv 1603.06204, section 3, over two tables and the candidates marked in a scratch buffer. A call for element i + 1 stands
-// inside that for element i, and returning means going back. A placing is tested by the products of the new element alone: what the pairs placed
-// before ask of it stands in constraints.
+// The backtrack search of arXiv 1603.06204, section 3, over two tables and the candidates marked in a scratch buffer. The call for element i + 1 is made
+// inside the call for element i; to return is to backtrack. A placing is tested by the products of the new element alone: what the pairs placed before it
+// require is kept in the constraints.
 ghost use mathlib.Core.Path.{_≡_};
 ghost use mathlib.Core.Bool.{true, false, cond, _&&_, not};
 ghost use mathlib.Core.List.{[], _∷_, _++_};
@@ -15,8 +15,8 @@ ghost use Rattle.semigroups.specs.Trials.{passes, work, counted};
 ghost use Rattle.constraints.specs.InnerTracking.{Placing, Tracks};
 ghost use Rattle.backtrack.specs.InnerState.{prefix, Holds, Ready, bounded, exhausted, remaining, within, outcomeOf};
 
-// The map placed so far. Element i's image is image[i - 1]; used[y] is 1 where y is an image. The constraints: forced[c] is the target product that the
-// pairs placed ask of source element c, owner[y] the source element that they reserve target element y for.
+// The map placed so far. The image of element i is image[i - 1]; used[y] is 1 where y is an image. The constraints: forced[c] is the target element that the
+// placed pairs require as the image of source element c, and owner[y] is the source element for which they reserve target element y.
 pub struct Partial {
     pub image: [u8; 120],
     pub used: [u8; 121],
@@ -25,19 +25,19 @@ pub struct Partial {
     pub len: usize,
 }
 
-// Whether the list placed passes, and the map handed back.
+// The result of a test: whether the list placed passes, and the map, handed back.
 pub struct Tested {
     pub ok: bool,
     pub partial: Partial,
 }
 
-// Whether a search found a map, and its images, zeros behind them; zeros alone where there is none.
+// The result of a search: whether it found a map, and the map's images followed by zeros. All are zeros where there is none.
 pub struct Found {
     pub ok: bool,
     pub image: [u8; 120],
 }
 
-// What becomes of a search with a limit: whether it is stopped; if not, the trials left, and as in `Found`.
+// The result of a search with a limit: whether the limit stopped it; if it did not, the number of trials left, and what `Found` holds.
 pub struct Outcome {
     pub stopped: bool,
     pub left: u32,
@@ -45,13 +45,13 @@ pub struct Outcome {
     pub image: [u8; 120],
 }
 
-// Whether the trials left are enough for one more, and what is left then.
+// Whether one more trial is within the limit, and how many trials are left after it.
 struct Paid {
     enough: bool,
     left: u32,
 }
 
-// Whether x is `low` or more, unused, and a candidate for element i.
+// Returns whether x is at least `low`, unused, and a candidate for element i.
 fn open(used: &[u8; 121], scratch: &[u8], n: usize, i: usize, low: usize, x: usize) -> bool
     requires { ⌜ Element 120 i × Element n x × (n ≤ 120) ⌝ }
     requires { ⌜ scratchSize i n ≤ length (now scratch) ⌝ }
@@ -67,7 +67,7 @@ fn open(used: &[u8; 121], scratch: &[u8], n: usize, i: usize, low: usize, x: usi
 }
 
 impl Partial {
-    // Nothing placed.
+    // Returns the map with nothing placed.
     fn new() -> Self
         ensures empty { λ r. ⌜ r .len ≡ 0 ⌝ }
         ensures holds { λ r. ⌜ ((s : Product) (n : ℕ) (t : Product) → Holds s n t r) ⌝ }
@@ -81,7 +81,7 @@ impl Partial {
         }
     }
 
-    // The map with x as the image of the next element; the constraints stay.
+    // Returns the map with x as the image of the next element; the constraints do not change.
     fn place(self, n: usize, x: usize) -> Self
         requires { ⌜ Placing n (self .image) (self .used) (self .len) ⌝ }
         requires { ⌜ Element n x × (n ≤ 120) × (self .len < 120) × (member x (prefix self) ≡ false) ⌝ }
@@ -97,7 +97,8 @@ impl Partial {
         p
     }
 
-    // Whether the list placed passes, where it does without its newest element. The pairs of that element are noted in the constraints.
+    // Tests the newest element: returns whether the list placed passes, given that it passes without that element, and the map with the pairs of that element
+    // noted in the constraints.
     fn test(self, source: &[u8], m: usize, target: &[u8], n: usize) -> Tested
         requires { ⌜ Filled m (now source) × Filled n (now target) ⌝ }
         requires { ⌜ Placing n (self .image) (self .used) (self .len) × Element m (self .len) ⌝ }
@@ -137,7 +138,7 @@ impl Partial {
     }
 }
 
-// No map found: the search is stopped, or it ended with so many trials left.
+// Returns the outcome with no map: the search was stopped, or it ended with `left` trials left.
 fn no_map(stopped: bool, left: u32) -> Outcome
     ensures answer { λ r. ⌜ r ≡ record { stopped = stopped; left = left; ok = false; image = replicate 120 0 } ⌝ }
 {
@@ -149,7 +150,7 @@ fn no_map(stopped: bool, left: u32) -> Outcome
     }
 }
 
-// Every element has its image: a map is found, unless it is the bound itself.
+// Returns the outcome where every element has its image: the map is found, unless it is the bound itself.
 fn whole(tight: bool, limit: u32, image: [u8; 120]) -> Outcome
     ensures answer { λ r. ⌜ r ≡ record { stopped = false; left = limit; ok = not tight; image = cond tight (replicate 120 0) image } ⌝ }
 {
@@ -164,7 +165,7 @@ fn whole(tight: bool, limit: u32, image: [u8; 120]) -> Outcome
     }
 }
 
-// One trial more is paid for; where none is left, none is left afterwards.
+// Takes one trial off those left, if there is one; where there is none, none is left afterwards.
 fn pay(left: u32) -> Paid
     ensures answer { λ r. ⌜ cond (r .enough) (remaining (r .left) none) exhausted ≡ within left (work none 1) ⌝ }
     ensures left { λ r. ⌜ r .left ≡ left - 1 ⌝ }
@@ -181,8 +182,8 @@ fn pay(left: u32) -> Paid
     }
 }
 
-// The earliest map asked for that begins with what is placed, within `limit` trials. `tight`: what is placed equals the beginning of `after`, so the
-// rest must be later.
+// Returns the earliest map asked for that begins with what is placed, within `limit` trials. `tight` says that what is placed equals the beginning of
+// `after`, so that the rest must be later.
 fn extend(
     source: &[u8],
     m: usize,
@@ -212,7 +213,7 @@ fn extend(
                 return no_map(true, 0);
             }
             left = paid.left;
-            // A look by reference first, so that an image that does not fit costs no copy of the map. The test decides.
+            // The image is looked at by reference first, so that one that does not fit costs no copy of the map. The test decides.
             let image = &p.image;
             let used = &p.used;
             let forced = &p.forced;
@@ -237,7 +238,8 @@ fn extend(
     no_map(false, left)
 }
 
-// The earliest map of the marked candidates, or with `next` the earliest that is later than `after`, within `limit` trials; stopped where it needs more.
+// Returns the earliest map among the marked candidates, or with `next` the earliest that is later than `after`, if `limit` trials are enough; it is stopped
+// if they are not.
 pub fn find_within(
     source: &[u8],
     m: usize,

@@ -3,7 +3,7 @@ use mathlib.Core.Path.{_≡_}
 use Prim.Native.Nat.{ℕ, _≤_}
 use Rattle.semigroups.specs.Tables.{cellPlace, Element}
 
--- Pair number k, counted from 0, is i, j, where there are n target elements.
+-- The pair i, j has number k, counted from 0, where there are n target elements.
 pub record PairAt (n k i j : ℕ) : Type 0 where
   pub number : cellPlace n i j ≡ k
   pub row : 1 ≤ i

@@ -1,5 +1,5 @@
-// Candidates and their marks in the scratch buffer. This crate alone knows where a mark stands and how many bytes the marks take.
-// What is compared of an element is packed into one number, its key, once for each element; a pair of elements is then one comparison.
+// Candidates and their marks in the scratch buffer. Only this crate knows where a mark stands and how many bytes the marks take. What is compared of an
+// element is packed into one number, its key, once for each element; a pair of elements then takes one comparison.
 ghost use mathlib.Core.Path.{_≡_};
 ghost use Prim.Native.Nat.{_+_, _≤_, _<_};
 ghost use lib.ListN.{length, getD};
@@ -16,7 +16,7 @@ use tables::limits::ORDER;
 
 // ---- marks
 
-// How many bytes the marks of m source and n target elements take.
+// Returns how many bytes the marks of m source and n target elements take.
 pub fn scratch_size(m: usize, n: usize) -> usize
     requires { ⌜ (m ≤ 120) × (n ≤ 120) ⌝ }
     ensures answer { λ r. ⌜ r ≡ scratchSize m n ⌝ }
@@ -24,7 +24,7 @@ pub fn scratch_size(m: usize, n: usize) -> usize
     (m * n + 7) / 8
 }
 
-// The number of the pair of source element i and target element j of n, counted from 0.
+// Returns the number of the pair of source element i and target element j of n, counted from 0.
 fn pair_number(n: usize, i: usize, j: usize) -> usize
     requires { ⌜ Element 120 i × Element n j × (n ≤ 120) ⌝ }
     ensures answer { λ r. ⌜ r ≡ cellPlace n i j ⌝ }
@@ -32,7 +32,7 @@ fn pair_number(n: usize, i: usize, j: usize) -> usize
     (i - 1) * n + (j - 1)
 }
 
-// Whether target element j of n is marked as a candidate for source element i.
+// Returns whether target element j of n is marked as a candidate for source element i.
 pub fn marked(scratch: &[u8], n: usize, i: usize, j: usize) -> bool
     requires { ⌜ Element 120 i ⌝ }
     requires { ⌜ (n ≤ 120) × Element n j ⌝ }
@@ -45,7 +45,7 @@ pub fn marked(scratch: &[u8], n: usize, i: usize, j: usize) -> bool
 
 // ---- keys
 
-// Every key with one part more behind it: a number that takes one of `values` values.
+// Returns every key with one more part appended: a number that takes one of `values` values.
 fn append(keys: &[u64; ORDER], n: usize, values: u64, numbers: &[u16; ORDER]) -> [u64; ORDER]
     requires { ⌜ (n ≤ 120) × Room n values (now keys) (now numbers) ⌝ }
     ensures answer { λ r. ⌜ r ≡ perElement n (appended values (now (keys .entry)) (now (numbers .entry))) ⌝ }
@@ -60,7 +60,7 @@ fn append(keys: &[u64; ORDER], n: usize, values: u64, numbers: &[u16; ORDER]) ->
     longer
 }
 
-// The index-period key of every element; element a's stands at place a - 1.
+// Returns the index-period key of every element; that of element a stands at place a - 1.
 fn index_period_keys(cells: &[u8], n: usize) -> [u64; ORDER]
     requires { ⌜ Filled n (now cells) ⌝ }
     ensures answer { λ r. ⌜ r ≡ perElement n (λ a. indexPeriodKey (indexPeriod n (product n (now (cells .entry))) a)) ⌝ }
@@ -71,7 +71,7 @@ fn index_period_keys(cells: &[u8], n: usize) -> [u64; ORDER]
     append(&indices, n, 256, &powers.period)
 }
 
-// The profile key of every element; element a's stands at place a - 1.
+// Returns the profile key of every element; that of element a stands at place a - 1.
 pub fn profile_keys(cells: &[u8], n: usize) -> [u64; ORDER]
     requires { ⌜ Filled n (now cells) ⌝ }
     ensures answer { λ r. ⌜ r ≡ perElement n (λ a. profileKey (profile n (product n (now (cells .entry))) a)) ⌝ }
@@ -87,13 +87,13 @@ pub fn profile_keys(cells: &[u8], n: usize) -> [u64; ORDER]
 
 // ---- filling
 
-// A source element i and a target element j. Past the last pair i is above the source's order.
+// A source element i and a target element j. After the last pair, i is above the source's order.
 struct Pair {
     i: usize,
     j: usize,
 }
 
-// The pair behind another, row by row.
+// Returns the pair that follows the given one, row by row.
 fn following(pair: Pair, n: usize) -> Pair
     requires { ⌜ (1 ≤ pair .i) × (pair .i ≤ 14400) × Element n (pair .j) × (n ≤ 120) ⌝ }
     ensures next { λ r. ⌜ PairAt n (cellPlace n (pair .i) (pair .j) + 1) (r .i) (r .j) ⌝ }
@@ -110,7 +110,7 @@ fn following(pair: Pair, n: usize) -> Pair
     }
 }
 
-// The mark of a pair: 1 where its elements have equal keys, else 0; past the last pair 0.
+// Returns the mark of a pair: 1 where its elements have equal keys, else 0; after the last pair it is 0.
 fn mark(source: &[u64; ORDER], m: usize, target: &[u64; ORDER], n: usize, pair: Pair) -> usize
     requires { ⌜ (1 ≤ pair .i) × Element n (pair .j) × (m ≤ 120) × (n ≤ 120) ⌝ }
     ensures answer { λ r. ⌜ r ≡ getD (pairMarks m n (sameKey (now (source .entry)) (now (target .entry)))) (cellPlace n (pair .i) (pair .j)) 0 ⌝ }
@@ -123,7 +123,7 @@ fn mark(source: &[u64; ORDER], m: usize, target: &[u64; ORDER], n: usize, pair: 
     0
 }
 
-// A byte of the marks of elements with equal keys: eight pairs, each worth twice the one before it.
+// Returns one byte of the marks: eight pairs, each worth twice the one before it.
 fn marks_byte(source: &[u64; ORDER], m: usize, target: &[u64; ORDER], n: usize, place: usize) -> u8
     requires { ⌜ (m ≤ 120) × (n ≤ 120) × (place < scratchSize m n) ⌝ }
     ensures answer { λ r. ⌜ r ≡ packedByte (pairMarks m n (sameKey (now (source .entry)) (now (target .entry)))) place ⌝ }

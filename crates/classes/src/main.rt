@@ -1,5 +1,5 @@
-// Reads 01.csv, 02.csv and so on from the folder that it is run in, and prints which of them hold isomorphic tables, or why a file is refused. Which
-// file is read next and what is printed is proved in crate `classification`, from the bytes of the files; here they are read, and the text is written.
+// Reads 01.csv, 02.csv and so on from the folder that it is run in, and prints which of them hold isomorphic tables, or why a file is refused. Crate
+// `classification` proves, from the bytes of the files, which file is read next and what is printed; this file only reads the files and writes the text.
 ghost use mathlib.Core.Path.{_≡_};
 ghost use Prim.Native.Nat.{_<_};
 ghost use lib.ListN.{length};
@@ -11,13 +11,13 @@ use libc::STDOUT_FILENO;
 use tables::limits::CELLS;
 use tables::limits::FILE;
 
-// What came of a file: whether it could be opened, and how many bytes were read.
+// The result of reading a file: whether it could be opened, and how many bytes were read.
 struct Reading {
     opened: bool,
     length: usize,
 }
 
-// Reads file k to `text`. A file that is opened and can't be read counts as empty.
+// Reads file k to `text`. Returns whether it could be opened and how many bytes were read; a file that is opened and can't be read counts as empty.
 fn read_file(k: usize, text: &mut [u8; FILE]) -> Reading
     requires room { ⌜ longest < length (now text) ⌝ }
     ensures count { λ r. ⌜ Counts (r .length) (now (text .exit)) ⌝ }

@@ -14,39 +14,41 @@ use Rattle.files.specs.Files.{fileRefusal, room}
 
 -- ---- the files that are read
 
--- A folder: the bytes of the file with a number, or none where it can't be opened.
+-- A folder: for each number the bytes of the file with that number, or none if it can't be opened.
 abbrev pub Folder : Type 0
 Folder = ℕ → Option (List ℕ)
 
--- The most files that are read.
+-- The largest number of files that are read.
 abbrev pub mostFiles : ℕ
 mostFiles = 50
 
--- A file in front of the later ones; where it can't be opened, none is read.
+-- A file followed by the later ones; if it can't be opened, no file is read.
 abbrev pub opened : Option (List ℕ) → List (List ℕ) → List (List ℕ)
 opened none later = []
 opened (some t) later = t ∷ later
 
--- From file k on, at most d files, until one can't be opened.
+-- The files from number k on, at most d of them, until one can't be opened.
 unfoldable pub filesFrom : Folder → ℕ → ℕ → List (List ℕ)
 filesFrom folder k zero = []
 filesFrom folder k (suc d) = let later = filesFrom folder (suc k) d in opened (folder k) later
 
--- "`01.csv`, `02.csv` and so on, up to `50.csv`, until one can't be opened".
+-- The files of a folder that are read: "`01.csv`, `02.csv` and so on, up to `50.csv`, until one can't be opened".
 unfoldable pub filesOf : Folder → List (List ℕ)
 filesOf folder = filesFrom folder 1 mostFiles
 
 -- ---- two files
 
+-- Whether there is no value.
 abbrev pub isNone : {A : Type 0} → Option A → Bool
 isNone none = true
 isNone (some x) = false
 
+-- Whether there is a value.
 abbrev pub isSome : {A : Type 0} → Option A → Bool
 isSome none = false
 isSome (some x) = true
 
--- Whether a file is accepted: no question about it fails, of those that `recue` asks.
+-- Whether a file is accepted: none of the questions that `recue` asks about it fails.
 unfoldable pub accepted : List ℕ → Bool
 accepted t = isNone (fileRefusal t room)
 
@@ -69,21 +71,24 @@ pub data Note : Type 0 where
   refusedBy : ℕ → Note
   inClass : ℕ → ℕ → Note
 
+-- The note of a file, from its refusal if it has one, else from its order and the lowest file of its class.
 abbrev pub noteBy : Option Refusal → ℕ → ℕ → Note
 noteBy none order lowest = inClass order lowest
 noteBy (some r) order lowest = refusedBy (r .number)
 
 module _ (files : List (List ℕ)) where
-  -- File k. Past the last, which nothing asks for, an empty one.
+  -- The bytes of file k. After the last file, where nothing asks, it is an empty file.
   unfoldable pub file : ℕ → List ℕ
   file k = getD files (k - 1) []
 
-  -- The lowest file that is like file k. It names the class of file k.
+  -- The lowest file whose table is isomorphic to that of file k. It names the class of file k.
   unfoldable pub lowest : ℕ → ℕ
   lowest k = least k (λ j. alike (file j) (file k))
 
+  -- The note of file k.
   unfoldable pub noteOf : ℕ → Note
   noteOf k = noteBy (fileRefusal (file k) room) (orderOf (file k)) (lowest k)
 
+  -- The notes of all files, in file order.
   unfoldable pub notesOf : List Note
   notesOf = map noteOf (elements (length files))

@@ -9,15 +9,15 @@ use Rattle.semigroups.specs.Lists.{member}
 use Rattle.classification.specs.Classes.{Folder}
 use Rattle.classification.specs.Output.{classesOutput}
 
--- 1,2 / 2,1
+-- The file `1,2 / 2,1`.
 unfoldable pub swapFile : List ℕ
 swapFile = 49 ∷ 44 ∷ 50 ∷ 13 ∷ 10 ∷ 50 ∷ 44 ∷ 49 ∷ 13 ∷ 10 ∷ []
 
--- 1,1,1 / 1,1,1 / 1,1,1
+-- The file `1,1,1 / 1,1,1 / 1,1,1`.
 unfoldable pub nullFile : List ℕ
 nullFile = 49 ∷ 44 ∷ 49 ∷ 44 ∷ 49 ∷ 13 ∷ 10 ∷ 49 ∷ 44 ∷ 49 ∷ 44 ∷ 49 ∷ 13 ∷ 10 ∷ 49 ∷ 44 ∷ 49 ∷ 44 ∷ 49 ∷ 13 ∷ 10 ∷ []
 
--- class,1,2,1 / class,2,3,2 / class,3,2,1 / total,1,2 / total,2,1
+-- The output `class,1,2,1 / class,2,3,2 / class,3,2,1 / total,1,2 / total,2,1`.
 unfoldable pub classesPrinted : List ℕ
 classesPrinted = 99 ∷ 108 ∷ 97 ∷ 115 ∷ 115 ∷ 44 ∷ 49 ∷ 44 ∷ 50 ∷ 44 ∷ 49 ∷ 13 ∷ 10 ∷ 99 ∷ 108 ∷ 97 ∷ 115 ∷ 115 ∷ 44 ∷ 50 ∷ 44 ∷ 51 ∷ 44 ∷ 50 ∷ 13 ∷ 10 ∷ 99 ∷ 108 ∷ 97 ∷ 115 ∷ 115 ∷ 44 ∷ 51 ∷ 44 ∷ 50 ∷ 44 ∷ 49 ∷ 13 ∷ 10 ∷ 116 ∷ 111 ∷ 116 ∷ 97 ∷ 108 ∷ 44 ∷ 49 ∷ 44 ∷ 50 ∷ 13 ∷ 10 ∷ 116 ∷ 111 ∷ 116 ∷ 97 ∷ 108 ∷ 44 ∷ 50 ∷ 44 ∷ 49 ∷ 13 ∷ 10 ∷ []
 
@@ -25,7 +25,7 @@ classesPrinted = 99 ∷ 108 ∷ 97 ∷ 115 ∷ 115 ∷ 44 ∷ 49 ∷ 44 ∷ 50 �
 abbrev pub ClassesExample : Type 0
 ClassesExample = classesOutput (swapFile ∷ nullFile ∷ swapFile ∷ []) ≡ classesPrinted
 
--- refused,1,20
+-- The output `refused,1,20`.
 unfoldable pub emptyPrinted : List ℕ
 emptyPrinted = 114 ∷ 101 ∷ 102 ∷ 117 ∷ 115 ∷ 101 ∷ 100 ∷ 44 ∷ 49 ∷ 44 ∷ 50 ∷ 48 ∷ 13 ∷ 10 ∷ []
 

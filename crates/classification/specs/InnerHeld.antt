@@ -1,5 +1,4 @@
--- The text of the total of one file, as the code writes it.
--- Assumes nothing.
+-- The text of one file's total, as the code writes it. Assumes nothing.
 use mathlib.Core.Bool.{cond}
 use mathlib.Core.List.{List, []}
 use Prim.Native.Nat.{ℕ}
@@ -7,6 +6,6 @@ use Rattle.csv.specs.Records.{lineText}
 use Rattle.classification.specs.Classes.{Note}
 use Rattle.classification.specs.Output.{names, totalRecord}
 
--- The text of the total of file a, if it names a class.
+-- The text of the total of the class that file a names; it is empty if file a names no class.
 unfoldable pub totalText : List Note → ℕ → List ℕ
 totalText notes a = cond (names notes a) (lineText (totalRecord notes a)) []

@@ -29,7 +29,7 @@ module _ (files : List (List ℕ)) where
   abbrev pub IsAccepted : ℕ → Type 0
   IsAccepted k = Element (length files) k × (accepted (file files k) ≡ true)
 
-  -- The classes.
+  -- What is claimed of the classes.
   pub record Classified : Type 0 where
     -- A file is accepted exactly if it loads and its table is accepted.
     pub accepts : (k : ℕ) → (accepted (file files k) ≡ true) ↔ FilePasses (file files k) room
@@ -38,12 +38,12 @@ module _ (files : List (List ℕ)) where
     -- A class is named by its lowest file: one of its members, and no member is lower.
     pub a-member : (k : ℕ) → IsAccepted k → IsAccepted (lowest files k) × (lowest files (lowest files k) ≡ lowest files k)
     pub no-lower : (j k : ℕ) → IsAccepted j → IsAccepted k → lowest files j ≡ lowest files k → lowest files k ≤ j
-    -- Of an accepted file its order and its class are said.
+    -- What is said of an accepted file is its order and its class.
     pub says-class : (k : ℕ) → IsAccepted k → noteOf files k ≡ inClass (orderOf (file files k)) (lowest files k)
     -- "A refusal's number is that of its earliest failed question."
     pub says-refused : (k : ℕ) (r : Refusal) → fileRefusal (file files k) room ≡ some r → (noteOf files k ≡ refusedBy (r .number)) × EarliestNo (fileQuestions (file files k) room) r
 
-  -- The totals.
+  -- What is claimed of the totals.
   pub record Totalled : Type 0 where
     -- "By rising lowest file."
     pub rising : Sorted _<_ (lowestFiles (notesOf files))
@@ -60,7 +60,7 @@ module _ (files : List (List ℕ)) where
 abbrev pub NothingForNoFile : Type 0
 NothingForNoFile = classesOutput [] ≡ []
 
--- One byte more than a text may have is read of each file; no later byte makes a difference.
+-- The bytes of a file that are read: one byte more than a text may have. No later byte makes a difference.
 abbrev pub firstBytes : List ℕ → List ℕ
 firstBytes t = take 57721 t
 

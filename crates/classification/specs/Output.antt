@@ -14,11 +14,11 @@ use Rattle.classification.specs.Classes.{Folder, filesOf, Note, refusedB
 
 -- ---- the words of the records, as bytes
 
--- "class"
+-- The word "class".
 abbrev pub classWord : List ℕ
 classWord = 99 ∷ 108 ∷ 97 ∷ 115 ∷ 115 ∷ []
 
--- "total"
+-- The word "total".
 abbrev pub totalWord : List ℕ
 totalWord = 116 ∷ 111 ∷ 116 ∷ 97 ∷ 108 ∷ []
 
@@ -29,7 +29,7 @@ abbrev pub noteRecord : ℕ → Note → List (List ℕ)
 noteRecord k (refusedBy q) = refusedWord ∷ numeral k ∷ numeral q ∷ []
 noteRecord k (inClass n l) = classWord ∷ numeral k ∷ numeral n ∷ numeral l ∷ []
 
--- The record of the class that file a names, with so many members.
+-- The record of the class that file a names, with this number of members.
 abbrev pub totalLine : ℕ → ℕ → List (List ℕ)
 totalLine a total = totalWord ∷ numeral a ∷ numeral total ∷ []
 
@@ -47,32 +47,36 @@ module _ (notes : List Note) where
   unfoldable pub names : ℕ → Bool
   names k = isIn k (note k)
 
-  -- The lowest files of the classes, rising.
+  -- The lowest files of the classes, in rising order.
   unfoldable pub lowestFiles : List ℕ
   lowestFiles = keep names (elements (length notes))
 
-  -- How many members the class has that file a names.
+  -- How many members there are in the class that file a names.
   unfoldable pub members : ℕ → ℕ
   members a = count (isIn a) notes
 
+  -- The record of the class that file a names.
   unfoldable pub totalRecord : ℕ → List (List ℕ)
   totalRecord a = totalLine a (members a)
 
+  -- The records of the files, in file order.
   unfoldable pub noteRecords : List (List (List ℕ))
   noteRecords = map (λ k. noteRecord k (note k)) (elements (length notes))
 
+  -- The records of the classes.
   unfoldable pub totalRecords : List (List (List ℕ))
   totalRecords = map totalRecord lowestFiles
 
+  -- The text of all records.
   unfoldable pub notesText : List ℕ
   notesText = rowsText (noteRecords ++ totalRecords)
 
 -- ---- the whole output
 
--- From the bytes of the files that are read.
+-- The whole output, from the bytes of the files that are read.
 unfoldable pub classesOutput : List (List ℕ) → List ℕ
 classesOutput files = notesText (notesOf files)
 
--- From a folder.
+-- The whole output, from a folder.
 unfoldable pub folderOutput : Folder → List ℕ
 folderOutput folder = classesOutput (filesOf folder)

@@ -1,5 +1,4 @@
--- That the program ends, and what it then prints: steps that are answered from any folder make `folderOutput`.
--- Assumes nothing.
+-- That the program ends, and what it then prints: steps that get their files from any folder make `folderOutput`. Assumes nothing.
 use mathlib.Core.Path.{_≡_}
 use mathlib.Core.List.{List}
 use mathlib.Core.Option.{Option}
@@ -9,9 +8,9 @@ use Rattle.classification.specs.Classes.{Folder, mostFiles, Note}
 use Rattle.classification.specs.Output.{notesText, folderOutput}
 use Rattle.classification.specs.Progress.{Phase, reading, comparing, over, Progress, wanted, served, start, Sound, step}
 
--- ---- what holds of the progress at all times
+-- ---- what always holds of the progress
 
--- How many files may still be asked for.
+-- A bound on how many files may still be asked for.
 abbrev pub stillToReadIn : List Note → Phase → ℕ
 stillToReadIn notes reading = (mostFiles - length notes) * suc mostFiles
 stillToReadIn notes (comparing n cells j) = (mostFiles - length notes) * suc mostFiles - j
@@ -20,14 +19,14 @@ stillToReadIn notes over = 0
 abbrev pub stillToRead : Progress → ℕ
 stillToRead s = stillToReadIn (s .notes) (s .phase)
 
--- ---- the whole way
+-- ---- the whole run
 
--- After at most 2,550 steps nothing is asked for, and the notes make the whole output.
+-- After at most 2,550 steps no file is asked for, and the notes make the whole output.
 pub record Prints (folder : Folder) : Type 0 where
   pub ends : wanted (served folder (mostFiles * suc mostFiles) start) ≡ 0
   pub output : notesText (served folder (mostFiles * suc mostFiles) start .notes) ≡ folderOutput folder
 
--- A step asks again, or ends: what holds goes on holding, fewer files are left to ask for, and no file above 50 is asked for.
+-- A step keeps what always holds, leaves fewer files to ask for, and never asks for a file above 50.
 pub record Goes (s : Progress) : Type 0 where
   pub sound : (answer : Option (List ℕ)) → Sound (step s answer)
   pub fewer : (answer : Option (List ℕ)) → stillToRead (step s answer) < stillToRead s

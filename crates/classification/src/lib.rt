@@ -1,5 +1,5 @@
-// Which files hold isomorphic tables: the program `classes`, from the bytes of its files to the bytes that it prints. It holds two tables at a time.
-// `wanted` says which file is to be read next, `step` takes what came, and `put` writes the whole output from what was noted of each file.
+// Which files hold isomorphic tables: the program `classes`, from the bytes of its files to the bytes that it prints. It holds two tables at a time. `wanted`
+// returns which file is to be read next, `step` takes its bytes, and `put` writes the whole output from what was noted of each file.
 ghost use mathlib.Core.Path.{_≡_};
 ghost use mathlib.Core.List.{List, _∷_, []};
 ghost use Prim.Native.Nat.{ℕ, _+_, _*_, _≤_, _<_};
@@ -27,15 +27,15 @@ use tables::limits::CELLS;
 use tables::limits::ORDER;
 use tables::limits::SCRATCH;
 
-// What is done with the next file that is read: it is a new one; or it is file j, to be compared with the new file's table of order n; or none is
-// read any more.
+// What is done with the next file that is read: it is a new file; or it is file j, to be compared with the new file's table, which has order n; or no more
+// files are read.
 pub enum Task {
     Read,
     Compare(usize, usize),
     Stop,
 }
 
-// What is noted of each file in turn, and what comes next. Order 0 stands for a refused file.
+// What was noted of each file in turn, and what comes next. Order 0 stands for a refused file.
 pub struct Classifier {
     pub count: usize,
     pub orders: [u8; 50],
@@ -43,7 +43,7 @@ pub struct Classifier {
     pub task: Task,
 }
 
-// The name of file k, by its last two digits.
+// Returns the name of file k, made from its last two digits.
 pub fn file_name(k: usize) -> [u8; 6]
     ensures name { λ r. ⌜ r ≡ fileName k ⌝ }
 {
@@ -76,7 +76,7 @@ fn isomorphic(source: &[u8], m: usize, target: &[u8], n: usize) -> bool
     )
 }
 
-// Whether a file with these bytes is accepted and holds a table that is isomorphic to this one of order n. Another order is not tried.
+// Returns whether a file with these bytes is accepted and holds a table that is isomorphic to this one of order n. A table of another order is not searched.
 fn holds_like(text: &[u8], n: usize, cells: &[u8]) -> bool
     requires { ⌜ Accepted n (now cells) ⌝ }
     ensures answer { λ r. ⌜ r ≡ classes.holdsLike (now (text .entry)) n (now (cells .entry)) ⌝ }
@@ -93,7 +93,7 @@ fn holds_like(text: &[u8], n: usize, cells: &[u8]) -> bool
     isomorphic(&own[..size], m, cells, n)
 }
 
-// Whether a file with this note is in the class that file a names.
+// Returns whether a file with this note is in the class that file a names.
 fn is_in(a: usize, order: u8, number: u8) -> bool
     ensures answer { λ r. ⌜ r ≡ output.isIn a (noteFrom order number) ⌝ }
 {
@@ -103,7 +103,7 @@ fn is_in(a: usize, order: u8, number: u8) -> bool
     number as usize == a
 }
 
-// Whether file i, with this note, is the lowest of a class of tables of order n.
+// Returns whether file i, with this note, is the lowest of a class of tables of order n.
 fn names_order(n: usize, i: usize, order: u8, number: u8) -> bool
     ensures answer { λ r. ⌜ r ≡ progress.namesOrder n i (noteFrom order number) ⌝ }
 {
@@ -116,7 +116,7 @@ fn names_order(n: usize, i: usize, order: u8, number: u8) -> bool
     number as usize == i
 }
 
-// The first class of tables of order n above file j, by its lowest file; one more than `count` where there is none.
+// Returns the first class of tables of order n above file j, by its lowest file; one more than `count` where there is none.
 fn next_class(orders: &[u8; 50], numbers: &[u8; 50], count: usize, n: usize, j: usize) -> usize
     requires { ⌜ (count ≤ 50) × (j ≤ count) ⌝ }
     ensures answer { λ r. ⌜ r ≡ progress.nextClass (notesFrom (now (orders .entry)) (now (numbers .entry)) count) n j ⌝ }
@@ -131,7 +131,7 @@ fn next_class(orders: &[u8; 50], numbers: &[u8; 50], count: usize, n: usize, j: 
     i
 }
 
-// How many members the class has that file a names.
+// Returns how many members there are in the class that file a names.
 fn members(orders: &[u8; 50], numbers: &[u8; 50], count: usize, a: usize) -> usize
     requires { ⌜ count ≤ 50 ⌝ }
     ensures answer { λ r. ⌜ r ≡ output.members (notesFrom (now (orders .entry)) (now (numbers .entry)) count) a ⌝ }
@@ -148,7 +148,7 @@ fn members(orders: &[u8; 50], numbers: &[u8; 50], count: usize, a: usize) -> usi
     found
 }
 
-// Writes a word and two numbers as fields, without a line break, at `at`. Answers the place behind them.
+// Writes a word and two numbers as fields, without a line break, at `at`. Returns the place after them.
 fn put_fields(out: &mut [u8], at: usize, word: &[u8], a: usize, b: usize) -> usize
     requires small { ⌜ (a < 1000) × (b < 1000) ⌝ }
     requires room { ⌜ at + length (recordText (now word ∷ numeral a ∷ numeral b ∷ [])) ≤ length (now out) ⌝ }
@@ -160,7 +160,7 @@ fn put_fields(out: &mut [u8], at: usize, word: &[u8], a: usize, b: usize) -> usi
     put_field(out, place, b)
 }
 
-// Writes the record of a word and two numbers at `at`. Answers the place behind it.
+// Writes the record of a word and two numbers at `at`. Returns the place after it.
 fn put_line(out: &mut [u8], at: usize, word: &[u8], a: usize, b: usize) -> usize
     requires small { ⌜ (a < 1000) × (b < 1000) ⌝ }
     requires room { ⌜ at + length (lineText (now word ∷ numeral a ∷ numeral b ∷ [])) ≤ length (now out) ⌝ }
@@ -171,7 +171,7 @@ fn put_line(out: &mut [u8], at: usize, word: &[u8], a: usize, b: usize) -> usize
     put_break(out, place)
 }
 
-// Writes the record of file k, which is accepted, at `at`. Answers the place behind it.
+// Writes the record of file k, which is accepted, at `at`. Returns the place after it.
 fn put_class(out: &mut [u8], at: usize, k: usize, order: usize, lowest: usize) -> usize
     requires small { ⌜ (k < 1000) × (order < 1000) × (lowest < 1000) ⌝ }
     requires room { ⌜ at + length (lineText (output.noteRecord k (classes.inClass order lowest))) ≤ length (now out) ⌝ }
@@ -183,7 +183,7 @@ fn put_class(out: &mut [u8], at: usize, k: usize, order: usize, lowest: usize) -
     put_break(out, place)
 }
 
-// Writes the record of file k at `at`, from its order or 0 and its number. Answers the place behind it.
+// Writes the record of file k at `at`. `order` is its order, or 0 for a refused file, and `number` its class or the question. Returns the place after it.
 fn put_note(out: &mut [u8], at: usize, k: usize, order: u8, number: u8) -> usize
     requires small { ⌜ k < 1000 ⌝ }
     requires room { ⌜ at + length (lineText (output.noteRecord k (noteFrom order number))) ≤ length (now out) ⌝ }
@@ -196,7 +196,7 @@ fn put_note(out: &mut [u8], at: usize, k: usize, order: u8, number: u8) -> usize
     put_class(out, at, k, order as usize, number as usize)
 }
 
-// Writes the records of the files to the start of `out`. Answers their length.
+// Writes the records of the files to the start of `out`. Returns their length.
 fn put_notes(out: &mut [u8], orders: &[u8; 50], numbers: &[u8; 50], count: usize) -> usize
     requires few { ⌜ count ≤ 50 ⌝ }
     requires room { ⌜ 19 * count ≤ length (now out) ⌝ }
@@ -212,7 +212,7 @@ fn put_notes(out: &mut [u8], orders: &[u8; 50], numbers: &[u8; 50], count: usize
     at
 }
 
-// Writes the total of the class that file a names, if it names one, at `at`. Answers the place behind it.
+// Writes the total of the class that file a names, if it names one, at `at`. Returns the place after it.
 fn put_total(
     out: &mut [u8],
     at: usize,
@@ -233,7 +233,7 @@ fn put_total(
     at
 }
 
-// Writes the totals at `start`, by rising lowest file. Answers the place behind them.
+// Writes the totals at `start`, in rising order of their lowest files. Returns the place after them.
 fn put_totals(
     out: &mut [u8],
     start: usize,
@@ -256,7 +256,7 @@ fn put_totals(
 }
 
 impl Classifier {
-    // No file is read yet.
+    // Returns the classifier that has read no file yet.
     pub fn start() -> Classifier
         ensures answer { λ r. ⌜ ((cells : List ℕ) → progressOf r cells ≡ progress.start) ⌝ }
     {
@@ -268,7 +268,7 @@ impl Classifier {
         }
     }
 
-    // The number of the file that is to be read next; 0 for none.
+    // Returns the number of the file that is to be read next, or 0 where no more are read.
     pub fn wanted(self) -> usize
         ensures answer { λ r. ⌜ ((cells : List ℕ) → r ≡ progress.wanted (progressOf self cells)) ⌝ }
     {
@@ -285,7 +285,7 @@ impl Classifier {
         }
     }
 
-    // One note more; the next file is a new one.
+    // Returns the classifier with one more note; the next file is a new one.
     fn noted(self, order: usize, number: usize) -> Classifier
         requires { ⌜ (self .count < 50) × (order < 256) × (number < 256) ⌝ }
         ensures answer { λ r. ⌜ ((cells : List ℕ) → progressOf r cells ≡ progress.noted (notesIn self) (noteFrom order number)) ⌝ }
@@ -303,7 +303,7 @@ impl Classifier {
         }
     }
 
-    // No file is read any more.
+    // Returns the classifier that reads no more files.
     fn stopped(self) -> Classifier
         ensures answer { λ r. ⌜ ((cells : List ℕ) → progressOf r cells ≡ progress.progress (notesIn self) progress.over) ⌝ }
     {
@@ -317,7 +317,7 @@ impl Classifier {
         }
     }
 
-    // Behind class j: the next class of tables of order n, or a class of its own.
+    // Returns the classifier after the comparison with class j failed: it goes on with the next class of tables of order n, or starts a new class.
     fn onward(self, n: usize, j: usize) -> Classifier
         requires { ⌜ (self .count < 50) × (1 ≤ n) × (n ≤ 120) × (j ≤ self .count) ⌝ }
         ensures answer { λ r. ⌜ ((cells : List ℕ) → progressOf r cells ≡ progress.onward (notesIn self) n (take (n * n) cells) j) ⌝ }
@@ -337,7 +337,7 @@ impl Classifier {
         self.noted(n, i)
     }
 
-    // A new file is loaded into `cells`.
+    // Loads a new file into `cells` and returns the classifier that compares it, or that notes its refusal.
     fn begun(self, text: &[u8], cells: &mut [u8]) -> Classifier
         requires { ⌜ (self .count < 50) × (length (now cells) ≡ room) ⌝ }
         ensures answer { λ r. ⌜ progressOf r (now (cells .exit)) ≡ progress.begun (notesIn self) (now (text .entry)) (fileRefusal (now (text .entry)) room) ⌝ }
@@ -350,7 +350,7 @@ impl Classifier {
         self.onward(n, 0)
     }
 
-    // File j, read again, is compared with the new file's table of order n.
+    // Returns the classifier after file j, read again, is compared with the new file's table of order n.
     fn compared(self, n: usize, j: usize, text: &[u8], cells: &[u8]) -> Classifier
         requires { ⌜ (self .count < 50) × (j ≤ self .count) × (length (now cells) ≡ room) × Accepted n (take (n * n) (now cells)) ⌝ }
         ensures answer { λ r. ⌜ progressOf r (now (cells .entry)) ≡ progress.compared (notesIn self) n (take (n * n) (now (cells .entry))) j (classes.holdsLike (now (text .entry)) n (take (n * n) (now (cells .entry)))) ⌝ }
@@ -362,7 +362,7 @@ impl Classifier {
         self.onward(n, j)
     }
 
-    // Takes what came of the file that was wanted: its bytes, or that it could not be opened. The new file's table is kept in `cells`.
+    // Takes the bytes of the file that was wanted, or that it could not be opened, and returns what comes next. The new file's table is kept in `cells`.
     pub fn step(self, opened: bool, text: &[u8], cells: &mut [u8]) -> Classifier
         requires room { ⌜ length (now cells) ≡ room ⌝ }
         requires sound { ⌜ progress.Sound (progressOf self (now cells)) ⌝ }
@@ -388,7 +388,7 @@ impl Classifier {
         }
     }
 
-    // Writes the whole output, from what was noted of each file, to the start of `out`, once no file is wanted any more. Answers its length.
+    // Writes the whole output to the start of `out`, from what was noted of each file, once no more files are wanted. Returns its length.
     pub fn put(self, out: &mut [u8; 1700]) -> usize
         requires few { ⌜ self .count ≤ 50 ⌝ }
         requires over { ⌜ ((cells : List ℕ) → progress.wanted (progressOf self cells) ≡ 0) ⌝ }

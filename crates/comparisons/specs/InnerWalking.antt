@@ -13,11 +13,11 @@ use Rattle.plain.specs.InnerEnumeration.{numbered, plainKind}
 use Rattle.backtrack.specs.InnerState.{bounded}
 use Rattle.search.specs.Calls.{Called, lend, call}
 
--- What the call says and leaves: of isomorphisms or embeddings, the next map or the first.
+-- What the call says and leaves. The flags choose isomorphisms or embeddings, and the next map or the first.
 abbrev pub called : Bool → Bool → List ℕ → ℕ → List ℕ → ℕ → List ℕ → Called Sought
 called isomorphisms next source m target n before = call (plainKind isomorphisms) (bounded next (take m before)) (lend source m target n (take m before) (replicate 140 7))
 
--- The full list of the kind.
+-- The full list of maps of the kind.
 abbrev pub comparedMaps : Bool → List ℕ → ℕ → List ℕ → ℕ → List (List ℕ)
 comparedMaps isomorphisms source m target n = maps (plainKind isomorphisms) m (product m source) n (product n target)
 
@@ -25,28 +25,28 @@ comparedMaps isomorphisms source m target n = maps (plainKind isomorphisms) m (p
 unfoldable pub laterMaps : Bool → List ℕ → ℕ → List ℕ → ℕ → List ℕ → ℕ
 laterMaps isomorphisms source m target n before = count (earlier (take m before)) (comparedMaps isomorphisms source m target n)
 
--- A walk asks for the first map, for each later one, and once more.
+-- How many calls a walk makes: one for the first map, one for each later map, and one more, which answers none.
 abbrev pub walkCalls : Bool → List ℕ → ℕ → List ℕ → ℕ → List ℕ → ℕ
 walkCalls isomorphisms source m target n before = suc (suc (laterMaps isomorphisms source m target n before))
 
 -- ---- every table of order 1 to 3
 
--- A table that is not accepted is left out.
+-- The number of calls, or 0 for a table that is not accepted, since it is left out.
 abbrev pub whereAccepted : Option Refusal → ℕ → ℕ
 whereAccepted none calls = calls
 whereAccepted (some r) calls = 0
 
--- Both kinds of maps from a table to another.
+-- How many calls compare both kinds of maps from one table to another.
 abbrev pub callsBetween : List ℕ → ℕ → List ℕ → ℕ → ℕ
 callsBetween source m target n =
     whereAccepted (tableRefusal n target) (walkCalls true source m target n (replicate 5 0) + walkCalls false source m target n (replicate 5 0))
 
--- To the first k tables of order n.
+-- How many calls compare a table with the first k tables of order n.
 unfoldable pub callsTo : List ℕ → ℕ → ℕ → ℕ → ℕ
 callsTo source m n zero = 0
 callsTo source m n (suc k) = callsBetween source m (numbered (n * n) n k) n + callsTo source m n k
 
--- From the first k tables of order m to every table of order n.
+-- How many calls compare the first k tables of order m with every table of order n.
 unfoldable pub callsFrom : ℕ → ℕ → ℕ → ℕ
 callsFrom m n zero = 0
 callsFrom m n (suc k) =

@@ -13,7 +13,7 @@ use plain::judge;
 use plain::list_number;
 use plain::number_of_lists;
 
-// The four questions about every table of order n, with the failing cell or triple.
+// Asks the four questions about every table of order n and compares each answer, with its cell or triple. Returns the tally.
 pub fn all_tables(n: usize) -> Tally
     requires { ⌜ Element 3 n ⌝ }
     ensures answer { λ r. ⌜ r ≡ agreed (n ^ (n * n)) empty ⌝ }
@@ -30,7 +30,7 @@ pub fn all_tables(n: usize) -> Tally
     tally
 }
 
-// Both kinds of maps from a table to another. A target that is not accepted is left out.
+// Compares the searches for both kinds of maps from one table to another and returns the tally. A target that is not accepted is left out.
 fn maps_between(source: &[u8], m: usize, target: &[u8], n: usize, tally: Tally) -> Tally
     requires { ⌜ Accepted m (now source) ⌝ ∗ ⌜ (m ≤ 5) × (n ≤ 27) ⌝ }
     ensures answer { λ r. ⌜ r ≡ agreed (callsBetween (now (source .entry)) m (now (target .entry)) n) tally ⌝ }
@@ -42,7 +42,7 @@ fn maps_between(source: &[u8], m: usize, target: &[u8], n: usize, tally: Tally) 
     walk(true, source, m, target, n, [0; 5], embedded)
 }
 
-// Both kinds of maps from a table to every accepted table of order n.
+// Compares the searches for both kinds of maps from a table to every accepted table of order n. Returns the tally.
 fn maps_to(source: &[u8], m: usize, n: usize, tally: Tally) -> Tally
     requires { ⌜ Accepted m (now source) ⌝ ∗ ⌜ m ≤ 5 ⌝ ∗ ⌜ Element 3 n ⌝ }
     ensures answer { λ r. ⌜ r ≡ agreed (callsTo (now (source .entry)) m n (n ^ (n * n))) tally ⌝ }
@@ -59,7 +59,7 @@ fn maps_to(source: &[u8], m: usize, n: usize, tally: Tally) -> Tally
     tally
 }
 
-// Both kinds of maps from a table, where it is accepted, to every accepted table of order n.
+// Compares the searches for both kinds of maps from a table, if it is accepted, to every accepted table of order n. Returns the tally.
 fn maps_from(source: &[u8], m: usize, n: usize, tally: Tally) -> Tally
     requires { ⌜ m ≤ 5 ⌝ ∗ ⌜ Element 3 n ⌝ }
     ensures answer { λ r. ⌜ r ≡ agreed (whereAccepted (tableRefusal m (now (source .entry))) (callsTo (now (source .entry)) m n (n ^ (n * n)))) tally ⌝ }
@@ -70,7 +70,7 @@ fn maps_from(source: &[u8], m: usize, n: usize, tally: Tally) -> Tally
     maps_to(source, m, n, tally)
 }
 
-// Both kinds of maps from every accepted table of order m to every one of order n.
+// Compares the searches for both kinds of maps from every accepted table of order m to every accepted table of order n. Returns the tally.
 pub fn all_maps(m: usize, n: usize) -> Tally
     requires { ⌜ Element 3 m ⌝ ∗ ⌜ Element 3 n ⌝ }
     ensures answer { λ r. ⌜ r ≡ agreed (callsFrom m n (m ^ (m * m))) empty ⌝ }

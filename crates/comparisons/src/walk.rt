@@ -1,4 +1,4 @@
-// Whole lists of maps by first and next. Each call of the library is compared with the second search: what is said, and the map buffer.
+// Whole lists of maps by first and next. Each call of the library is compared with the second search, by its answer and by the map buffer that it leaves.
 ghost use mathlib.Core.Path.{_≡_};
 ghost use mathlib.Core.Bool.{true};
 ghost use mathlib.Core.List.{_++_};
@@ -18,7 +18,7 @@ use plain::next_map;
 use search::Kind;
 use search::search;
 
-// The kind of maps.
+// Returns the kind of maps: isomorphisms or embeddings.
 fn kind_of(isomorphisms: bool) -> Kind
     ensures answer { λ r. ⌜ searchKindOf r ≡ plainKind isomorphisms ⌝ }
 {
@@ -28,13 +28,14 @@ fn kind_of(isomorphisms: bool) -> Kind
     Kind::Embeddings
 }
 
-// What the second search has a call say, and the map buffer with the bytes behind it.
+// What a call answers according to the second search, and the map buffer, zeros after the map.
 struct Outcome {
     number: usize,
     buffer: [u8; 5],
 }
 
-// The call's answer by the second search. Every list of elements is later than zeros, so the first map is the next one after them.
+// Returns what a call answers according to the second search. Every list of elements is later than a list of zeros, so the first map is the next one after
+// zeros.
 fn expected(
     isomorphisms: bool,
     next: bool,
@@ -70,14 +71,14 @@ fn expected(
     Outcome { number: 0, buffer }
 }
 
-// A call compared: whether both agree, whether the library found a map, and the map buffer afterwards.
+// The result of a compared call: whether both agree, whether the library found a map, and the map buffer after the call.
 struct Compared {
     same: bool,
     found: bool,
     buffer: [u8; 5],
 }
 
-// One call on a map buffer of m bytes, the start of `before`, and a scratch buffer longer than needed.
+// Makes one call on a map buffer of m bytes, the start of `before`, and a scratch buffer that is longer than needed. Returns how it compares.
 fn step(
     isomorphisms: bool,
     next: bool,
@@ -116,7 +117,8 @@ fn step(
     }
 }
 
-// The first map of the kind, on a map buffer that holds `before`; then all maps later than `before` by next, to the last "none". Every call agrees.
+// Asks for the first map of the kind, on a map buffer that holds `before`; then for all maps later than `before` by next, until the answer is none. Returns
+// the tally, in which every call agrees.
 pub fn walk(
     isomorphisms: bool,
     source: &[u8],

@@ -1,6 +1,5 @@
--- The constraints by which a placing is tested through the products of the new element alone: for each source element the target product that the
--- pairs placed so far ask of it, and for each target element the source element that they reserve it for. Values are at most 120.
--- Assumes nothing.
+-- The constraints by which a placing is tested through the products of the new element alone: for each source element the target element that the placed
+-- pairs require as its image, and for each target element the source element for which they reserve it. Values are at most 120. Assumes nothing.
 use mathlib.Core.Path.{_≡_}
 use mathlib.Core.Bool.{Bool, not, _&&_, _||_, cond}
 use mathlib.Core.List.{List}
@@ -11,15 +10,16 @@ use Rattle.semigroups.specs.Lists.{elements, at, all}
 use Rattle.semigroups.specs.Tables.{Product, Element}
 use Rattle.semigroups.specs.Trials.{fits}
 
--- A constraint is 0 where nothing is asked, else the one value asked, or 255 where two values are. It allows y where no other value is asked.
+-- Whether a constraint allows y. A constraint is 0 if nothing is required, else the one value required, or 255 if two values are. It allows y if no other
+-- value is required.
 abbrev pub allows : ℕ → ℕ → Bool
 allows constraint y = eqb constraint 0 || eqb constraint y
 
--- The constraint after y is asked too.
+-- The constraint after y is required, too.
 abbrev pub merge : ℕ → ℕ → ℕ
 merge constraint y = cond (allows constraint y) y 255
 
--- The constraints after y is asked at a place too.
+-- The constraints after y is required at a place, too.
 abbrev pub askedAt : List ℕ → ℕ → ℕ → List ℕ
 askedAt constraints place y = set constraints place (merge (getD constraints place 0) y)
 
@@ -27,15 +27,15 @@ askedAt constraints place y = set constraints place (merge (getD constraints pla
 abbrev pub imageProduct : Product → List ℕ → Product
 imageProduct t f a b = t (at f a) (at f b)
 
--- The pair a, b asks nothing of c but y: if its product by u is c, its product by v is y.
+-- The pair a, b requires nothing of c but y: if its product by u is c, its product by v is y.
 abbrev pub asks : Product → Product → ℕ → ℕ → ℕ → ℕ → Bool
 asks u v c y a b = not (eqb (u a b) c) || eqb (v a b) y
 
--- Every pair of the first k elements asks nothing of c but y.
+-- Every pair of the first k elements requires nothing of c but y.
 unfoldable pub agreeOn : Product → Product → ℕ → ℕ → ℕ → Bool
 agreeOn u v k c y = all (λ a. all (λ b. asks u v c y a b) (elements k)) (elements k)
 
--- Both pairs of k and j.
+-- A test of both pairs that k and j make: k, j and j, k.
 abbrev pub cross : (ℕ → ℕ → Bool) → ℕ → ℕ → Bool
 cross p k j = p j k && p k j
 
@@ -43,6 +43,6 @@ cross p k j = p j k && p k j
 unfoldable pub newFits : Product → Product → List ℕ → Bool
 newFits s t p = all (λ j. cross (fits s t p) (length p) j) (elements (length p))
 
--- The constraints say of each place c and value y what q says.
+-- For each place c and value y, the constraint at c allows y exactly if q says so.
 abbrev pub Reads : List ℕ → (ℕ → ℕ → Bool) → Type 0
 Reads constraints q = (c y : ℕ) → Element 120 c → Element 120 y → allows (getD constraints c 0) y ≡ q c y

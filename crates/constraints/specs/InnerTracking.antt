@@ -9,7 +9,7 @@ use Rattle.semigroups.specs.Tables.{Product, Element}
 use Rattle.semigroups.specs.InnerSearch.{Placed}
 use Rattle.constraints.specs.InnerConstraints.{imageProduct, asks, agreeOn, cross, Reads}
 
--- The images of the first `len` elements, zeros behind them, and which target elements they use.
+-- The images of the first `len` elements, followed by zeros, and which target elements they use.
 pub record Placing (n : ℕ) (image used : List ℕ) (len : ℕ) : Type 0 where
   pub long : length image ≡ 120
   pub wide : length used ≡ 121
@@ -27,7 +27,7 @@ pub record Trial (n : ℕ) (image used : List ℕ) (len x : ℕ) : Type 0 where
   pub element : Element n x
   pub uses : (y : ℕ) → y ≤ 120 → (y ≡ x → ⊥) → getD used y 0 ≡ cond (member y (take len image)) 1 0
 
--- The constraints say what the pairs of the first k elements ask, and the first j of the pairs with element k + 1.
+-- The constraints hold what the pairs of the first k elements require, and what the first j of the pairs with element k + 1 require.
 pub record Tracks (s t : Product) (f : List ℕ) (k j : ℕ) (forced owner : List ℕ) : Type 0 where
   pub long : length forced ≡ 121
   pub wide : length owner ≡ 121

@@ -1,5 +1,6 @@
 // The constraints by which the backtrack search of arXiv 1603.06204, section 3, tests a placing through the products of the new element alone: forced[c] is
-// the target product that the pairs placed ask of source element c, owner[y] the source element that they reserve target element y for.
+// the target element that the placed pairs require as the image of source element c, and owner[y] is the source element for which they reserve target element
+// y.
 ghost use mathlib.Core.Path.{_≡_};
 ghost use mathlib.Core.Bool.{true, false, _&&_};
 ghost use mathlib.Core.List.{[], _∷_, _++_};
@@ -13,7 +14,7 @@ ghost use Rattle.constraints.specs.InnerTracking.{Trial, Tracks};
 use tables::limits::ORDER;
 use tables::limits::PLACES;
 
-// Whether a constraint allows the value y.
+// Returns whether a constraint allows the value y.
 fn allowed(constraint: u8, y: usize) -> bool
     ensures answer { λ r. ⌜ r ≡ allows constraint y ⌝ }
 {
@@ -23,7 +24,7 @@ fn allowed(constraint: u8, y: usize) -> bool
     constraint as usize == y
 }
 
-// The value y is asked at this place too.
+// Notes at this place that the value y is required, too.
 fn note(constraints: &mut [u8; PLACES], place: usize, y: usize)
     requires { ⌜ (place ≤ 120) × (y ≤ 120) ⌝ }
     ensures constraints { λ _. ⌜ now (constraints .exit) ≡ askedAt (now (constraints .entry)) place y ⌝ }
@@ -35,7 +36,7 @@ fn note(constraints: &mut [u8; PLACES], place: usize, y: usize)
     }
 }
 
-// The pair a, b is noted: its product is asked to go to the product of the images, and that is reserved for it.
+// Notes the pair a, b: its product must go to the product of the images, and that target element is reserved for it.
 fn note_pair(
     source: &[u8],
     m: usize,
@@ -61,7 +62,7 @@ fn note_pair(
     note(owner, z, c);
 }
 
-// The pairs of the newest element are noted.
+// Notes the pairs of the newest element.
 pub fn note_newest(
     source: &[u8],
     m: usize,
@@ -85,7 +86,7 @@ pub fn note_newest(
     }
 }
 
-// The image of element a, where x is that of the next element.
+// Returns the image of element a, where x is the image of the next element.
 fn image_of(image: &[u8; ORDER], len: usize, x: usize, a: usize) -> usize
     requires { ⌜ (length (now image) ≡ 120) × (len < 120) × Element (len + 1) a ⌝ }
     requires { ⌜ (Element len a → at (now image) a ≤ 120) ⌝ }
@@ -97,8 +98,8 @@ fn image_of(image: &[u8; ORDER], len: usize, x: usize, a: usize) -> usize
     x
 }
 
-// Whether the pair a, b fits, where x is the image of the next element: its product, where placed, goes to the product of the images, which is
-// unused otherwise. x may be placed already.
+// Returns whether the pair a, b fits, where x is the image of the next element: if the product of the pair is placed, its image is the product of the images;
+// if it is not, that target element is unused. x may be placed already.
 fn pair_fits(
     source: &[u8],
     m: usize,
@@ -129,7 +130,7 @@ fn pair_fits(
     used[v] == 0
 }
 
-// Whether the pairs of the next element fit, where x is its image. One lifetime, as one map lends both arrays.
+// Returns whether the pairs of the next element fit, where x is its image. There is one lifetime because one map lends both arrays.
 fn new_fits<'a>(
     source: &[u8],
     m: usize,
@@ -158,7 +159,7 @@ fn new_fits<'a>(
     true
 }
 
-// Whether the constraints allow x as the image of element `next`.
+// Returns whether the constraints allow x as the image of element `next`.
 fn settled<'a>(forced: &'a [u8; PLACES], owner: &'a [u8; PLACES], next: usize, x: usize) -> bool
     requires { ⌜ (next ≤ 120) × (x ≤ 120) ⌝ }
     ensures answer { λ r. ⌜ r ≡ (allows (getD (now (forced .entry)) next 0) x && allows (getD (now (owner .entry)) x 0) next) ⌝ }
@@ -169,7 +170,7 @@ fn settled<'a>(forced: &'a [u8; PLACES], owner: &'a [u8; PLACES], next: usize, x
     allowed(owner[x], next)
 }
 
-// Whether the list placed passes with x as the image of the next element: by the constraints and by its new pairs.
+// Returns whether the list placed passes with x as the image of the next element: the constraints allow x, and its new pairs fit.
 pub fn passes_with<'a>(
     source: &[u8],
     m: usize,

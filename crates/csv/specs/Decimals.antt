@@ -9,20 +9,20 @@ use lib.Dec.{leb, ltb}
 unfoldable pub isDigit : ℕ → Bool
 isDigit b = leb 48 b && leb b 57
 
--- The number that v and the digits behind it make.
+-- The number that v and the digits that follow make.
 unfoldable pub valueFrom : ℕ → List ℕ → ℕ
 valueFrom v [] = v
 valueFrom v (b ∷ f) = valueFrom (v * 10 + (b - 48)) f
 
--- The number that a field of digits stands for. A field of other bytes, which no accepted text has, gets a number too.
+-- The number that a field of digits stands for. A field of other bytes, which no accepted text has, gets some number too.
 unfoldable pub value : List ℕ → ℕ
 value f = valueFrom 0 f
 
--- The decimal number of k with no leading 0, where k has at most d digits. Of a larger k, which no cell is, its last d digits.
+-- The number k in decimal with no leading 0, if k has at most d digits. Of a larger k, which no cell is, it is the last d digits.
 unfoldable pub numeralWithin : ℕ → ℕ → List ℕ
 numeralWithin zero k = []
 numeralWithin (suc d) k = let r = numeralWithin d (k / 10) in cond (ltb k 10) [] r ++ (48 + k % 10) ∷ []
 
--- The decimal number of a cell, with no leading 0. A cell is a byte, so three digits are enough.
+-- A cell in decimal, with no leading 0. A cell is a byte, so three digits are enough.
 unfoldable pub numeral : ℕ → List ℕ
 numeral k = numeralWithin 3 k

@@ -1,5 +1,5 @@
--- Reading a text field by field: the field that begins at a place, what stands behind it, and where the next one begins. Fields are digits, as
--- in every text that passes question 21; places count from 0.
+-- Reading a text field by field: the field that begins at a place, what stands after it, and where the next one begins. Fields are digits, as in every text
+-- that passes question 21; places count from 0.
 -- Assumes nothing.
 use mathlib.Core.Bool.{cond, Bool, _||_}
 use mathlib.Core.List.{List, [], _∷_}
@@ -13,18 +13,18 @@ unfoldable pub digits : List ℕ → List ℕ
 digits [] = []
 digits (b ∷ t) = let r = digits t in cond (isDigit b) (b ∷ r) []
 
--- The place behind the field.
+-- The place after the field.
 abbrev pub fieldEnd : List ℕ → ℕ → ℕ
 fieldEnd t at = at + length (digits (drop at t))
 
--- Whether a comma stands behind the field: its record goes on.
+-- Whether a comma stands after the field, so that its record goes on.
 unfoldable pub commaBehind : List ℕ → ℕ → Bool
 commaBehind t at = eqb (getD t (fieldEnd t at) 0) 44
 
--- Where the next field begins: behind the comma, else behind the line break. Where the text ends, no field begins there.
+-- Where the next field begins: after the comma, else after the line break. Where the text ends, no field begins there.
 unfoldable pub nextField : List ℕ → ℕ → ℕ
 nextField t at = cond (commaBehind t at) (fieldEnd t at + 1) (fieldEnd t at + 2)
 
--- Whether there is a next field: behind a comma always, be it an empty one at the end of the text; else where bytes are left.
+-- Whether there is a next field. After a comma there always is one, though it may be empty at the end of the text; else there is one if bytes are left.
 unfoldable pub fieldFollows : List ℕ → ℕ → Bool
 fieldFollows t at = commaBehind t at || ltb (nextField t at) (length t)

@@ -1,5 +1,4 @@
--- Parts of the questions about loading a text, as the functions that ask them answer.
--- Assumes nothing.
+-- Parts of the questions about loading a text, one for each function that asks them. Assumes nothing.
 use mathlib.Core.List.{List, [], _∷_}
 use mathlib.Core.Option.{Option}
 use Prim.Native.Nat.{ℕ}

@@ -1,5 +1,4 @@
--- What passes the questions about loading and saving a text, in plain words (RULES 7.3): a call is not refused exactly there.
--- Assumes nothing.
+-- What passes the questions about loading and saving a text, in plain words (RULES 7.3): a call is not refused exactly if this holds. Assumes nothing.
 use mathlib.Core.Path.{_≡_}
 use mathlib.Core.List.{List, List·Memᴰ}
 use Prim.Native.Nat.{ℕ, suc, _*_, _≤_, _<_}
@@ -24,7 +23,7 @@ pub record Number (f : List ℕ) : Type 0 where
   pub leading : getD f 0 0 ≡ 48 → ⊥
   pub small : value f ≤ 120
 
--- About loading a text into a buffer of so many cells.
+-- What passes the questions about loading a text into a buffer of `room` cells.
 pub record LoadPasses (t : List ℕ) (room : ℕ) : Type 0 where
   pub size : Element longest (length t)
   pub bytes : (p : ℕ) → p < length t → AllowedByte t p
@@ -34,7 +33,7 @@ pub record LoadPasses (t : List ℕ) (room : ℕ) : Type 0 where
   pub order : orderOf t ≤ 120
   pub cells-room : orderOf t * orderOf t ≤ room
 
--- About saving a table into a buffer of so many bytes.
+-- What passes the questions about saving a table into a buffer of `room` bytes.
 pub record SavePasses (n : ℕ) (cells : List ℕ) (room : ℕ) : Type 0 where
   pub table : Filled n cells
   pub text-room : length (tableText n cells) ≤ room

@@ -15,7 +15,7 @@ use Rattle.csv.specs.Decimals.{isDigit, value}
 use Rattle.csv.specs.Records.{isBreak, rows}
 use Rattle.csv.specs.Tables.{fieldsOf, orderOf, tableText}
 
--- The most bytes that a text may have: those of a table of order 120 whose cells all take three digits.
+-- The largest number of bytes that a text may have: those of a table of order 120 whose cells all take three digits.
 abbrev pub longest : ℕ
 longest = 57720
 
@@ -38,17 +38,18 @@ isAllowed t p = isDigit (getD t p 0) || (eqb (getD t p 0) 44 || inBreak t p)
 unfoldable pub firstOther : List ℕ → Option ℕ
 firstOther t = find (λ p. not (isAllowed t p)) (range 0 (length t))
 
--- 21, is every byte a digit, a comma, or part of a CR LF pair? It carries the place of the first other byte.
+-- Question 21: is every byte a digit, a comma, or part of a CR LF pair? It carries the place of the first other byte.
 abbrev pub bytesQuestion : List ℕ → Question
 bytesQuestion t = seek 21 (Option·map (λ p. p ∷ []) (firstOther t))
 
 -- ---- the fields of a text
 
--- About a field: 24, is its first byte other than 0? A field with no byte has none, and passes. 23, is it 1 to 3 bytes? 25, is it at most 120?
+-- The questions about a field: 24, is its first byte other than 0? An empty field has no first byte, and passes. 23, is it 1 to 3 bytes? 25, is it at most
+-- 120?
 abbrev pub fieldQuestions : List ℕ → List Question
 fieldQuestions f = ask 24 (not (eqb (getD f 0 0) 48)) ∷ ask 23 (isElement 3 (length f)) ∷ ask 25 (leb (value f) 120) ∷ []
 
--- Each field in reading order, its three questions before the next field's.
+-- The questions about the fields in reading order: the three about one field come before those about the next.
 unfoldable pub fieldsQuestions : List (List ℕ) → List Question
 fieldsQuestions fs = flatMap fieldQuestions fs
 
@@ -56,31 +57,33 @@ fieldsQuestions fs = flatMap fieldQuestions fs
 unfoldable pub isSquare : ℕ → List (List (List ℕ)) → Bool
 isSquare n rs = eqb (length rs) n && all (λ r. eqb (length r) n) rs
 
--- 26 for an order n that is given: are there n records, each with n fields?
+-- Question 26 for a given order n: are there n records, each with n fields?
 abbrev pub squareQuestion : ℕ → List ℕ → Question
 squareQuestion n t = ask 26 (isSquare n (rows t))
 
--- 24, 23 and 25 of each field; then 26 for an order n that is given.
+-- Questions 24, 23 and 25 about each field; then 26 for a given order n.
 abbrev pub gridQuestions : ℕ → List ℕ → List Question
 gridQuestions n t = fieldsQuestions (fieldsOf t) ++ squareQuestion n t ∷ []
 
 -- ---- the calls
 
--- About a square text and a buffer of so many cells: 1, is the order at most 120? 27, has the buffer at least n × n bytes?
+-- The questions about a square text and a buffer of this many cells: 1, is the order at most 120? 27, has the buffer at least n × n bytes?
 abbrev pub sizeQuestions : List ℕ → ℕ → List Question
 sizeQuestions t room = ask 1 (leb (orderOf t) 120) ∷ ask 27 (leb (orderOf t * orderOf t) room) ∷ []
 
--- About loading a text into a buffer of so many cells: 20, is it 1 to 57,720 bytes long? Then 21; 24, 23 and 25 of each field; 26, are there as
--- many records as the first has fields, each with that many? Then 1 and 27. Neither 3 nor 4 is asked.
+-- The questions about loading a text into a buffer of this many cells: 20, is it 1 to 57,720 bytes long? Then 21; 24, 23 and 25 about each field; 26, are
+-- there as many records as the first has fields, each with that many? Then 1 and 27. Neither 3 nor 4 is asked.
 abbrev pub loadQuestions : List ℕ → ℕ → List Question
 loadQuestions t room = ask 20 (isElement longest (length t)) ∷ bytesQuestion t ∷ (gridQuestions (orderOf t) t ++ sizeQuestions t room)
 
+-- The refusal of a call that loads, if a question fails.
 unfoldable pub loadRefusal : List ℕ → ℕ → Option Refusal
 loadRefusal t room = firstNo (loadQuestions t room)
 
--- About saving a table into a buffer of so many bytes: 1, 2 and 3; then 28, has the buffer the whole length?
+-- The questions about saving a table into a buffer of this many bytes: 1, 2 and 3; then 28, has the buffer room for the whole text?
 abbrev pub saveQuestions : ℕ → List ℕ → ℕ → List Question
 saveQuestions n cells room = cellsQuestions n cells ++ ask 28 (leb (length (tableText n cells)) room) ∷ []
 
+-- The refusal of a call that saves, if a question fails.
 unfoldable pub saveRefusal : ℕ → List ℕ → ℕ → Option Refusal
 saveRefusal n cells room = firstNo (saveQuestions n cells room)

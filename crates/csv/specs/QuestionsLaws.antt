@@ -1,5 +1,4 @@
--- What is said of the questions about a text, in plain words.
--- Assumes nothing.
+-- What the questions about a text say, in plain words. Assumes nothing.
 use mathlib.Core.List.{List}
 use mathlib.Core.Option.{Option}
 use Prim.Native.Nat.{ℕ}

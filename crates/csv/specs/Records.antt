@@ -12,7 +12,7 @@ use lib.Dec.{eqb}
 unfoldable pub isBreak : ℕ → ℕ → Bool
 isBreak b c = eqb b 13 && eqb c 10
 
--- The first of the lists with one more entry in front; where there is no list, a list of that entry.
+-- The lists with x put in front of the first one; if there is no list, the one list that holds x alone.
 unfoldable pub onto : ℕ → List (List ℕ) → List (List ℕ)
 onto b [] = (b ∷ []) ∷ []
 onto b (l ∷ ls) = (b ∷ l) ∷ ls
@@ -28,7 +28,7 @@ records (b ∷ c ∷ t) =
     let open-record = records (c ∷ t) in
     cond (isBreak b c) ([] ∷ closed) (onto b open-record)
 
--- The fields of a record. A record with no byte is one field with no byte.
+-- The fields of a record. An empty record has one empty field.
 unfoldable pub fields : List ℕ → List (List ℕ)
 fields [] = [] ∷ []
 fields (b ∷ r) = let rest = fields r in cond (eqb b 44) ([] ∷ rest) (onto b rest)
@@ -39,7 +39,7 @@ rows t = map fields (records t)
 
 -- ---- to a text
 
--- The text of a record, without its line break: its fields with a comma between two. A record has a field; of none the text is empty.
+-- The text of a record, without its line break: its fields, separated by commas. A record has at least one field; with none the text would be empty.
 unfoldable pub recordText : List (List ℕ) → List ℕ
 recordText [] = []
 recordText (f ∷ fs) = f ++ flatMap (λ g. 44 ∷ g) fs

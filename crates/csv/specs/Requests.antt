@@ -14,7 +14,8 @@ use Rattle.csv.specs.QuestionsLaws.{fieldRefusal}
 use Rattle.csv.specs.PassingLaws.{LoadPasses}
 use Rattle.csv.specs.Calls.{loadAnswer, cellsAfter}
 
--- A text that only its last line break makes too long: as it came it passes 20 and fails a later question; closed it fails 20. No byte changes either way.
+-- A text that only its last line break makes too long: as it is, it passes 20 and fails a later question; with that line break it fails 20. No byte changes
+-- either way.
 pub record TooLongClosed (t cells : List ℕ) : Type 0 where
   pub by : Refusal
   pub refused-later : loadAnswer t cells ≡ refused by
@@ -23,18 +24,19 @@ pub record TooLongClosed (t cells : List ℕ) : Type 0 where
   pub kept : cellsAfter t cells ≡ cells
   pub closed-kept : cellsAfter (closed t) cells ≡ cells
 
+-- What RULES 19.2 and 19.6 ask to be shown.
 pub record TextRequests : Type 0 where
   -- RULES 19.2: "Such a text now loads exactly as if CR LF followed": a text of at most 57,720 bytes with its last line break, and any text that loads.
   pub as-closed : (t cells : List ℕ) → length (closed t) ≤ longest → LoadsClosed t cells
   pub loaded-as-closed : (t cells : List ℕ) → LoadPasses t (length cells) → LoadsClosed t cells
-  -- "20 and 21 speak of the text as it came": so a text of 57,719 or 57,720 bytes without its last line break is refused by another question than
-  -- closed; and the first other byte is the same.
+  -- "20 and 21 speak of the text as it came": so a text of 57,719 or 57,720 bytes that lacks its last line break is not refused by the question that refuses
+  -- it with the line break; and the first other byte is the same.
   pub too-long-closed : (t cells : List ℕ) → length t ≤ longest → longest < length (closed t) → TooLongClosed t cells
   pub same-other-byte : (t : List ℕ) → firstOther (closed t) ≡ firstOther t
   -- "A text that ends in a comma has an empty last field."
   pub comma-last : (t : List ℕ) → (before : List (List ℕ)) × (fieldsOf (t ++ 44 ∷ []) ≡ before ++ [] ∷ [])
-  -- "Loading and then saving an accepted text whose entries lie within its order gives that text, with the break added where it was missing"; and doing
-  -- so again, however often, changes no further byte.
+  -- "Loading and then saving an accepted text whose entries lie within its order gives that text, with the break added where it was missing"; and to do so
+  -- again, however often, changes no further byte.
   pub loaded-saves : (t buffer text : List ℕ) → LoadPasses t (length buffer) → ((k : ℕ) → k < length (cellsOf t) → getD (cellsOf t) k 0 ≤ orderOf t) → length (closed t) ≤ length text
       → LoadedSaves t buffer text
   pub loaded-stays : (b : Buffers) → LoadPasses (textHeld b) (length (b .cells)) → ((k : ℕ) → k < length (cellsOf (textHeld b)) → getD (cellsOf (textHeld b)) k 0 ≤ orderOf (textHeld b))

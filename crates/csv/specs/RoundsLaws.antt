@@ -15,7 +15,7 @@ use Rattle.csv.specs.Calls.{loadAnswer, cellsAfter, saveAnswer, textAfte
 unfoldable pub endsInBreak : List ℕ → Bool
 endsInBreak t = isBreak (getD t (length t - 2) 0) (getD t (length t - 1) 0)
 
--- The text with the line break added that its last record lacks (RULES 19.2). A text with no byte has no record.
+-- The text with its last line break added if its last record lacks it (RULES 19.2). An empty text has no record.
 unfoldable pub closed : List ℕ → List ℕ
 closed [] = []
 closed (b ∷ t) = cond (endsInBreak (b ∷ t)) (b ∷ t) ((b ∷ t) ++ 13 ∷ 10 ∷ [])
@@ -50,16 +50,16 @@ pub record Buffers : Type 0 where
   pub size : ℕ
   pub cells : List ℕ
 
--- The number that is given; 0 stands for none.
+-- The number that an answer gives, or 0 if it gives none.
 abbrev pub given : Answer ℕ → ℕ
 given (refused r) = 0
 given (gives x) = x
 
--- The text that stands there.
+-- The text that the first buffer holds.
 abbrev pub textHeld : Buffers → List ℕ
 textHeld b = take (b .size) (b .text)
 
--- A table is saved.
+-- The buffers after a table is saved.
 unfoldable pub saved : ℕ → List ℕ → Buffers → Buffers
 saved n cells b = record { text = textAfter n cells (b .text); size = given (saveAnswer n cells (b .text)); cells = b .cells }
 
@@ -85,7 +85,7 @@ pub record Unchanged (n : ℕ) (cells : List ℕ) (first b : Buffers) : Type 0 w
   pub order : loadAnswer (textHeld b) (b .cells) ≡ gives n
   pub cells-same : loadedCells b ≡ cells
 
--- After one round and after any further ones: the text t stands at the start of the first buffer, with its last line break.
+-- After one round and after any further ones, the text t stands at the start of the first buffer, with its last line break.
 pub record RoundsClose (t : List ℕ) (before after : Buffers) : Type 0 where
   pub text : after .text ≡ overwritten (closed t) (before .text)
   pub size : after .size ≡ length (closed t)

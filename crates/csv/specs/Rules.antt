@@ -11,6 +11,7 @@ use Rattle.csv.specs.Tables.{tableText}
 use Rattle.csv.specs.Questions.{longest}
 use Rattle.csv.specs.PassingLaws.{SavePasses}
 
+-- What RULES 19 says of tables as text.
 pub record TextRules : Type 0 where
   -- The records and fields of a text make that text again, each record closed, the last one too.
   pub rows-back : (t : List ℕ) → rowsText (rows t) ≡ closed t

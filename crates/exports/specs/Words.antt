@@ -3,6 +3,6 @@ use mathlib.Core.List.{List, _∷_, _++_}
 use Prim.Native.Nat.{ℕ, _-_}
 use lib.ListN.{length, replicate}
 
--- A number, a side and all the values, then zeros: sixteen numbers in all where there are at most fourteen values.
+-- A number, a side and all the values, followed by zeros: sixteen numbers in all if there are at most fourteen values.
 abbrev pub words : ℕ → ℕ → List ℕ → List ℕ
 words number side values = number ∷ side ∷ (values ++ replicate (14 - length values) 0)

@@ -61,7 +61,7 @@ fn words(number: usize, side: usize, values: &[usize]) -> [u64; 16]
     answer
 }
 
-// Returns what is said with a refusal.
+// Returns the sixteen numbers of a refusal.
 fn refusal_words(refusal: Refusal) -> [u64; 16]
     ensures answer { λ r. ⌜ r ≡ numbersWords refusal ⌝ }
 {

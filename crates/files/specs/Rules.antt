@@ -1,4 +1,4 @@
--- What RULES 21, says of a file, and what follows: as sentences about the definitions. Assumes nothing.
+-- What RULES 21 says of a file, and what follows from it, as sentences about the definitions. Assumes nothing.
 use mathlib.Core.Path.{_≡_}
 use mathlib.Core.Bool.{true}
 use mathlib.Core.Logic.{_↔_}
@@ -12,19 +12,20 @@ use Rattle.semigroups.specs.QuestionsLaws.{no}
 use Rattle.files.specs.Files.{fileRefusal, room}
 use Rattle.files.specs.FilesLaws.{FilePasses}
 
--- The numbers that a refused file can get where there is room for every table: not 2, since a text that loads has a cell for each pair; not 22, which is
--- never asked; not 27, since there is room.
+-- The numbers that a refused file can get if there is room for every table. 2 is not one of them, since a text that loads has a cell for each pair; nor is
+-- 22, which is never asked; nor is 27, since there is room.
 abbrev pub fileNumbers : List ℕ
 fileNumbers = 1 ∷ 3 ∷ 4 ∷ 20 ∷ 21 ∷ 23 ∷ 24 ∷ 25 ∷ 26 ∷ []
 
+-- What RULES 21 says of any file.
 pub record FileRules : Type 0 where
-  -- No question fails exactly where the file loads and its table is accepted.
+  -- No question fails exactly if the file loads and its table is accepted.
   pub passes : (t : List ℕ) (room : ℕ) → (fileRefusal t room ≡ none) ↔ FilePasses t room
   -- "A file that can't be opened counts as empty": 20.
   pub empty : fileRefusal [] room ≡ some (no 20 [])
   -- "One longer than 57,720 bytes gets 20", whatever its bytes;
   pub longer : (t : List ℕ) → 57720 < length t → fileRefusal t room ≡ some (no 20 [])
-  -- so its first 57,721 bytes decide, and a shorter file they hold whole.
+  -- so its first 57,721 bytes decide, and they are the whole of any shorter file.
   pub first-bytes : (t : List ℕ) → fileRefusal (take 57721 t) room ≡ fileRefusal t room
   pub whole : (t : List ℕ) → length t < 57722 → take 57721 t ≡ t
   pub numbers : (t : List ℕ) (r : Refusal) → fileRefusal t room ≡ some r → member (r .number) fileNumbers ≡ true

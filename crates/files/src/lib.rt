@@ -1,4 +1,4 @@
-// What is asked of a file that holds a table: its bytes are loaded as text, and the table is checked.
+// The questions about a file that holds a table: its bytes are loaded as text, and the table is checked.
 ghost use mathlib.Core.Path.{_≡_};
 ghost use Rattle.tables.specs.Answers.{numberedSays};
 ghost use Rattle.csv.specs.Calls.{cellsAfter};
@@ -6,8 +6,8 @@ ghost use Rattle.files.specs.Answers.{fileAnswer, failedNumber};
 use tables::Numbered;
 use tables::Verdict;
 
-// Loads the table that `text` holds into `cells`, as `text::load` does; then asks questions 3 and 4 of it, as `tables::check` does. Answers the order, or the
-// earliest "no". A table that is refused by 3 or 4 has been loaded.
+// Loads the table that `text` holds into `cells`, as `text::load` does; then asks questions 3 and 4 of it, as `tables::check` does. Returns the order, or the
+// earliest "no". A table that question 3 or 4 refuses has been loaded.
 pub fn load_then_check(text: &[u8], cells: &mut [u8]) -> Numbered
     ensures answer { λ r. ⌜ numberedSays r ≡ fileAnswer (now (text .entry)) (now (cells .entry)) ⌝ }
     ensures cells { λ _. ⌜ now (cells .exit) ≡ cellsAfter (now (text .entry)) (now (cells .entry)) ⌝ }
@@ -24,7 +24,7 @@ pub fn load_then_check(text: &[u8], cells: &mut [u8]) -> Numbered
     }
 }
 
-// The number of the question that a file fails; 0 for an accepted file.
+// Returns the number of the question that a file fails, or 0 for an accepted file.
 pub fn failed_question(verdict: Numbered) -> usize
     ensures answer { λ r. ⌜ r ≡ failedNumber (numberedSays verdict) ⌝ }
 {

@@ -10,13 +10,13 @@ use Rattle.generated.specs.declared.GeneratorsFault.the-variants.{Table,
 use Rattle.generated.specs.declared.GeneratorsVerdict.{GeneratorsVerdict}
 use Rattle.generated.specs.declared.GeneratorsVerdict.the-variants.{Accepted, Refused}
 
--- The table's fault as it is; 50 and 51 carry nothing.
+-- The refusal of each fault: that of the table's fault; 50 and 51 carry nothing.
 abbrev pub generatorsFaultRefusal : GeneratorsFault → Refusal
 generatorsFaultRefusal (Table fault) = faultRefusal fault
 generatorsFaultRefusal Entry = no 50 []
 generatorsFaultRefusal Elements = no 51 []
 
--- An accepted table has no failed question.
+-- The refusal of a verdict; an accepted table has none.
 abbrev pub generatorsVerdictRefusal : GeneratorsVerdict → Option Refusal
 generatorsVerdictRefusal Accepted = none
 generatorsVerdictRefusal (Refused fault) = some (generatorsFaultRefusal fault)

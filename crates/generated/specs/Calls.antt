@@ -1,5 +1,4 @@
--- What a call that cuts out a part says, and what it leaves in both buffers (RULES 16).
--- Assumes nothing.
+-- What a call that makes a table of a part says, and what it leaves in both buffers (RULES 16). Assumes nothing.
 use mathlib.Core.List.{List}
 use Prim.Native.Nat.{ℕ}
 use lib.ListN.{length}
@@ -8,7 +7,7 @@ use Rattle.semigroups.specs.Calls.{Answer, givenUnless, writtenUnless}
 use Rattle.semigroups.specs.Generated.{generated}
 use Rattle.semigroups.specs.Subsemigroups.{partCells, subsemigroupRefusal}
 
--- What a call says for a table, a list of chosen elements, and buffers of these lengths for cells and elements: the part's order is given.
+-- What a call answers for a table, a list of chosen elements, and buffers of these lengths for cells and elements: the order of the part.
 unfoldable pub subsemigroupSays : ℕ → List ℕ → List ℕ → ℕ → ℕ → Answer ℕ
 subsemigroupSays n cells l cellsLength elementsLength = givenUnless (subsemigroupRefusal n cells l cellsLength elementsLength) (length (generated n (product n cells) l))
 

@@ -14,11 +14,11 @@ use Rattle.semigroups.specs.Subsemigroups.{numberIn}
 unfoldable pub markedElements : ℕ → List ℕ → List ℕ
 markedElements n marks = keep (λ x. eqb (getD marks x 0) 1) (elements n)
 
--- An array with a place for 0 and for each element of a table of any order: the number of x in the list at x where x stands in it, else 0.
+-- An array with a place for 0 and for each element of a table of any order: at x stands the number of x in the list, or 0 if x is not in it.
 unfoldable pub numbering : List ℕ → List ℕ
 numbering e = map (λ x. cond (member x e) (numberIn e x) 0) (range 0 121)
 
--- The list holds elements of a table of order n, none twice, and every product of its own members.
+-- The list holds elements of a table of order n, none of them twice, and every product of its own members.
 pub record ClosedPart (n : ℕ) (s : Product) (e : List ℕ) : Type 0 where
   pub inside : Inside n e
   pub no-repeats : NoRepeats e

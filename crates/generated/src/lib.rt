@@ -1,6 +1,6 @@
-// What a list of elements generates: the smallest set that holds the list and every product of the set's own members. `check` is the shorter check of a
-// table whose generators are known, and `subsemigroup` makes a table of what a list generates. Both take cells, an order and a list of any content; the
-// first "no" is the answer, and the buffers then keep their bytes.
+// What a list of elements generates: the smallest set that contains the list and every product of its own members. `check` is the shorter check of a table
+// whose generators are known, and `subsemigroup` makes a table of what a list generates. Both take cells, an order and a list of any content; the first "no"
+// is the answer, and the buffers then keep their bytes.
 ghost use mathlib.Core.Path.{_≡_};
 ghost use mathlib.Core.Option.{Option·map};
 ghost use Prim.Native.Nat.{_*_, _≤_, _<_};
@@ -29,7 +29,7 @@ use tables::generators::add;
 
 // ---- what a list generates
 
-// Adds the products of the element found at `place` with itself and each one before it, from both sides.
+// Adds the products of the element found at `place` with itself and with each one before it, from both sides. Returns how many are found.
 fn multiply(
     cells: &[u8],
     n: usize,
@@ -55,13 +55,13 @@ fn multiply(
     known
 }
 
-// The elements that a list generates: place x is 1 where x is one of them, else 0; and how many they are.
+// The elements that a list generates: place x is 1 where x is one of them, else 0; and how many there are.
 struct Generated {
     marks: [u8; 121],
     count: usize,
 }
 
-// What the list generates. Each element found is multiplied with itself and with all that were found before it: n × (n + 1) products at most.
+// Returns what the list generates. Each element found is multiplied with itself and with all that were found before it: n × (n + 1) products at most.
 fn generate(cells: &[u8], n: usize, list: &[u8]) -> Generated
     requires { ⌜ Filled n (now cells) ⌝ ∗ ⌜ Inside n (now list) ⌝ }
     ensures marks { λ r. ⌜ r .marks ≡ indicator (generated n (product n (now (cells .entry))) (now (list .entry))) ⌝ }
@@ -110,7 +110,7 @@ pub enum GeneratorsVerdict {
     Refused(GeneratorsFault),
 }
 
-// Which elements the list holds: place x is 1 where x stands in it, else 0.
+// Returns which elements the list holds: place x is 1 where x stands in it, else 0.
 fn marked(list: &[u8]) -> [u8; 121]
     requires { ⌜ Inside 120 (now list) ⌝ }
     ensures answer { λ r. ⌜ r ≡ indicator (now (list .entry)) ⌝ }
@@ -125,7 +125,7 @@ fn marked(list: &[u8]) -> [u8; 121]
     marks
 }
 
-// Question 4 of the triples with their middle on the list alone: for k different entries k × n × n triples are looked at.
+// Asks question 4 only of the triples with their middle on the list; for k different entries these are k × n × n triples. Returns the first that fails.
 fn associative_through(cells: &[u8], n: usize, list: &[u8]) -> Verdict
     requires { ⌜ Filled n (now cells) ⌝ ∗ ⌜ Inside n (now list) ⌝ }
     ensures answer { λ r. ⌜ verdictRefusal r ≡ Option·map (λ l. no 4 l) (badTripleThrough n (product n (now (cells .entry))) (now (list .entry))) ⌝ }
@@ -150,8 +150,8 @@ fn associative_through(cells: &[u8], n: usize, list: &[u8]) -> Verdict
     verdict
 }
 
-// Questions 1 to 3; then 50, is every entry of the list 1 to n? 51, does the list generate all n elements? 4, of the triples with their middle on the
-// list.
+// Asks questions 1 to 3; then 50, is every entry of the list 1 to n? then 51, does the list generate all n elements? then 4, of the triples with their middle
+// on the list. Returns the first that fails.
 pub fn check(cells: &[u8], n: usize, generators: &[u8]) -> GeneratorsVerdict
     ensures answer { λ r. ⌜ generatorsVerdictRefusal r ≡ generatorsRefusal n (now (cells .entry)) (now (generators .entry)) ⌝ }
 {
@@ -192,7 +192,7 @@ fn write_elements(marks: &[u8; 121], n: usize, elements: &mut [u8])
     }
 }
 
-// The numbers of the first k elements: place x holds that of x where x is one of them, else 0.
+// Returns the new numbers of the first k elements: place x holds that of x where x is one of them, else 0.
 fn numbers_of(elements: &[u8], k: usize) -> [u8; 121]
     requires { ⌜ k ≤ length (now elements) ⌝ ∗ ⌜ Inside 120 (take k (now elements)) ⌝ ∗ ⌜ NoRepeats (take k (now elements)) ⌝ }
     ensures answer { λ r. ⌜ r ≡ numbering (take k (now (elements .entry))) ⌝ }
@@ -229,7 +229,8 @@ fn write_part(cells: &[u8], n: usize, elements: &[u8], k: usize, part: &mut [u8]
     }
 }
 
-// Writes the elements that the chosen ones generate, in rising order, into `elements` and their table, renumbered, into `part`, and answers its order.
+// Writes the elements that the chosen ones generate, in rising order, into `elements` and their table, renumbered, into `part`. Answers the order of that
+// table, or the earliest question that fails.
 pub fn subsemigroup(
     cells: &[u8],
     n: usize,

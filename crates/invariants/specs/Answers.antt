@@ -16,22 +16,23 @@ use Rattle.invariants.specs.declared.ProfileAnswer.the-variants as profi
 
 -- ---- questions
 
--- An accepted element has no failed question.
+-- The refusal of a verdict; an accepted element has none.
 abbrev pub elementVerdictRefusal : ElementVerdict → Option Refusal
 elementVerdictRefusal verdict.Accepted = none
 elementVerdictRefusal (verdict.Refused r) = some (noRefusal r)
 
 -- ---- answers
 
--- The numbers of an index-period.
+-- The index-period that the code's numbers stand for.
 abbrev pub indexPeriodValue : IndexPeriod → marks.IndexPeriod
 indexPeriodValue r = record { index = r .index; period = r .period; idempotent = r .idempotent }
 
+-- What an answer of the code says.
 abbrev pub indexPeriodSays : IndexPeriodAnswer → Answer marks.IndexPeriod
 indexPeriodSays (index-period.Value r) = gives (indexPeriodValue r)
 indexPeriodSays (index-period.Refused r) = refused (noRefusal r)
 
--- The numbers of a profile.
+-- The profile that the code's numbers stand for.
 abbrev pub profileValue : ElementProfile → marks.Profile
 profileValue r =
     record {
@@ -43,6 +44,7 @@ profileValue r =
       commuting = r .commuting;
     }
 
+-- What an answer of the code says.
 abbrev pub profileSays : ProfileAnswer → Answer marks.Profile
 profileSays (profile.Value r) = gives (profileValue r)
 profileSays (profile.Refused r) = refused (noRefusal r)

@@ -1,5 +1,4 @@
--- Arrays with a place for each element of a table of any order, and which marks they hold.
--- Assumes nothing.
+-- Arrays with a place for each element of a table of any order, and which invariants they hold. Assumes nothing.
 use mathlib.Core.Path.{_≡_}
 use Prim.Native.Nat.{ℕ}
 use Rattle.semigroups.specs.Tables.{Product}
@@ -12,12 +11,12 @@ use Rattle.invariants.specs.declared.IndexPeriodKeys.{IndexPeriodKeys}
 use Rattle.invariants.specs.declared.LineCounts.{LineCounts}
 use Rattle.invariants.specs.declared.ElementCounts.{ElementCounts}
 
--- The keys of every element that are compared, its index and its period; the idempotent power is none.
+-- The keys of every element that are compared: its index and its period. The idempotent power is not compared.
 pub record AllIndexPeriodKeys (n : ℕ) (s : Product) (r : IndexPeriodKeys) : Type 0 where
   pub index : r .index ≡ perElement n (marks.index n s)
   pub period : r .period ≡ perElement n (marks.period n s)
 
--- Of every element, the counts that take its row and its column.
+-- The counts of every element over its row and its column.
 pub record AllLineCounts (n : ℕ) (s : Product) (r : LineCounts) : Type 0 where
   pub row : r .row ≡ perElement n (marks.rowFrequency n s)
   pub column : r .column ≡ perElement n (marks.columnFrequency n s)

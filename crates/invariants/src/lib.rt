@@ -1,7 +1,6 @@
-// Invariants of the elements of a table (arXiv 1603.06204, sections 3 and 4; RULES 4): index, period and idempotent power, and the
-// profile.
-// `index_period` and `profile` answer for one element of any cells, order and element, once the questions about them have passed.
-// `all_index_period_keys` and `all_counts` answer for every element of cells that fill a table.
+// Invariants of the elements of a table (arXiv 1603.06204, sections 3 and 4; RULES 4): index, period and idempotent power, and the profile. `index_period`
+// and `profile` answer for one element; cells, order and element may have any content, and the questions about them are asked first. `all_index_period_keys`
+// and `all_counts` return the values of every element, for cells that fill a table.
 ghost use mathlib.Core.Path.{_≡_};
 ghost use Rattle.semigroups.specs.Tables.{product, Element, Filled, Associative};
 ghost use Rattle.semigroups.specs.Questions.{elementRefusal};
@@ -25,7 +24,7 @@ pub enum ElementVerdict {
     Refused(No),
 }
 
-// The table's four questions, then 7: is the element 1 to n?
+// Asks the table's four questions, then 7: is the element 1 to n? Returns the first that fails.
 pub fn check_element(cells: &[u8], n: usize, a: usize) -> ElementVerdict
     ensures answer { λ r. ⌜ elementVerdictRefusal r ≡ elementRefusal n (now (cells .entry)) a ⌝ }
 {
@@ -55,8 +54,9 @@ pub enum IndexPeriodAnswer {
     Refused(No),
 }
 
-// The powers of a are walked until one was met before; `met` holds the exponent at which each element was met first, or 0, and `walk` at place k - 1
-// the power k. The walk ends one period behind the index, so the last multiple of the period in it is the first from the index on.
+// Returns the index, the period and the idempotent power of a. The powers of a are walked until one is met again; `met` holds the exponent at which each
+// element was met first, or 0, and `walk` holds power k at place k - 1. The walk ends one period after the index, so the last multiple of the period in it is
+// the first that is no less than the index.
 fn index_period_of(cells: &[u8], n: usize, a: usize) -> IndexPeriod
     requires { ⌜ Filled n (now cells) ⌝ ∗ ⌜ Element n a ⌝ }
     ensures answer { λ r. ⌜ indexPeriodValue r ≡ settled n (product n (now (cells .entry))) a ⌝ }
@@ -82,7 +82,7 @@ fn index_period_of(cells: &[u8], n: usize, a: usize) -> IndexPeriod
     }
 }
 
-// The index, the period and the idempotent power of element a; or the first question that fails.
+// Answers the index, the period and the idempotent power of element a; or the first question that fails.
 pub fn index_period(cells: &[u8], n: usize, a: usize) -> IndexPeriodAnswer
     ensures answer { λ r. ⌜ indexPeriodSays r ≡ givenUnless (elementRefusal n (now (cells .entry)) a) (indexPeriod n (product n (now (cells .entry))) a) ⌝ }
 {
@@ -92,14 +92,14 @@ pub fn index_period(cells: &[u8], n: usize, a: usize) -> IndexPeriodAnswer
     }
 }
 
-// The keys by which candidates for embeddings are compared: element a's index and period stand at place a - 1; places past the last element hold 0. The
-// idempotent power is not compared.
+// The keys by which candidates for embeddings are compared: the index and the period of element a stand at place a - 1; places after the last element hold 0.
+// The idempotent power is not compared.
 pub struct IndexPeriodKeys {
     pub index: [u16; ORDER],
     pub period: [u16; ORDER],
 }
 
-// These keys of every element.
+// Returns the index and the period of every element.
 pub fn all_index_period_keys(cells: &[u8], n: usize) -> IndexPeriodKeys
     requires { ⌜ Filled n (now cells) ⌝ }
     ensures answer { λ r. ⌜ AllIndexPeriodKeys n (product n (now (cells .entry))) r ⌝ }
@@ -118,7 +118,7 @@ pub fn all_index_period_keys(cells: &[u8], n: usize) -> IndexPeriodKeys
 
 // ---- counts
 
-// How often a stands among k cells, the first and then each that is `step` further on.
+// Returns how often a stands among k cells: the first, and then each that is `step` cells after the one before.
 fn count(cells: &[u8], k: usize, step: usize, a: usize) -> usize
     requires { ⌜ InRange k step (now cells) ⌝ }
     ensures answer { λ r. ⌜ r ≡ occurrences a step k (now (cells .entry)) ⌝ }
@@ -134,7 +134,7 @@ fn count(cells: &[u8], k: usize, step: usize, a: usize) -> usize
     found
 }
 
-// How often a stands in row a: the n cells that start at (a - 1) × n.
+// Returns how often a stands in row a, the n cells that start at (a - 1) × n.
 fn row_frequency(cells: &[u8], n: usize, a: usize) -> usize
     requires { ⌜ Filled n (now cells) ⌝ ∗ ⌜ Element n a ⌝ }
     ensures answer { λ r. ⌜ r ≡ rowFrequency n (product n (now (cells .entry))) a ⌝ }
@@ -143,7 +143,7 @@ fn row_frequency(cells: &[u8], n: usize, a: usize) -> usize
     count(&cells[at..], n, 1, a)
 }
 
-// How often a stands in column a: n cells, n apart.
+// Returns how often a stands in column a, whose n cells stand n apart.
 fn column_frequency(cells: &[u8], n: usize, a: usize) -> usize
     requires { ⌜ Filled n (now cells) ⌝ ∗ ⌜ Element n a ⌝ }
     ensures answer { λ r. ⌜ r ≡ columnFrequency n (product n (now (cells .entry))) a ⌝ }
@@ -152,7 +152,7 @@ fn column_frequency(cells: &[u8], n: usize, a: usize) -> usize
     count(&cells[at..], n, n, a)
 }
 
-// How many b have a·b = b·a: row a against column a.
+// Returns how many b have a·b = b·a, by comparing row a with column a.
 fn commuting(cells: &[u8], n: usize, a: usize) -> usize
     requires { ⌜ Filled n (now cells) ⌝ ∗ ⌜ Element n a ⌝ }
     ensures answer { λ r. ⌜ r ≡ commuting n (product n (now (cells .entry))) a ⌝ }
@@ -170,7 +170,7 @@ fn commuting(cells: &[u8], n: usize, a: usize) -> usize
     found
 }
 
-// Element a's counts over its row and its column stand at place a - 1; places past the last element hold 0.
+// The counts of element a over its row and its column stand at place a - 1; places after the last element hold 0.
 struct LineCounts {
     row: [u16; ORDER],
     column: [u16; ORDER],
@@ -229,7 +229,7 @@ fn profile_of(cells: &[u8], n: usize, a: usize) -> ElementProfile
     }
 }
 
-// The profile of element a; or the first question that fails.
+// Answers the profile of element a; or the first question that fails.
 pub fn profile(cells: &[u8], n: usize, a: usize) -> ProfileAnswer
     ensures answer { λ r. ⌜ profileSays r ≡ givenUnless (elementRefusal n (now (cells .entry)) a) (profile n (product n (now (cells .entry))) a) ⌝ }
 {
@@ -239,7 +239,7 @@ pub fn profile(cells: &[u8], n: usize, a: usize) -> ProfileAnswer
     }
 }
 
-// Each count of element a stands at place a - 1; places past the last element hold 0.
+// Each count of element a stands at place a - 1; places after the last element hold 0.
 pub struct ElementCounts {
     pub frequency: [u16; ORDER],
     pub diagonal: [u16; ORDER],
@@ -248,7 +248,7 @@ pub struct ElementCounts {
     pub commuting: [u16; ORDER],
 }
 
-// The counts of every element's profile.
+// Returns the counts of every element's profile.
 pub fn all_counts(cells: &[u8], n: usize) -> ElementCounts
     requires { ⌜ Filled n (now cells) ⌝ }
     ensures answer { λ r. ⌜ AllCounts n (product n (now (cells .entry))) r ⌝ }

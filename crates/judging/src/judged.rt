@@ -12,7 +12,7 @@ use crate::tally::counted;
 use plain::Said;
 use plain::judge;
 
-// The four questions, compared with the second search: they agree for every table.
+// Compares the answer to the four questions with that of the second search, and counts the comparison. The two agree for every table. Returns the tally.
 pub fn compared(cells: &[u8], n: usize, tally: Tally) -> Tally
     ensures same { λ r. ⌜ r ≡ counted tally true ⌝ }
 {
@@ -20,7 +20,7 @@ pub fn compared(cells: &[u8], n: usize, tally: Tally) -> Tally
     counted(tally, same_said(said, judge(cells, n)))
 }
 
-// The four questions, compared with what RULES 23.2 says of the table, and with the second search.
+// Compares the answer to the four questions with what RULES 23.2 says of the table, and with that of the second search. Returns the tally.
 pub fn judged(cells: &[u8], n: usize, said: Said, tally: Tally) -> Tally
     ensures answer { λ r. ⌜ r ≡ counted (counted tally (sameSaid (saidOf (tableRefusal n (now (cells .entry)))) said)) true ⌝ }
 {

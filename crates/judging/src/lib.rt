@@ -1,4 +1,4 @@
-// The count of comparisons with the line that tells it, and the questions about a table, compared with the second search.
+// The tally of comparisons and the line that prints it; and the four questions about a table, compared with the second search.
 pub mod judged;
 pub mod said;
 pub mod tally;

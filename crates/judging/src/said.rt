@@ -1,4 +1,4 @@
-// What is said of a table, as numbers.
+// The answer to the questions about a table, as numbers.
 ghost use mathlib.Core.Path.{_≡_};
 ghost use Rattle.tables.specs.Answers.{noRefusal, verdictRefusal};
 ghost use Rattle.plain.specs.InnerSaid.{refusalSaid, saidOf};

@@ -1,4 +1,4 @@
-// How many answers that were compared agree, and how many differ.
+// A tally: how many of the compared answers agree, and how many differ.
 ghost use mathlib.Core.Path.{_≡_};
 ghost use Prim.Native.Nat.{_+_, _≤_};
 ghost use lib.ListN.{length};
@@ -21,7 +21,7 @@ pub fn start() -> Tally
     }
 }
 
-// One more. A count that is full stays as it is.
+// Returns the count plus one. A count that has reached its largest value stays as it is.
 fn up(k: u64) -> u64
     ensures answer { λ r. ⌜ r ≡ up k ⌝ }
 {
@@ -31,7 +31,7 @@ fn up(k: u64) -> u64
     k + 1
 }
 
-// The tally after one more comparison.
+// Returns the tally after one more comparison.
 pub fn counted(tally: Tally, same: bool) -> Tally
     ensures answer { λ r. ⌜ r ≡ counted tally same ⌝ }
 {
@@ -49,7 +49,7 @@ pub fn counted(tally: Tally, same: bool) -> Tally
 
 // ---- the line of a group
 
-// Writes a number in decimal at `at`. Answers the place behind it.
+// Writes a number in decimal at `at`. Returns the place after it.
 fn put_decimal(out: &mut [u8], at: usize, k: u64) -> usize
     requires room { ⌜ at + length (decimal k) ≤ length (now out) ⌝ }
     ensures answer { λ r. ⌜ r ≡ at + length (decimal k) ⌝ }
@@ -64,7 +64,7 @@ fn put_decimal(out: &mut [u8], at: usize, k: u64) -> usize
     place + 1
 }
 
-// Writes the line of a group to the start of `out`. Answers its length.
+// Writes the line of a group to the start of `out`. Returns its length.
 pub fn put_line(out: &mut [u8; 100], group: &[u8], tally: Tally) -> usize
     requires short { ⌜ length (now group) ≤ 40 ⌝ }
     ensures answer { λ r. ⌜ r ≡ length (tallyLine (now (group .entry)) tally) ⌝ }

@@ -1,5 +1,5 @@
-// The pieces of RFC 4180 lines, each written at a place of a lent buffer: bytes, a decimal number, a field behind a comma, a line break. Each answers
-// the place behind what it wrote; no other byte is changed. And how many digits a number has.
+// The pieces of RFC 4180 lines, each written at a given place of a lent buffer: bytes, a decimal number, a field after a comma, a line break. Each function
+// returns the place after what it wrote, and changes no other byte. `digit_count` returns how many digits a number has.
 ghost use mathlib.Core.Path.{_≡_};
 ghost use mathlib.Core.List.{_∷_, []};
 ghost use Prim.Native.Nat.{_+_, _≤_, _<_};
@@ -7,7 +7,7 @@ ghost use lib.ListN.{length};
 ghost use lib.Seq.{sets};
 ghost use Rattle.csv.specs.Decimals.{numeral};
 
-// How many digits the decimal number of k has.
+// Returns how many digits k has in decimal.
 pub fn digit_count(k: usize) -> usize
     requires { ⌜ k < 1000 ⌝ }
     ensures answer { λ r. ⌜ r ≡ length (numeral k) ⌝ }
@@ -21,7 +21,7 @@ pub fn digit_count(k: usize) -> usize
     3
 }
 
-// Writes `bytes`.
+// Writes `bytes` at `at`. Returns the place after them.
 pub fn put_bytes(out: &mut [u8], at: usize, bytes: &[u8]) -> usize
     requires room { ⌜ at + length (now bytes) ≤ length (now out) ⌝ }
     ensures answer { λ r. ⌜ r ≡ at + length (now (bytes .entry)) ⌝ }
@@ -35,7 +35,7 @@ pub fn put_bytes(out: &mut [u8], at: usize, bytes: &[u8]) -> usize
     at + i
 }
 
-// Writes the decimal number of x.
+// Writes x in decimal at `at`. Returns the place after it.
 pub fn put_number(out: &mut [u8], at: usize, x: usize) -> usize
     requires small { ⌜ x < 1000 ⌝ }
     requires room { ⌜ at + length (numeral x) ≤ length (now out) ⌝ }
@@ -57,7 +57,7 @@ pub fn put_number(out: &mut [u8], at: usize, x: usize) -> usize
     at + 3
 }
 
-// Writes a comma and the decimal number of x.
+// Writes a comma and x in decimal at `at`. Returns the place after them.
 pub fn put_field(out: &mut [u8], at: usize, x: usize) -> usize
     requires small { ⌜ x < 1000 ⌝ }
     requires room { ⌜ at + 1 + length (numeral x) ≤ length (now out) ⌝ }
@@ -68,7 +68,7 @@ pub fn put_field(out: &mut [u8], at: usize, x: usize) -> usize
     put_number(out, at + 1, x)
 }
 
-// Writes a line break, CR LF.
+// Writes a line break, CR LF, at `at`. Returns the place after it.
 pub fn put_break(out: &mut [u8], at: usize) -> usize
     requires room { ⌜ at + 2 ≤ length (now out) ⌝ }
     ensures answer { λ r. ⌜ r ≡ at + 2 ⌝ }

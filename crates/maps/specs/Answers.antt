@@ -11,7 +11,7 @@ use Rattle.maps.specs.declared.MapAnswer.the-variants.{Refused, MapLengt
 use Rattle.maps.specs.declared.Pair.{Pair}
 use Rattle.maps.specs.declared.Pair.the-variants.{At, Nowhere}
 
--- The number, side and values of each refusal; the element or the pair of each fault.
+-- What an answer of the code says: the number, side and values of each refusal; the element or the pair of each fault.
 abbrev pub mapAnswerSays : MapAnswer → Answer Checked
 mapAnswerSays (Refused side fault) = refused (naming (sideNumber side) (faultRefusal fault))
 mapAnswerSays MapLength = refused (no 5 [])
@@ -20,7 +20,7 @@ mapAnswerSays (Outside i) = gives (outside i)
 mapAnswerSays (EqualImages i j) = gives (equalImages (i ∷ j ∷ []))
 mapAnswerSays (WrongProduct i j) = gives (wrongProduct (i ∷ j ∷ []))
 
--- The pair, where there is one.
+-- The pair, or none.
 abbrev pub pairOption : Pair → Option (List ℕ)
 pairOption (At i j) = some (i ∷ j ∷ [])
 pairOption Nowhere = none

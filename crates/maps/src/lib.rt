@@ -1,5 +1,5 @@
-// The map check: whether m bytes are an embedding of one table in another, or their earliest fault. Tables and bytes may have any content: the first
-// failed question refuses them.
+// The map check: whether m bytes are an embedding of one table in another, or their earliest fault. Tables and bytes may have any content; the first question
+// that fails refuses them.
 use tables::Fault;
 use tables::PairVerdict;
 use tables::Place;
@@ -18,7 +18,7 @@ ghost use Rattle.maps.specs.Calls.{mapCheck};
 ghost use Rattle.maps.specs.Answers.{mapAnswerSays, pairOption};
 
 pub enum MapAnswer {
-    // Questions 1 to 4 of a table, and question 5.
+    // One of questions 1 to 4 about a table fails, or question 5.
     Refused(Side, Fault),
     MapLength,
     // The map is an embedding.
@@ -31,13 +31,13 @@ pub enum MapAnswer {
     WrongProduct(usize, usize),
 }
 
-// A pair of elements, where there is one.
+// A pair of elements, or none.
 enum Pair {
     At(usize, usize),
     Nowhere,
 }
 
-// The image of element i.
+// Returns the image of element i.
 fn image(map: &[u8], i: usize) -> usize
     requires { ⌜ Element (length (now map)) i ⌝ }
     ensures answer { λ r. ⌜ r ≡ at (now (map .entry)) i ⌝ }
@@ -45,7 +45,7 @@ fn image(map: &[u8], i: usize) -> usize
     map[i - 1] as usize
 }
 
-// The earliest pair i < j with equal images. The tables do not matter.
+// Returns the earliest pair i < j with equal images, or none. The tables do not matter.
 fn equal_images(map: &[u8]) -> Pair
     ensures answer { λ r. ⌜ ((s : Product) (n : ℕ) (t : Product) → pairOption r ≡ firstEqual (length (now (map .entry))) s n t (now (map .entry))) ⌝ }
 {
@@ -64,7 +64,7 @@ fn equal_images(map: &[u8]) -> Pair
     Pair::Nowhere
 }
 
-// The earliest pair i, j for which the image of i·j is not the image of i times the image of j.
+// Returns the earliest pair i, j for which the image of i·j is not the image of i times the image of j, or none.
 fn wrong_product(source: &[u8], m: usize, target: &[u8], n: usize, map: &[u8]) -> Pair
     requires { ⌜ Filled m (now source) ⌝ ∗ ⌜ Filled n (now target) ⌝ ∗ ⌜ IsList m n (now map) ⌝ }
     ensures answer { λ r. ⌜ pairOption r ≡ firstWrong m (product m (now (source .entry))) n (product n (now (target .entry))) (now (map .entry)) ⌝ }
@@ -86,7 +86,7 @@ fn wrong_product(source: &[u8], m: usize, target: &[u8], n: usize, map: &[u8]) -
     Pair::Nowhere
 }
 
-// What the check says of m bytes: an image outside the target, equal images, a wrong product, in this order.
+// Returns the earliest fault of m bytes, or that there is none: first an image outside the target, then equal images, then a wrong product.
 fn examine(source: &[u8], m: usize, target: &[u8], n: usize, map: &[u8]) -> MapAnswer
     requires { ⌜ Filled m (now source) ⌝ ∗ ⌜ Filled n (now target) ⌝ ∗ ⌜ length (now map) ≡ m ⌝ }
     ensures answer { λ r. ⌜ mapAnswerSays r ≡ gives (checkMap m (product m (now (source .entry))) n (product n (now (target .entry))) (now (map .entry))) ⌝ }
@@ -105,7 +105,7 @@ fn examine(source: &[u8], m: usize, target: &[u8], n: usize, map: &[u8]) -> MapA
     }
 }
 
-// Whether m bytes are an embedding of one table in another, where cells are elements.
+// Returns whether m bytes are an embedding of one table in another. The cells of both tables must be elements.
 pub fn embeds(source: &[u8], m: usize, target: &[u8], n: usize, map: &[u8]) -> bool
     requires { ⌜ Filled m (now source) ⌝ ∗ ⌜ Filled n (now target) ⌝ ∗ ⌜ length (now map) ≡ m ⌝ }
     ensures answer { λ r. ⌜ r ≡ isEmbedding m (product m (now (source .entry))) n (product n (now (target .entry))) (now (map .entry)) ⌝ }
@@ -117,7 +117,7 @@ pub fn embeds(source: &[u8], m: usize, target: &[u8], n: usize, map: &[u8]) -> b
     false
 }
 
-// What a call says of a map: the first failed question, or what the check says of it.
+// Answers whether a map is an embedding: the first question that fails, or the result of the check.
 pub fn check(source: &[u8], m: usize, target: &[u8], n: usize, map: &[u8]) -> MapAnswer
     ensures answer { λ r. ⌜ mapAnswerSays r ≡ mapCheck m (now (source .entry)) n (now (target .entry)) (now (map .entry)) ⌝ }
 {
@@ -131,7 +131,7 @@ pub fn check(source: &[u8], m: usize, target: &[u8], n: usize, map: &[u8]) -> Ma
     examine(source, m, target, n, map)
 }
 
-// Writes the images of the m elements.
+// Writes the images of the m elements to `map`.
 pub fn write_images(map: &mut [u8], image: &[u8; ORDER], m: usize)
     requires { ⌜ (length (now map) ≡ m) × (m ≤ 120) × (length (now image) ≡ 120) ⌝ }
     ensures map { λ _. ⌜ now (map .exit) ≡ take m (now (image .entry)) ⌝ }

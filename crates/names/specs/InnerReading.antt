@@ -1,5 +1,4 @@
--- What the functions that read and judge hand on. They serve the proofs; no contract of an entry point cites them.
--- Assumes nothing.
+-- The results of the functions that read and judge. They serve the proofs; no contract of an entry point cites them. Assumes nothing.
 use mathlib.Core.Path.{_≡_}
 use mathlib.Core.List.{List, flatten}
 use mathlib.Core.Option.{Option, none, some}
@@ -37,14 +36,14 @@ stateOf Cr = automaton.cr
 stateOf Line = automaton.line
 stateOf Dead = automaton.dead
 
--- The place where a text offends.
+-- The place of a text's first fault, or none.
 abbrev pub formPlace : Form → Option ℕ
 formPlace Sheet = none
 formPlace (Offends k) = some k
 
 -- ---- a field
 
--- The bytes s, or their first 41.
+-- A value holds the bytes s, or the first 41 of them.
 pub record HoldsValue (s : List ℕ) (v : Value) : Type 0 where
   pub bytes : take (v .size) (v .bytes) ≡ take 41 s
   pub size : v .size ≡ length (take 41 s)
@@ -52,7 +51,7 @@ pub record HoldsValue (s : List ℕ) (v : Value) : Type 0 where
 
 -- ---- the records of a sheet, the names in memory
 
--- 42 and 41 of each record, how many names there are, and how many bytes they have.
+-- A result agrees with the records: with questions 42 and 41 about each, how many names there are, and how many bytes they have.
 abbrev pub Judges : List Row → Judged → Type 0
 Judges rows (Passed count total) = (firstNo (rowsQuestions 1 rows) ≡ none) × (count ≡ length rows) × (total ≡ length (flatten (rowsNames rows)))
 Judges rows (Failed fault) = firstNo (rowsQuestions 1 rows) ≡ some (noRefusal fault)
@@ -63,7 +62,7 @@ pub record Fits (rows : List Row) (nameRoom lengthRoom : ℕ) : Type 0 where
   pub names : length (flatten (rowsNames rows)) ≤ nameRoom
   pub lengths : length rows ≤ lengthRoom
 
--- 41 of each name, how many names there are, and the length of their text.
+-- A result agrees with the names: with question 41 about each, how many there are, and the length of their text.
 abbrev pub JudgesNames : List ℕ → List ℕ → Judged → Type 0
 JudgesNames bytes lengths (Passed count total) = (firstNo (namesQuestions 1 bytes lengths) ≡ none) × (count ≡ length lengths) × (total ≡ length (namesText (namesAt bytes lengths)))
 JudgesNames bytes lengths (Failed fault) = firstNo (namesQuestions 1 bytes lengths) ≡ some (noRefusal fault)

@@ -1,6 +1,6 @@
-// Name sheets: one record for each name, its number and the name, as RFC 4180 text with quoted fields. In memory the names stand one after another in
-// one buffer, their lengths, a byte each, in another. `load` asks questions 40, 42, 41 and 27 of a text, `save` asks 42, 41 and 28; a refusal changes no
-// byte. What the contracts cite, and that loading and saving undo each other, is in the crate `sheets`.
+// Name sheets: a record for each name, which holds its number and the name, as RFC 4180 text with quoted fields. In memory the names stand one after another
+// in one buffer, and their lengths, a byte each, in another. `load` asks questions 40, 42, 41 and 27 of a text, `save` asks 42, 41 and 28; a refusal changes
+// no byte. The definitions that the contracts cite, and the proof that loading and saving undo each other, are in the crate `sheets`.
 ghost use mathlib.Core.Path.{_≡_};
 ghost use mathlib.Core.Bool.{cond};
 ghost use mathlib.Core.List.{List, [], _∷_, _++_, map, flatten};
@@ -24,7 +24,7 @@ use tables::limits::ORDER;
 
 // ---- bytes
 
-// Hexadecimal 20 to 7E.
+// Returns whether b is printable: hexadecimal 20 to 7E.
 fn is_printable(b: u8) -> bool
     ensures answer { λ r. ⌜ r ≡ isPrintable b ⌝ }
 {
@@ -34,7 +34,7 @@ fn is_printable(b: u8) -> bool
     }
 }
 
-// A byte of a field with no quote marks around it.
+// Returns whether b may stand in a field with no quote marks around it.
 fn is_text_data(b: u8) -> bool
     ensures answer { λ r. ⌜ r ≡ isTextData b ⌝ }
 {
@@ -45,7 +45,7 @@ fn is_text_data(b: u8) -> bool
     }
 }
 
-// A byte that stands for itself between quote marks.
+// Returns whether b stands for itself between quote marks.
 fn is_quotable(b: u8) -> bool
     ensures answer { λ r. ⌜ r ≡ isQuotable b ⌝ }
 {
@@ -65,8 +65,8 @@ enum Part {
     Name,
 }
 
-// Where the reading stands: at the start of a field; behind a byte of a field with no quote marks; between quote marks; behind a quote mark that closes
-// the field or is the first of two; behind CR; behind CR LF; nowhere.
+// Where the reading stands: at the start of a field; after a byte of a field with no quote marks; between quote marks; after a quote mark that closes the
+// field or is the first of two; after CR; after CR LF; nowhere, because no sheet begins so.
 enum State {
     Opening(Part),
     Bare(Part),
@@ -77,7 +77,7 @@ enum State {
     Dead,
 }
 
-// Behind a field comes a comma or CR.
+// Returns the state after a byte that follows a field: only a comma or CR may.
 fn after_field(part: Part, b: u8) -> State
     ensures answer { λ r. ⌜ stateOf r ≡ afterField (partOf part) b ⌝ }
 {
@@ -145,7 +145,7 @@ fn cr_step(b: u8) -> State
     State::Dead
 }
 
-// The state behind one more byte.
+// Returns the state after one more byte.
 fn step(state: State, b: u8) -> State
     ensures answer { λ r. ⌜ stateOf r ≡ stateAfter (stateOf state) b ⌝ }
 {
@@ -169,7 +169,7 @@ fn is_name_part(part: Part) -> bool
     }
 }
 
-// Whether the text may end here.
+// Returns whether the text may end here.
 fn may_end(state: State) -> bool
     ensures answer { λ r. ⌜ r ≡ accepting (stateOf state) ⌝ }
 {
@@ -184,7 +184,7 @@ fn may_end(state: State) -> bool
     }
 }
 
-// Whether no sheet has begun so.
+// Returns whether no sheet begins with what was read.
 fn is_dead(state: State) -> bool
     ensures answer { λ r. ⌜ r ≡ isDead (stateOf state) ⌝ }
 {
@@ -199,7 +199,7 @@ fn is_dead(state: State) -> bool
     }
 }
 
-// Whether the text is one or more records of two fields, or where it offends.
+// Whether the text is one or more records of two fields, or the place of its first fault.
 enum Form {
     Sheet,
     Offends(usize),
@@ -226,7 +226,7 @@ fn scan(text: &[u8]) -> Form
 
 // ---- fields
 
-// The value of a field: its first 41 bytes, so that one of more than 40 shows; and the place behind the field.
+// The value of a field: its first 41 bytes, so that a value of more than 40 is noticed; and the place after the field.
 struct Value {
     bytes: [u8; 41],
     size: usize,
@@ -234,7 +234,7 @@ struct Value {
 }
 
 impl Value {
-    // The value of no byte, of a field at place 0.
+    // Returns the value with no byte, of a field that ends at place 0.
     fn empty() -> Self
         ensures value { λ r. ⌜ HoldsValue [] r ⌝ }
         ensures end { λ r. ⌜ r .end ≡ 0 ⌝ }
@@ -246,7 +246,7 @@ impl Value {
         }
     }
 
-    // With one byte more, unless there are 41; the place stays.
+    // Returns the value with one more byte, unless there are 41; the place does not change.
     fn with(self, b: u8) -> Self
         ensures value { λ r. ⌜ ((s : List ℕ) → HoldsValue s self → HoldsValue (s ++ b ∷ []) r) ⌝ }
         ensures end { λ r. ⌜ r .end ≡ self .end ⌝ }
@@ -261,7 +261,7 @@ impl Value {
         longer
     }
 
-    // The same, of a field with this place behind it.
+    // Returns the value with `end` as the place after its field.
     fn ending(self, end: usize) -> Self
         ensures value { λ r. ⌜ ((s : List ℕ) → HoldsValue s self → HoldsValue s r) ⌝ }
         ensures end { λ r. ⌜ r .end ≡ end ⌝ }
@@ -271,7 +271,7 @@ impl Value {
         ended
     }
 
-    // Whether it is the number k; whether it is a name.
+    // Returns whether the value is the number k.
     fn is_number(self, k: usize) -> bool
         ensures answer { λ r. ⌜ ((s : List ℕ) → HoldsValue s self → r ≡ isNumber k s) ⌝ }
     {
@@ -295,7 +295,7 @@ impl Value {
     }
 }
 
-// The field with no quote marks around it that begins at `at`.
+// Returns the value of the field with no quote marks around it that begins at `at`.
 fn read_bare(text: &[u8], at: usize) -> Value
     requires { ⌜ at ≤ length (now text) ⌝ }
     ensures value { λ r. ⌜ HoldsValue (bareValue (drop at (now (text .entry)))) r ⌝ }
@@ -321,7 +321,7 @@ fn read_bare(text: &[u8], at: usize) -> Value
     value.ending(i)
 }
 
-// The field whose opening quote mark stands before `at`.
+// Returns the value of the field whose opening quote mark stands just before `at`.
 fn read_quoted(text: &[u8], at: usize) -> Value
     requires { ⌜ at ≤ length (now text) ⌝ }
     ensures value { λ r. ⌜ HoldsValue (quotedValue (drop at (now (text .entry)))) r ⌝ }
@@ -351,7 +351,7 @@ fn read_quoted(text: &[u8], at: usize) -> Value
     value.ending(i)
 }
 
-// The field that begins at `at`.
+// Returns the value of the field that begins at `at`.
 fn read_field(text: &[u8], at: usize) -> Value
     requires { ⌜ at ≤ length (now text) ⌝ }
     ensures value { λ r. ⌜ HoldsValue (valueAt (drop at (now (text .entry)))) r ⌝ }
@@ -368,7 +368,7 @@ fn read_field(text: &[u8], at: usize) -> Value
 
 // ---- names and numbers
 
-// Whether these bytes are the number k, of at most 120: decimal, with no leading 0.
+// Returns whether these bytes are the number k, at most 120, in decimal with no leading 0.
 fn is_number(bytes: &[u8], k: usize) -> bool
     ensures answer { λ r. ⌜ r ≡ isNumber k (now (bytes .entry)) ⌝ }
 {
@@ -401,7 +401,7 @@ fn is_number(bytes: &[u8], k: usize) -> bool
     v == k
 }
 
-// Whether these bytes are a name: 1 to 40 of them, from hexadecimal 20 to 7E.
+// Returns whether these bytes are a name: 1 to 40 bytes, each hexadecimal 20 to 7E.
 fn is_name(bytes: &[u8]) -> bool
     ensures answer { λ r. ⌜ r ≡ isName (now (bytes .entry)) ⌝ }
 {
@@ -428,13 +428,13 @@ fn is_name(bytes: &[u8]) -> bool
 
 // ---- loading
 
-// Whether the questions about the records or the names pass; then two numbers: how many names, and how many bytes they take in memory or as a text.
+// Whether the questions about the records or the names pass. If they do: how many names there are, and how many bytes they take in memory or as a text.
 enum Judged {
     Passed(usize, usize),
     Failed(No),
 }
 
-// Questions 42 and 41 of each record; then how many names there are, and how many bytes they have.
+// Asks questions 42 and 41 of each record. Returns the first that fails; or how many names there are, and how many bytes they have.
 fn judge_records(text: &[u8]) -> Judged
     requires { ⌜ IsSheet (now text) ⌝ }
     ensures answer { λ r. ⌜ ((p : IsSheet (now (text .entry))) → Judges (sheetRows (p .sheet)) r) ⌝ }
@@ -488,8 +488,8 @@ fn write_names(text: &[u8], names: &mut [u8], lengths: &mut [u8])
     }
 }
 
-// Loads the names on the sheet `text`: answers their number, writes them one after another to the start of `names` and their lengths to the start of
-// `lengths`; or answers the earliest question that fails, and writes nothing.
+// Loads the names on the sheet `text`: writes them one after another to the start of `names` and their lengths to the start of `lengths`, and answers how
+// many there are; or answers the earliest question that fails, and writes nothing.
 pub fn load(text: &[u8], names: &mut [u8], lengths: &mut [u8]) -> Numbered
     ensures answer { λ r. ⌜ ((w : Reading (now (text .entry))) → numberedSays r ≡ loadNamesAnswer w (now (names .entry)) (now (lengths .entry))) ⌝ }
     ensures names { λ _. ⌜ ((w : Reading (now (text .entry))) → now (names .exit) ≡ namesAfter w (now (names .entry)) (now (lengths .entry))) ⌝ }
@@ -517,7 +517,7 @@ pub fn load(text: &[u8], names: &mut [u8], lengths: &mut [u8]) -> Numbered
 
 // ---- saving
 
-// Whether a name holds a comma or a quote mark.
+// Returns whether a name holds a comma or a quote mark.
 fn needs_quotes(name: &[u8]) -> bool
     ensures answer { λ r. ⌜ r ≡ needsQuotes (now (name .entry)) ⌝ }
 {
@@ -539,7 +539,7 @@ fn needs_quotes(name: &[u8]) -> bool
     false
 }
 
-// The length of the text of a name.
+// Returns the length of the text of a name, with its quote marks.
 fn name_length(name: &[u8]) -> usize
     requires { ⌜ length (now name) ≤ 40 ⌝ }
     ensures answer { λ r. ⌜ r ≡ length (nameText (now (name .entry))) ⌝ }
@@ -565,7 +565,7 @@ fn name_length(name: &[u8]) -> usize
     total
 }
 
-// Writes a name with each quote mark doubled. Answers the place behind it.
+// Writes a name with each quote mark doubled. Returns the place after it.
 fn put_doubled(text: &mut [u8], start: usize, name: &[u8]) -> usize
     requires { ⌜ start + length (doubled (now name)) ≤ length (now text) ⌝ }
     ensures answer { λ r. ⌜ r ≡ start + length (doubled (now (name .entry))) ⌝ }
@@ -592,7 +592,7 @@ fn put_doubled(text: &mut [u8], start: usize, name: &[u8]) -> usize
     at
 }
 
-// Writes a name, between quote marks where it needs them. Answers the place behind it.
+// Writes a name, between quote marks where it needs them. Returns the place after it.
 fn put_name(text: &mut [u8], start: usize, name: &[u8]) -> usize
     requires { ⌜ start + length (nameText (now name)) ≤ length (now text) ⌝ }
     ensures answer { λ r. ⌜ r ≡ start + length (nameText (now (name .entry))) ⌝ }
@@ -607,7 +607,7 @@ fn put_name(text: &mut [u8], start: usize, name: &[u8]) -> usize
     at + 1
 }
 
-// Question 41 of each name; then how many there are, and the length of their text.
+// Asks question 41 of each name. Returns the first that fails; or how many names there are, and the length of their text.
 fn judge_names(names: &[u8], lengths: &[u8]) -> Judged
     requires { ⌜ length (now lengths) ≤ 120 ⌝ }
     ensures answer { λ r. ⌜ JudgesNames (now (names .entry)) (now (lengths .entry)) r ⌝ }

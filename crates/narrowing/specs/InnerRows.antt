@@ -1,4 +1,4 @@
--- What a placing leaves of the rows, and what rows must not lose. A row says which target elements are left for a source element. Assumes nothing.
+-- What a placing leaves of the rows, and what rows must not lose. A row holds the target elements that are left for a source element. Assumes nothing.
 use mathlib.Core.Path.{_≡_}
 use mathlib.Core.Bool.{Bool, true, _&&_, cond}
 use mathlib.Core.List.{List}
@@ -11,22 +11,22 @@ use Rattle.semigroups.specs.MapsLaws.{Embedding, Among}
 use Rattle.rows.specs.InnerRows.{inRow, Only}
 use Rattle.rows.specs.declared.Row.{Row}
 
--- The weight where the two are equal, else 0.
+-- The weight if the two are equal, else 0.
 unfoldable pub digit : ℕ → ℕ → ℕ → ℕ
 digit a b weight = cond (eqb a b) weight 0
 
--- Which of a, b and their products ab and ba are equal, as a number: two pairs look alike where the numbers are equal.
+-- Which of a, b and their products ab and ba are equal, as a number. Two pairs look alike if their numbers are equal.
 unfoldable pub pattern : ℕ → ℕ → ℕ → ℕ → ℕ
 pattern a b ab ba = (digit a b 1 + digit ab b 2) + (digit ba b 4 + digit ab ba 8) + (digit ab a 16 + digit ba a 32)
 
--- A placing of x for l leaves y for c: the products of x and y, on both sides, are left for those of l and c, and the two pairs look alike.
+-- Whether placing x for l leaves y for c: the products of x and y, on both sides, are left for those of l and c, and the two pairs look alike.
 unfoldable pub narrowed : Product → Product → (ℕ → ℕ → Bool) → ℕ → ℕ → ℕ → ℕ → Bool
 narrowed s t rows l x c y =
     let alike = eqb (pattern x y (t x y) (t y x)) (pattern l c (s l c) (s c l)) in
     let products = rows (s l c) (t x y) && (rows (s c l) (t y x) && alike) in
     rows c y && products
 
--- The same test of y, where `left` and `right` are the rows of l·c and c·l, and `looks` is the pattern of l and c.
+-- The test of `narrowed` for y, where `left` and `right` are the rows of l·c and c·l, and `looks` is the pattern of l and c.
 unfoldable pub stays : Product → ℕ → ℕ → Row → Row → ℕ → Bool
 stays t x looks left right y = inRow left (t x y) && (inRow right (t y x) && eqb (pattern x y (t x y) (t y x)) looks)
 
@@ -38,7 +38,7 @@ Begins f image len = (i : ℕ) → Element len i → at f i ≡ at image i
 abbrev pub Images : ℕ → List ℕ → ℕ → Type 0
 Images n image len = (i : ℕ) → Element len i → Element n (at image i)
 
--- No embedding that begins with the images and is among the old rows is lost by the new.
+-- The new rows lose no embedding that begins with the images and is among the old rows.
 abbrev pub Keeps : ℕ → Product → ℕ → Product → List ℕ → ℕ → (ℕ → ℕ → Bool) → (ℕ → ℕ → Bool) → Type 0
 Keeps m s n t image len old new = (f : List ℕ) → Embedding m s n t f → Begins f image len → Among m old f → Among m new f
 
@@ -46,10 +46,10 @@ Keeps m s n t image len old new = (f : List ℕ) → Embedding m s n t f → Beg
 abbrev pub Multiplied : Product → Product → List ℕ → ℕ → ℕ → List ℕ → List ℕ → Type 0
 Multiplied s t image l k lo hi = (i : ℕ) → Element k i → Only lo hi (s i l) (t (at image i) (at image l)) × Only lo hi (s l i) (t (at image l) (at image i))
 
--- What is left after a placing of x for l passes `narrowed` over the old rows.
+-- What is left after placing x for l passes `narrowed` over the old rows.
 abbrev pub Narrows : ℕ → Product → ℕ → Product → ℕ → ℕ → (ℕ → ℕ → Bool) → (ℕ → ℕ → Bool) → Type 0
 Narrows m s n t l x old new = (c y : ℕ) → Element m c → Element n y → new c y ≡ true → narrowed s t old l x c y ≡ true
 
--- No image yet.
+-- There is no image yet.
 abbrev pub Blank : List ℕ → Type 0
 Blank image = image ≡ replicate 120 0

@@ -1,4 +1,4 @@
--- What the contracts of the search by rows say of its state, a partial map with rows. Assumes nothing.
+-- What the contracts of the search with rows say of its state, a partial map with rows. Assumes nothing.
 use mathlib.Core.Path.{_≡_}
 use mathlib.Core.Bool.{Bool, true}
 use mathlib.Core.Option.{Option}
@@ -23,24 +23,24 @@ prefix p = take (p .len) (p .image)
 abbrev pub rowsIn : Partial → ℕ → ℕ → Bool
 rowsIn p = has (p .lo) (p .hi)
 
--- What a call is to answer.
+-- What a call must return.
 abbrev pub Due : Product → ℕ → Product → ℕ → List ℕ → List ℕ → Bool → Partial → Option (List ℕ)
 Due s m t n scratch after tight p = earliestBehind m s n t (marked n scratch) (bounded tight after) (m - p .len) (prefix p)
 
--- Images placed: elements, zeros behind them.
+-- The images placed are elements, and zeros follow them.
 pub record PlacedImages (n : ℕ) (image : List ℕ) (len : ℕ) : Type 0 where
   pub long : length image ≡ 120
   pub fit : len ≤ 120
   pub padded : drop len image ≡ replicate (120 - len) 0
   pub images : Images n image len
 
--- What the rows know of the images placed: the row of a placed element has at most its image, and the row of the product of two of the first `paired`
+-- What the rows hold of the images placed: the row of a placed element has at most its image, and the row of the product of two of the first `paired`
 -- elements at most the product of their images.
 pub record Settled (s t : Product) (image : List ℕ) (len paired : ℕ) (lo hi : List ℕ) : Type 0 where
   pub own : (i : ℕ) → Element len i → Only lo hi i (at image i)
   pub products : (i j : ℕ) → Element paired i → Element paired j → Only lo hi (s i j) (t (at image i) (at image j))
 
--- What holds where the search goes on from a partial map.
+-- What holds whenever the search goes on from a partial map.
 pub record Reached (s : Product) (m : ℕ) (t : Product) (n : ℕ) (scratch after : List ℕ) (tight : Bool) (p : Partial) : Type 0 where
   pub placing : PlacedImages n (p .image) (p .len)
   pub within : p .len ≤ m

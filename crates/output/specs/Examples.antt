@@ -5,15 +5,15 @@ use mathlib.Core.List.{List, [], _∷_}
 use Prim.Native.Nat.{ℕ}
 use Rattle.output.specs.Program.{recueOutput}
 
--- 1,2 / 2,1
+-- The file `1,2 / 2,1`.
 unfoldable pub sourceFile : List ℕ
 sourceFile = 49 ∷ 44 ∷ 50 ∷ 13 ∷ 10 ∷ 50 ∷ 44 ∷ 49 ∷ 13 ∷ 10 ∷ []
 
--- 1,1,4,4 / 1,2,3,4 / 1,3,2,4 / 1,4,1,4
+-- The file `1,1,4,4 / 1,2,3,4 / 1,3,2,4 / 1,4,1,4`.
 unfoldable pub targetFile : List ℕ
 targetFile = 49 ∷ 44 ∷ 49 ∷ 44 ∷ 52 ∷ 44 ∷ 52 ∷ 13 ∷ 10 ∷ 49 ∷ 44 ∷ 50 ∷ 44 ∷ 51 ∷ 44 ∷ 52 ∷ 13 ∷ 10 ∷ 49 ∷ 44 ∷ 51 ∷ 44 ∷ 50 ∷ 44 ∷ 52 ∷ 13 ∷ 10 ∷ 49 ∷ 44 ∷ 52 ∷ 44 ∷ 49 ∷ 44 ∷ 52 ∷ 13 ∷ 10 ∷ []
 
--- found,2,4 / 1,2 / 2,3
+-- The output `found,2,4 / 1,2 / 2,3`.
 unfoldable pub recuePrinted : List ℕ
 recuePrinted = 102 ∷ 111 ∷ 117 ∷ 110 ∷ 100 ∷ 44 ∷ 50 ∷ 44 ∷ 52 ∷ 13 ∷ 10 ∷ 49 ∷ 44 ∷ 50 ∷ 13 ∷ 10 ∷ 50 ∷ 44 ∷ 51 ∷ 13 ∷ 10 ∷ []
 

@@ -13,26 +13,28 @@ use Rattle.csv.specs.Tables.{orderOf, cellsOf}
 use Rattle.output.specs.Records.{foundRecords, noneRecords, refusedRecords}
 use Rattle.files.specs.Files.{fileRefusal, room}
 
+-- The records of a map that is found, or of none.
 abbrev pub mapRecords : ℕ → ℕ → Option (List ℕ) → List (List (List ℕ))
 mapRecords m n (some f) = foundRecords m n f
 mapRecords m n none = noneRecords m n
 
--- The first embedding of one table in another, or none.
+-- The records of the answer: the first embedding of one table in another, or none.
 unfoldable pub answerRecords : ℕ → List ℕ → ℕ → List ℕ → List (List (List ℕ))
 answerRecords m source n target = mapRecords m n (earliest first (maps embeddings m (product m source) n (product n target)))
 
--- The refusal of a file where there is one, else these records.
+-- The record of a file's refusal if there is one, else these records.
 abbrev pub refusedUnless : ℕ → Option Refusal → List (List (List ℕ)) → List (List (List ℕ))
 refusedUnless side none rs = rs
 refusedUnless side (some r) rs = refusedRecords side r
 
--- The source's questions, then the target's, then the first embedding.
+-- The records of the whole output: the source's refusal, else the target's, else the first embedding or none.
 unfoldable pub recueRecords : List ℕ → List ℕ → List (List (List ℕ))
 recueRecords source target =
     let answer = answerRecords (orderOf source) (cellsOf source) (orderOf target) (cellsOf target) in
     let second = refusedUnless 2 (fileRefusal target room) answer in
     refusedUnless 1 (fileRefusal source room) second
 
+-- The whole output of the program, as text.
 unfoldable pub recueOutput : List ℕ → List ℕ → List ℕ
 recueOutput source target = rowsText (recueRecords source target)
 

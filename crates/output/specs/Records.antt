@@ -9,40 +9,42 @@ use Rattle.files.specs.Answers.{refusedWord}
 
 -- ---- the words of the first record, as bytes
 
--- "found"
+-- The word "found".
 abbrev pub foundWord : List ℕ
 foundWord = 102 ∷ 111 ∷ 117 ∷ 110 ∷ 100 ∷ []
 
--- "none"
+-- The word "none".
 abbrev pub noneWord : List ℕ
 noneWord = 110 ∷ 111 ∷ 110 ∷ 101 ∷ []
 
 -- ---- the records
 
--- A word and two numbers: of "found" and "none" the source order and the target order.
+-- The first record: a word and two numbers. After "found" and "none" these are the source order and the target order.
 unfoldable pub firstRecord : List ℕ → ℕ → ℕ → List (List ℕ)
 firstRecord word a b = word ∷ numeral a ∷ numeral b ∷ []
 
--- Element i and its image under the map f.
+-- The record of element i and its image under the map f.
 unfoldable pub pairRecord : List ℕ → ℕ → List (List ℕ)
 pairRecord f i = numeral i ∷ numeral (at f i) ∷ []
 
--- The word, 1 or 2 for the file, the number of the question.
+-- The record of a refusal: the word, 1 or 2 for the file, and the number of the question.
 unfoldable pub refusedRecord : ℕ → Refusal → List (List ℕ)
 refusedRecord side r = firstRecord refusedWord side (r .number)
 
 -- ---- all records of an answer
 
--- A record for each of m elements: element, image.
+-- A record for each of m elements: the element and its image.
 unfoldable pub pairRecords : ℕ → List ℕ → List (List (List ℕ))
 pairRecords m f = map (pairRecord f) (elements m)
 
--- After "found" a record for each source element.
+-- The records of a map that is found: the first record, then one for each source element.
 unfoldable pub foundRecords : ℕ → ℕ → List ℕ → List (List (List ℕ))
 foundRecords m n f = firstRecord foundWord m n ∷ pairRecords m f
 
+-- The records where there is no embedding: the first record alone.
 unfoldable pub noneRecords : ℕ → ℕ → List (List (List ℕ))
 noneRecords m n = firstRecord noneWord m n ∷ []
 
+-- The records of a refusal: one.
 unfoldable pub refusedRecords : ℕ → Refusal → List (List (List ℕ))
 refusedRecords side r = refusedRecord side r ∷ []

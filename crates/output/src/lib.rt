@@ -1,5 +1,5 @@
-// The program `recue`, from the bytes of its two files to the bytes that it prints: RFC 4180 text, a record that begins with found, none or
-// refused, and after found a record for each source element.
+// The program `recue`, from the bytes of its two files to the bytes that it prints: RFC 4180 text, whose first record begins with found, none or refused;
+// after found there is a record for each source element.
 ghost use mathlib.Core.Path.{_≡_};
 ghost use mathlib.Core.List.{_∷_, []};
 ghost use Prim.Native.Nat.{_+_, _*_, _≤_, _<_};
@@ -24,7 +24,7 @@ use tables::limits::ORDER;
 use tables::limits::OUTPUT;
 use tables::limits::SCRATCH;
 
-// Writes the record of a word and two numbers to the start of `out`. Answers its length.
+// Writes the record of a word and two numbers to the start of `out`. Returns its length.
 fn put_record(out: &mut [u8], word: &[u8], a: usize, b: usize) -> usize
     requires small { ⌜ (a < 1000) × (b < 1000) ⌝ }
     requires room { ⌜ length (now word) + 10 ≤ length (now out) ⌝ }
@@ -37,7 +37,7 @@ fn put_record(out: &mut [u8], word: &[u8], a: usize, b: usize) -> usize
     put_break(out, at)
 }
 
-// Writes the record of an element and its image at `at`. Answers the place behind it.
+// Writes the record of an element and its image at `at`. Returns the place after it.
 fn put_pair(out: &mut [u8], at: usize, i: usize, image: usize) -> usize
     requires small { ⌜ (i < 1000) × (image < 1000) ⌝ }
     requires room { ⌜ at + length (lineText (numeral i ∷ numeral image ∷ [])) ≤ length (now out) ⌝ }
@@ -49,7 +49,7 @@ fn put_pair(out: &mut [u8], at: usize, i: usize, image: usize) -> usize
     put_break(out, place)
 }
 
-// Writes a record for each element of the map at `start`. Answers the place behind them.
+// Writes a record for each element of the map at `start`. Returns the place after them.
 fn put_pairs(out: &mut [u8], start: usize, map: &[u8]) -> usize
     requires small { ⌜ length (now map) ≤ 120 ⌝ }
     requires room { ⌜ start + 9 * length (now map) ≤ length (now out) ⌝ }
@@ -65,7 +65,7 @@ fn put_pairs(out: &mut [u8], start: usize, map: &[u8]) -> usize
     at
 }
 
-// Writes the records of a map that is found, into a table of order n, to the start of `out`. Answers their length.
+// Writes the records of a map that was found, into a table of order n, to the start of `out`. Returns their length.
 fn put_found(out: &mut [u8], n: usize, map: &[u8]) -> usize
     requires small { ⌜ (length (now map) ≤ 120) × (n ≤ 120) ⌝ }
     requires room { ⌜ 1095 ≤ length (now out) ⌝ }
@@ -76,8 +76,8 @@ fn put_found(out: &mut [u8], n: usize, map: &[u8]) -> usize
     put_pairs(out, at, map)
 }
 
-// Asks for the first embedding of one table in another, writes what is found, or none, to the start of `out` and answers the length. The map buffer has
-// the right length, and scratch is enough for the largest tables, so no question is asked.
+// Searches for the first embedding of one table in another and writes the answer, found or none, to the start of `out`. Returns its length. The map buffer
+// has the right length and scratch is enough for the largest tables, so no question is asked.
 fn put_answer(out: &mut [u8; OUTPUT], source: &[u8], m: usize, target: &[u8], n: usize) -> usize
     requires tables { ⌜ Accepted m (now source) × Accepted n (now target) ⌝ }
     ensures answer { λ r. ⌜ r ≡ length (rowsText (answerRecords m (now (source .entry)) n (now (target .entry)))) ⌝ }
@@ -101,7 +101,7 @@ fn put_answer(out: &mut [u8; OUTPUT], source: &[u8], m: usize, target: &[u8], n:
     put_found(out, n, &map[..m])
 }
 
-// The whole output of the program for files with these bytes, written to the start of `out`. Answers its length.
+// Writes the whole output of the program for files with these bytes to the start of `out`. Returns its length.
 pub fn recue(source: &[u8], target: &[u8], out: &mut [u8; OUTPUT]) -> usize
     ensures answer { λ r. ⌜ r ≡ length (recueOutput (now (source .entry)) (now (target .entry))) ⌝ }
     ensures out { λ _. ⌜ now (out .exit) ≡ overwritten (recueOutput (now (source .entry)) (now (target .entry))) (now (out .entry)) ⌝ }

@@ -1,6 +1,6 @@
-// The whole output of recue for files with given bytes: found, none, every refusal that can come for either file, and texts at the limit of 57,720 bytes.
-// What must come out stands in the file stdout, worked out by hand from the rules. The text of 121 records with 121 fields, which no constant holds,
-// comes from standard input.
+// The whole output of recue for files with given bytes: found, none, every refusal that either file can meet, and texts at the limit of 57,720 bytes. The
+// expected output is in the file stdout, worked out by hand from the rules. The text of 121 records with 121 fields, which no constant holds, comes from
+// standard input.
 ghost use mathlib.Core.Path.{_≡_};
 ghost use mathlib.Core.List.{[], _∷_};
 ghost use lib.ListN.{length};
@@ -19,7 +19,7 @@ fn show(source: &[u8], target: &[u8]) -> usize
     written
 }
 
-// Prints the output for this text as the source, then for it as the target of the accepted source `1`. Returns the length of the second.
+// Prints the output for this text as the source, then as the target of the accepted source `1`. Returns the length of the second.
 fn refused(text: &[u8]) -> usize
     ensures answer { λ r. ⌜ r ≡ length (recueOutput (49 ∷ 13 ∷ 10 ∷ []) (now (text .entry))) ⌝ }
 {
@@ -38,7 +38,7 @@ fn main() {
     );
     refused(b"");
     refused(b"1;\r\n");
-    // Without the last line break; ended by a comma, so that the last field is empty.
+    // Texts without the last line break; the second ends with a comma, so that its last field is empty.
     show(b"1,2\r\n2,1", b"1,1,4,4\r\n1,2,3,4\r\n1,3,2,4\r\n1,4,1,4");
     refused(b"1,2\r\n2,");
     refused(b"1234\r\n");

@@ -1,5 +1,4 @@
--- What the second search speaks of: lists by their number, and the test of a pair of elements (RULES 5).
--- Assumes nothing.
+-- What the second search uses: lists by their number, and the test of a pair of elements (RULES 5). Assumes nothing.
 use mathlib.Core.Bool.{Bool, true, false, _&&_, _||_, not}
 use mathlib.Core.List.{List, []}
 use mathlib.Core.Option.{Option, none, some}
@@ -14,7 +13,7 @@ use Rattle.semigroups.specs.Maps.{Kind, embeddings, isomorphisms}
 unfoldable pub numbered : ℕ → ℕ → ℕ → List ℕ
 numbered m n k = getD (lists m n) k []
 
--- Whether two different elements have different images, and their product has the product of their images as its image.
+-- Whether the two elements, if they are different, have different images, and whether the image of their product is the product of their images.
 unfoldable pub keeps : Product → Product → List ℕ → List ℕ → Bool
 keeps s t f l =
     let products = eqb (at f (s (at l 1) (at l 2))) (t (at f (at l 1)) (at f (at l 2))) in

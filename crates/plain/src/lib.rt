@@ -14,7 +14,7 @@ ghost use Rattle.semigroups.specs.Maps.{isEmbedding, isMap, maps, next, earlies
 ghost use Rattle.plain.specs.InnerEnumeration.{numbered, keeps, isFound, plainKind};
 ghost use Rattle.plain.specs.InnerSaid.{saidOf};
 
-// The product i·j: rows and columns count from 1.
+// Returns the product i·j: rows and columns count from 1.
 pub fn product(cells: &[u8], n: usize, i: usize, j: usize) -> usize
     requires { ⌜ Filled n (now cells) ⌝ ∗ ⌜ Element n i ⌝ ∗ ⌜ Element n j ⌝ }
     ensures answer { λ r. ⌜ r ≡ product n (now (cells .entry)) i j ⌝ }
@@ -25,7 +25,7 @@ pub fn product(cells: &[u8], n: usize, i: usize, j: usize) -> usize
 
 // ---- all lists
 
-// How many lists of m entries from 1 to n there are.
+// Returns how many lists of m entries from 1 to n there are.
 pub fn number_of_lists(m: usize, n: usize) -> usize
     requires { ⌜ (m ≤ 9) × (n ≤ 120) ⌝ }
     ensures answer { λ r. ⌜ r ≡ n ^ m ⌝ }
@@ -54,7 +54,7 @@ pub fn write_list(list: &mut [u8], n: usize, k: usize)
     }
 }
 
-// List number k of all lists of m entries from 1 to n, at the start of an array; the bytes behind it are 0.
+// Returns list number k of all lists of m entries from 1 to n, at the start of an array; the bytes after it are 0.
 pub fn list_number(m: usize, n: usize, k: usize) -> [u8; 9]
     requires { ⌜ m ≤ 9 ⌝ ∗ ⌜ Element 120 n ⌝ ∗ ⌜ k < n ^ m ⌝ }
     ensures list { λ r. ⌜ r ≡ numbered m n k ++ drop m (replicate 9 0) ⌝ }
@@ -64,7 +64,7 @@ pub fn list_number(m: usize, n: usize, k: usize) -> [u8; 9]
     list
 }
 
-// Whether list a is earlier than list b, of the same length.
+// Returns whether list a is earlier than list b, which has the same length.
 fn earlier(a: &[u8], b: &[u8]) -> bool
     requires { ⌜ length (now a) ≡ length (now b) ⌝ }
     ensures answer { λ r. ⌜ r ≡ earlier (now (a .entry)) (now (b .entry)) ⌝ }
@@ -83,7 +83,7 @@ fn earlier(a: &[u8], b: &[u8]) -> bool
 
 // ---- tables
 
-// The number of the failed question, or 0, and the cell or the triple.
+// The answer to the questions about a table: the number of the failed question, or 0, and the cell or the triple.
 pub struct Said {
     pub number: usize,
     pub first: usize,
@@ -91,7 +91,7 @@ pub struct Said {
     pub third: usize,
 }
 
-// A question that says at most one value.
+// Returns the answer of a question that fails with at most one value.
 pub fn failed(number: usize, value: usize) -> Said
     ensures answer { λ r. ⌜ r ≡ record { number = number; first = value; second = 0; third = 0 } ⌝ }
 {
@@ -103,7 +103,7 @@ pub fn failed(number: usize, value: usize) -> Said
     }
 }
 
-// The first cell that is not 1 to n, counted from 1, or 0.
+// Returns the first cell that is not 1 to n, counted from 1, or 0 if there is none.
 fn wrong_cell(cells: &[u8], n: usize) -> usize
     ensures answer { λ r. ⌜ r ≡ Option·getD (badCell n (now (cells .entry))) 0 ⌝ }
 {
@@ -121,7 +121,7 @@ fn wrong_cell(cells: &[u8], n: usize) -> usize
     0
 }
 
-// Whether a triple of elements associates.
+// Returns whether a triple of elements associates.
 fn associates(cells: &[u8], n: usize, triple: &[u8; 3]) -> bool
     requires { ⌜ Filled n (now cells) ⌝ ∗ ⌜ IsList 3 n (now triple) ⌝ }
     ensures answer { λ r. ⌜ r ≡ associates (product n (now (cells .entry))) (at (now (triple .entry)) 1) (at (now (triple .entry)) 2) (at (now (triple .entry)) 3) ⌝ }
@@ -134,7 +134,7 @@ fn associates(cells: &[u8], n: usize, triple: &[u8; 3]) -> bool
     product(cells, n, ij, k) == product(cells, n, i, jk)
 }
 
-// Question 4 of a table: every triple in list order.
+// Asks question 4 of a table: goes through every triple in list order, and returns the first that fails.
 fn judge_triples(cells: &[u8], n: usize) -> Said
     requires { ⌜ Filled n (now cells) ⌝ }
     ensures answer { λ r. ⌜ r ≡ saidOf (Option·map (λ l. no 4 l) (badTriple n (product n (now (cells .entry))))) ⌝ }
@@ -157,7 +157,7 @@ fn judge_triples(cells: &[u8], n: usize) -> Said
     failed(0, 0)
 }
 
-// The four questions about a table.
+// Asks the four questions about a table, and returns the first that fails.
 pub fn judge(cells: &[u8], n: usize) -> Said
     ensures answer { λ r. ⌜ r ≡ saidOf (tableRefusal n (now (cells .entry))) ⌝ }
 {
@@ -179,7 +179,7 @@ pub fn judge(cells: &[u8], n: usize) -> Said
 
 // ---- maps
 
-// The image of element i.
+// Returns the image of element i.
 fn image(map: &[u8], i: usize) -> usize
     requires { ⌜ Element (length (now map)) i ⌝ }
     ensures answer { λ r. ⌜ r ≡ at (now (map .entry)) i ⌝ }
@@ -187,7 +187,7 @@ fn image(map: &[u8], i: usize) -> usize
     map[i - 1] as usize
 }
 
-// Whether two different elements have different images, and their product has the product of their images.
+// Returns whether the two elements, if they are different, have different images, and whether the image of their product is the product of their images.
 fn keeps(source: &[u8], m: usize, target: &[u8], n: usize, map: &[u8], pair: &[u8; 2]) -> bool
     requires { ⌜ Filled m (now source) ⌝ ∗ ⌜ Filled n (now target) ⌝ ∗ ⌜ IsList m n (now map) ⌝ ∗ ⌜ IsList 2 m (now pair) ⌝ }
     ensures answer { λ r. ⌜ r ≡ keeps (product m (now (source .entry))) (product n (now (target .entry))) (now (map .entry)) (now (pair .entry)) ⌝ }
@@ -201,7 +201,7 @@ fn keeps(source: &[u8], m: usize, target: &[u8], n: usize, map: &[u8], pair: &[u
     ((i == j) | (x != y)) & kept
 }
 
-// Whether a list of m elements of the target is an embedding.
+// Returns whether a list of m elements of the target is an embedding.
 fn is_embedding(source: &[u8], m: usize, target: &[u8], n: usize, map: &[u8]) -> bool
     requires { ⌜ Filled m (now source) ⌝ ∗ ⌜ Filled n (now target) ⌝ ∗ ⌜ IsList m n (now map) ⌝ }
     ensures answer { λ r. ⌜ r ≡ isEmbedding m (product m (now (source .entry))) n (product n (now (target .entry))) (now (map .entry)) ⌝ }
@@ -219,7 +219,7 @@ fn is_embedding(source: &[u8], m: usize, target: &[u8], n: usize, map: &[u8]) ->
     true
 }
 
-// Whether it is a map of the kind asked: an isomorphism, or an embedding.
+// Returns whether a list is a map of the kind asked for: an isomorphism, or an embedding.
 fn is_map(isomorphisms: bool, source: &[u8], m: usize, target: &[u8], n: usize, map: &[u8]) -> bool
     requires { ⌜ Filled m (now source) ⌝ ∗ ⌜ Filled n (now target) ⌝ ∗ ⌜ IsList m n (now map) ⌝ }
     ensures answer { λ r. ⌜ r ≡ isMap (plainKind isomorphisms) m (product m (now (source .entry))) n (product n (now (target .entry))) (now (map .entry)) ⌝ }
@@ -227,7 +227,7 @@ fn is_map(isomorphisms: bool, source: &[u8], m: usize, target: &[u8], n: usize, 
     (!isomorphisms | (m == n)) & is_embedding(source, m, target, n, map)
 }
 
-// Whether list number k is a map of the kind that is later than the list `after`.
+// Returns whether list number k is a map of the kind that is later than the list `after`.
 fn is_later_map(
     isomorphisms: bool,
     source: &[u8],
@@ -244,7 +244,7 @@ fn is_later_map(
     is_map(isomorphisms, source, m, target, n, &list[..m]) & earlier(after, &list[..m])
 }
 
-// The earliest map of the kind that is later than the list `after`, written to `map`; or false, and `map` keeps its bytes.
+// Writes the earliest map of the kind that is later than the list `after` to `map`, and returns true; or returns false, and `map` keeps its bytes.
 pub fn next_map(
     isomorphisms: bool,
     source: &[u8],

@@ -1,5 +1,5 @@
-// Reads source.csv and target.csv from the folder that it is run in, and prints the first embedding of the one table in the other, none, or why a
-// file is refused. What is printed is proved in crate `output`, from the bytes of the files; here they are read, and the text is written.
+// Reads source.csv and target.csv from the folder that it is run in, and prints the first embedding of the one table in the other, none, or why a file is
+// refused. Crate `output` proves what is printed, from the bytes of the files; this file only reads the files and writes the text.
 ghost use Prim.Native.Nat.{_<_};
 ghost use lib.ListN.{length};
 ghost use Rattle.io.specs.Counts.{Counts};
@@ -8,7 +8,7 @@ use libc::STDOUT_FILENO;
 use tables::limits::FILE;
 use tables::limits::OUTPUT;
 
-// Reads a file to `text` and answers how many bytes came. A file that can't be opened or read counts as empty.
+// Reads a file to `text` and returns how many bytes were read. A file that can't be opened or read counts as empty.
 fn read_file(name: &[u8], text: &mut [u8; FILE]) -> usize
     requires room { ⌜ longest < length (now text) ⌝ }
     ensures count { λ r. ⌜ Counts r (now (text .exit)) ⌝ }

@@ -8,7 +8,7 @@ use lib.Dec.{eqb, leb}
 use Rattle.semigroups.specs.Lists.{at, elements, all, count}
 
 module _ (lo hi : List ℕ) where
-  -- Every bit of row b is one of row c.
+  -- Whether every bit of row b is also in row c.
   unfoldable pub liesInside : ℕ → ℕ → Bool
   liesInside b c = let high = eqb (bitAnd (at hi b) (at hi c)) (at hi b) in eqb (bitAnd (at lo b) (at lo c)) (at lo b) && high
 

@@ -37,19 +37,19 @@ unfoldable pub word : (ℕ → Bool) → ℕ → ℕ → ℕ
 word p from zero = 0
 word p from (suc k) = word p from k + cond (p (from + k)) (2 ^ k) 0
 
--- The row of a test of n target elements.
+-- The row of those of n target elements that pass a test.
 unfoldable pub packedRow : ℕ → (ℕ → Bool) → Row
 packedRow n p = record { lo = word p 1 (min n 60); hi = word p 61 (n - 60) }
 
--- Words with the bits of one more word asked of the entry of c.
+-- The words, with the entry of c masked by one more word.
 unfoldable pub masked : List ℕ → ℕ → ℕ → List ℕ
 masked words c w = set words (c - 1) (bitAnd (at words c) w)
 
--- The row of v alone.
+-- The row that holds v alone.
 unfoldable pub singleRow : ℕ → Row
 singleRow v = packedRow 120 (λ y. eqb y v)
 
--- Every bit of row a is one of row b.
+-- Every bit of row a is also in row b.
 abbrev pub Inside : Row → Row → Type 0
 Inside a b = (bitAnd (a .lo) (b .lo) ≡ a .lo) × (bitAnd (a .hi) (b .hi) ≡ a .hi)
 
@@ -65,6 +65,6 @@ Shrinks lo hi newLo newHi = (c : ℕ) → Element 120 c → Inside (rowOf newLo 
 abbrev pub Forced : ℕ → ℕ → List ℕ → List ℕ → List ℕ → List ℕ → Type 0
 Forced c v lo hi newLo newHi = (newLo ≡ masked lo c (singleRow v .lo)) × (newHi ≡ masked hi c (singleRow v .hi))
 
--- In each of the first m rows the elements that were there, are at most n and are marked; the rows above m as they were.
+-- Each of the first m rows has exactly those of its elements that are at most n and marked; the rows above m are as they were.
 abbrev pub Marked : ℕ → ℕ → List ℕ → (ℕ → ℕ → Bool) → (ℕ → ℕ → Bool) → Type 0
 Marked m n scratch old new = (c y : ℕ) → Element 120 c → Element 120 y → new c y ≡ (old c y && cond (leb c m) (leb y n && marked n scratch c y) true)

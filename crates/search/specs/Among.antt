@@ -1,5 +1,5 @@
--- A call of a search for embeddings among given pairs: from all that is lent to all that is said and every byte that is left.
--- No byte of the pairs changes (RULES 11).
+-- A call of a search for embeddings among given pairs: from all that is lent to the answer and to every byte that is left. No byte of the pairs changes
+-- (RULES 11).
 -- Assumes nothing.
 use mathlib.Core.List.{List, [], _∷_, _++_}
 use mathlib.Core.Option.{Option}
@@ -14,10 +14,11 @@ use Rattle.semigroups.specs.Maps.{Ask, earliest, Sought, sought}
 use Rattle.search.specs.Calls.{Lent, Called, called}
 use Rattle.search.specs.Allowed.{allowed, allowedCandidate}
 
--- The questions of a search; then 70: do the pairs have at least the bytes that m × n bits take?
+-- The questions of a search among given pairs: those of a search; then 70, do the pairs have at least the bytes that m × n bits take?
 abbrev pub amongQuestions : ℕ → List ℕ → ℕ → List ℕ → ℕ → ℕ → ℕ → List Question
 amongQuestions m source n target mapLength scratchLength pairsLength = searchQuestions m source n target mapLength scratchLength ++ ask 70 (leb (scratchSize m n) pairsLength) ∷ []
 
+-- The refusal of a call with tables, map, scratch and pairs of these lengths, if a question fails.
 unfoldable pub amongRefusal : ℕ → List ℕ → ℕ → List ℕ → ℕ → ℕ → ℕ → Option Refusal
 amongRefusal m source n target mapLength scratchLength pairsLength = firstNo (amongQuestions m source n target mapLength scratchLength pairsLength)
 

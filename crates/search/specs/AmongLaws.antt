@@ -21,7 +21,7 @@ use Rattle.search.specs.Calls.{Lent, lend, called, call}
 use Rattle.search.specs.WantedLaws.{Passes, Wanted}
 use Rattle.search.specs.Among.{refusalAmong, callAmong}
 
--- What a search needs, and at least the bytes of pairs that m × n bits take.
+-- What passes the questions: what a search needs, and at least the bytes of pairs that m × n bits take.
 pub record PassesAmong (pairs : List ℕ) (l : Lent) : Type 0 where
   pub search : Passes l
   pub pairs-room : scratchSize (l .m) (l .n) ≤ length pairs
@@ -30,7 +30,7 @@ pub record PassesAmong (pairs : List ℕ) (l : Lent) : Type 0 where
 abbrev pub Allows : ℕ → ℕ → List ℕ → List ℕ → Type 0
 Allows m n pairs f = (i : ℕ) → Element m i → marked n pairs i (at f i) ≡ true
 
--- An embedding that is asked for, and that the pairs allow.
+-- An embedding that is asked for and that the pairs allow.
 abbrev pub WantedAmong : List ℕ → Lent → Ask → List ℕ → Type 0
 WantedAmong pairs l ask f = Wanted embeddings l ask f × Allows (l .m) (l .n) pairs f
 
@@ -38,7 +38,7 @@ WantedAmong pairs l ask f = Wanted embeddings l ask f × Allows (l .m) (l .n) pa
 abbrev pub AllMarked : List ℕ → Lent → Type 0
 AllMarked pairs l = (i j : ℕ) → Element (l .m) i → Element (l .n) j → marked (l .n) pairs i j ≡ true
 
--- The pairs of f alone are marked.
+-- Only the pairs of f are marked.
 abbrev pub OnlyOf : List ℕ → List ℕ → Lent → Type 0
 OnlyOf f pairs l = (i j : ℕ) → Element (l .m) i → Element (l .n) j → (marked (l .n) pairs i j ≡ true) ↔ (at f i ≡ j)
 
@@ -46,12 +46,12 @@ OnlyOf f pairs l = (i j : ℕ) → Element (l .m) i → Element (l .n) j → (ma
 abbrev pub Fewer : List ℕ → List ℕ → Lent → Type 0
 Fewer few many l = (i j : ℕ) → Element (l .m) i → Element (l .n) j → marked (l .n) few i j ≡ true → marked (l .n) many i j ≡ true
 
--- The two have the same pairs marked.
+-- The same pairs are marked in both.
 abbrev pub SamePairs : List ℕ → List ℕ → Lent → Type 0
 SamePairs one other l = (i j : ℕ) → Element (l .m) i → Element (l .n) j → marked (l .n) one i j ≡ marked (l .n) other i j
 
 pub record AmongLaws : Type 0 where
-  -- A call is refused exactly where a question fails, and says the earliest one's refusal.
+  -- A call is refused exactly if a question fails, and it says the refusal of the earliest.
   pub refused-exactly : (ask : Ask) (pairs : List ℕ) (l : Lent) (r : Refusal) → (callAmong ask pairs l .says ≡ refused r) ↔ (refusalAmong pairs l ≡ some r)
   -- A refused call changes no lent byte.
   pub refused-unchanged : (ask : Ask) (pairs : List ℕ) (l : Lent) (r : Refusal) → refusalAmong pairs l ≡ some r
@@ -59,27 +59,27 @@ pub record AmongLaws : Type 0 where
   -- An embedding is found exactly if it is the earliest that is wanted and allowed.
   pub found-exactly : (ask : Ask) (pairs : List ℕ) (l : Lent) → PassesAmong pairs l → (f : List ℕ)
       → ((callAmong ask pairs l .says ≡ gives found) × (callAmong ask pairs l .mapBytes ≡ f)) ↔ Earliest (WantedAmong pairs l ask) f
-  -- There is none exactly if none is wanted and allowed.
+  -- The answer is none exactly if no embedding is wanted and allowed.
   pub nothing-exactly : (ask : Ask) (pairs : List ℕ) (l : Lent) → PassesAmong pairs l
       → (callAmong ask pairs l .says ≡ gives nothing) ↔ ((f : List ℕ) → WantedAmong pairs l ask f → ⊥)
-  -- With all pairs marked the call is that of a search for embeddings, to the byte, whatever else is lent.
+  -- If all pairs are marked, the call is that of a search for embeddings, to the byte, whatever else is lent.
   pub all-pairs : (ask : Ask) (pairs : List ℕ) (l : Lent) → AllMarked pairs l → callAmong ask pairs l ≡ call embeddings ask l
-  -- With the pairs of one embedding alone that embedding is found.
+  -- If only the pairs of one embedding are marked, that embedding is found.
   pub one-embedding : (pairs : List ℕ) (l : Lent) → PassesAmong pairs l
       → (f : List ℕ) → Embedding (l .m) (product (l .m) (l .source)) (l .n) (product (l .n) (l .target)) f → OnlyOf f pairs l
       → (callAmong first pairs l .says ≡ gives found) × (callAmong first pairs l .mapBytes ≡ f)
-  -- Fewer pairs never give an earlier embedding: where they give one, more pairs give the same or an earlier one.
+  -- Fewer pairs never give an earlier embedding: if they give one, more pairs give that one or an earlier one.
   pub fewer-pairs : (ask : Ask) (few many : List ℕ) (l : Lent) → PassesAmong few l → PassesAmong many l → Fewer few many l → callAmong ask few l .says ≡ gives found
       → (callAmong ask many l .says ≡ gives found)
       × ((callAmong ask many l .mapBytes ≡ callAmong ask few l .mapBytes) ⊎ (earlier (callAmong ask many l .mapBytes) (callAmong ask few l .mapBytes) ≡ true))
-  -- Nothing of the pairs counts but which of them are marked: no later byte and no unused bit.
+  -- Only which pairs are marked matters: no later byte and no unused bit does.
   pub same-pairs : (ask : Ask) (one other : List ℕ) (l : Lent) → scratchSize (l .m) (l .n) ≤ length one → scratchSize (l .m) (l .n) ≤ length other → SamePairs one other l
       → callAmong ask one l ≡ callAmong ask other l
 
 -- ---- examples
 
--- Left in itself: with pairs that allow the exchange alone; with other unused bits and a later byte; after the exchange; with pairs that allow nothing; and
--- with no byte of pairs.
+-- Calls on the table left and itself: with pairs that allow only the exchange; with other unused bits and a later byte; after the exchange; with pairs that
+-- allow nothing; and with no byte of pairs.
 abbrev pub leftInLeft : List ℕ → Lent
 leftInLeft bytes = lend (left .cells) 2 (left .cells) 2 bytes (0 ∷ 7 ∷ [])
 

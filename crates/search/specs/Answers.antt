@@ -1,5 +1,4 @@
--- What the answers of a search mean (RULES 7 and 9.4): what is said, and for each refusal the number, the side and the values.
--- Assumes nothing.
+-- What the answers of a search mean (RULES 7 and 9.4): the answer, and for each refusal the number, the side and the values. Assumes nothing.
 use mathlib.Core.Bool.{Bool, true, false}
 use mathlib.Core.List.{[]}
 use mathlib.Core.Option.{Option, none, some}
@@ -20,31 +19,36 @@ use Rattle.search.specs.declared.SearchAnswer.the-variants as answer
 use Rattle.search.specs.declared.LimitedAnswer.{LimitedAnswer}
 use Rattle.search.specs.declared.LimitedAnswer.the-variants as limited
 
+-- The kind of maps that a value of the code stands for.
 abbrev pub kindOf : Kind → maps.Kind
 kindOf Embeddings = maps.embeddings
 kindOf Isomorphisms = maps.isomorphisms
 kindOf Reversed = maps.reversed
 
--- 1 to 4 name their side and carry the cell or the triple; 5, 6 and 70 name none and carry nothing.
+-- The refusal of each fault. Questions 1 to 4 name their side and carry the cell or the triple; 5, 6 and 70 name no side and carry nothing.
 abbrev pub searchFaultRefusal : SearchFault → Refusal
 searchFaultRefusal (Table side fault) = naming (sideNumber side) (faultRefusal fault)
 searchFaultRefusal MapLength = no 5 []
 searchFaultRefusal ScratchLength = no 6 []
 searchFaultRefusal PairsLength = no 70 []
 
+-- The refusal, if the questions did not pass.
 abbrev pub questionsRefusal : Questions → Option Refusal
 questionsRefusal questions.Passed = none
 questionsRefusal (questions.Failed fault) = some (searchFaultRefusal fault)
 
+-- Found for true, none for false.
 abbrev pub soughtIf : Bool → maps.Sought
 soughtIf true = maps.found
 soughtIf false = maps.nothing
 
+-- What an answer of the code says.
 abbrev pub searchAnswerSays : SearchAnswer → Answer maps.Sought
 searchAnswerSays answer.Found = gives maps.found
 searchAnswerSays answer.Nothing = gives maps.nothing
 searchAnswerSays (answer.Refused fault) = refused (searchFaultRefusal fault)
 
+-- What an answer of the code says.
 abbrev pub limitedAnswerSays : LimitedAnswer → Answer Limited
 limitedAnswerSays (limited.Found trials) = gives (ended maps.found trials)
 limitedAnswerSays (limited.Nothing trials) = gives (ended maps.nothing trials)

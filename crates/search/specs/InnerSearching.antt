@@ -1,4 +1,5 @@
--- What the functions below the questions leave, with a limit or without. No contract of a call cites this. Assumes nothing.
+-- What the functions that a search calls once every question has passed return and leave, with a limit or without. No contract of an entry point cites this.
+-- Assumes nothing.
 use mathlib.Core.Bool.{Bool, true, false}
 use mathlib.Core.Option.{none, Option}
 use mathlib.Core.List.{List, []}
@@ -16,16 +17,16 @@ use Rattle.search.specs.declared.Limit.{Limit}
 use Rattle.search.specs.declared.Limit.the-variants.{Unlimited, Trials}
 use Rattle.search.specs.declared.Searched.{Searched}
 
--- The kinds for which the target is searched as it stands: embeddings, or with true isomorphisms.
+-- The kinds for which the target is searched as it is: embeddings, or with true isomorphisms.
 abbrev pub straight : Bool → maps.Kind
 straight false = maps.embeddings
 straight true = maps.isomorphisms
 
--- A call that no question refuses.
+-- What a call says and leaves once every question has passed.
 unfoldable pub answered : Kind → Ask → Lent → Called Sought
 answered kind ask l = leaving kind l none (sought (answerOf kind ask l)) (answerOf kind ask l)
 
--- What a search came to.
+-- The result of a search, from its three values in the code: whether it was stopped, whether it found a map, and its number of trials.
 abbrev pub endedUnless : Bool → Bool → ℕ → Limited
 endedUnless true found trials = stopped
 endedUnless false found trials = ended (soughtIf found) trials
@@ -33,17 +34,17 @@ endedUnless false found trials = ended (soughtIf found) trials
 abbrev pub searchedSays : Searched → Limited
 searchedSays r = endedUnless (r .stopped) (r .found) (r .trials)
 
--- What is said of the work; without a limit the number of its trials is not known and stands as 0.
+-- The result of the work under a limit; without a limit the trials are not counted and their number is 0.
 abbrev pub saidUnder : Limit → Work → Limited
 saidUnder Unlimited w = ended (sought (w .found)) 0
 saidUnder (Trials limit) w = limited limit w
 
--- The map that is found.
+-- The map that is found under a limit, or none.
 abbrev pub foundUnder : Limit → Work → Option (List ℕ)
 foundUnder Unlimited w = w .found
 foundUnder (Trials limit) w = foundWithin limit w
 
--- A search between accepted tables, for the first map, or with true for the next one after the bytes of the map buffer.
+-- The result of a search between accepted tables, for the first map, or with true for the next one after the bytes of the map buffer.
 unfoldable pub searched : Kind → Bool → Limit → Lent → Called Limited
 searched kind next limit l =
     let w = workOf kind (bounded next (l .mapBytes)) (l .m) (l .source) (l .n) (l .target) in

@@ -1,4 +1,4 @@
--- The kinds of maps (RULES 5; RULES 10), and which orders they fit. Assumes nothing.
+-- The kinds of maps (RULES 5 and 10), and which orders they fit. Assumes nothing.
 use mathlib.Core.Bool.{Bool}
 use Prim.Native.Nat.{ℕ}
 use lib.Dec.{eqb, leb}

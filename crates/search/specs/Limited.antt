@@ -1,5 +1,4 @@
--- A call of a search with a limit (RULES 9.4), and the work that it takes. One definition for every kind.
--- Assumes nothing.
+-- A call of a search with a limit (RULES 9.4), and the work that it takes. There is one definition for every kind. Assumes nothing.
 use mathlib.Core.Bool.{cond}
 use mathlib.Core.List.{List, []}
 use mathlib.Core.Option.{none}
@@ -11,13 +10,13 @@ use Rattle.semigroups.specs.Trials.{Work, work, counted, Limited, limited, foun
 use Rattle.search.specs.Kinds.{orderFits}
 use Rattle.search.specs.Calls.{Lent, Called, refusalOf, leaving}
 
--- The target's product as a search of the kind tests it: for reversed maps each product's image in the reversed order (RULES 10).
+-- The target's product as a search of the kind tests it: for reversed maps, with its factors exchanged (RULES 10).
 abbrev pub readBy : Kind → Product → Product
 readBy embeddings t = t
 readBy isomorphisms t = t
 readBy reversed t = turned t
 
--- The work of the search for a map of the kind. Where the orders rule a map out (m > n, and for isomorphisms m and n that differ) it is none.
+-- The work of the search for a map of the kind. If the orders rule a map out (m > n, or for isomorphisms m different from n), there is no trial and no map.
 unfoldable pub workOf : Kind → Ask → ℕ → List ℕ → ℕ → List ℕ → Work
 workOf kind ask m source n target =
     let s = product m source in

@@ -11,7 +11,7 @@ use Rattle.semigroups.specs.Cases.{swap, left, right, two}
 use Rattle.search.specs.Calls.{Lent, lend}
 use Rattle.search.specs.Limited.{firstWork, limitedCall}
 
--- swap in the degree 2 table takes four trials to the map `2,3`; the other way round the orders rule a map out.
+-- The search from swap to the degree 2 table takes four trials to the map `2,3`; in the other direction the orders rule a map out.
 abbrev pub swapInTwo : Lent
 swapInTwo = lend (swap .cells) 2 (two .cells) 4 (0 ∷ 0 ∷ []) (replicate 8 0)
 
@@ -24,7 +24,8 @@ LimitsExamples =
     × (limitedCall embeddings 4 swapInTwo .says ≡ gives (ended found 4)) × (limitedCall embeddings 4 swapInTwo .mapBytes ≡ 2 ∷ 3 ∷ [])
     × (limitedCall embeddings 0 twoInSwap .says ≡ gives (ended nothing 0)) × (limitedCall isomorphisms 0 swapInTwo .says ≡ gives (ended nothing 0))
 
--- Left onto right has a reversed map after two trials, and no candidate for a plain one; between two orders no reversed map is tried.
+-- From left onto right there is a reversed map after two trials, and no candidate for a plain one; between tables of different orders no reversed map is
+-- tried.
 abbrev pub leftOntoRight : Lent
 leftOntoRight = lend (left .cells) 2 (right .cells) 2 (0 ∷ 0 ∷ []) (replicate 4 0)
 

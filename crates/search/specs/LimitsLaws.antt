@@ -14,26 +14,26 @@ use Rattle.search.specs.WantedLaws.{Passes}
 use Rattle.search.specs.Kinds.{orderFits}
 use Rattle.search.specs.Limited.{firstWork, limitedCall}
 
--- What a search says, with the number of trials.
+-- The answer of a search, with the number of trials.
 abbrev pub afterTrials : ℕ → Answer Sought → Answer Limited
 afterTrials trials (refused r) = refused r
 afterTrials trials (gives found-or-not) = gives (ended found-or-not trials)
 
--- A call that needs `trials` trials.
+-- What is claimed of a call that needs `trials` trials.
 pub record Limits (kind : Kind) (l : Lent) (trials : ℕ) : Type 0 where
-  -- It is stopped exactly if the limit is below that.
+  -- It is stopped exactly if the limit is smaller than that.
   pub stopped-exactly : (limit : ℕ) → (limitedCall kind limit l .says ≡ gives stopped) ↔ (limit < trials)
-  -- Stopped, it keeps the map's bytes and fills scratch as "none" does.
+  -- If it is stopped, it keeps the bytes of the map and fills scratch as "none" does.
   pub stopped-keeps : (limit : ℕ) → limit < trials → limitedCall kind limit l ≡ record { says = gives stopped; mapBytes = l .mapBytes; scratch = call kind first l .scratch }
   -- Otherwise it says and leaves what the search without a limit does, with the exact number of trials.
   pub ended-exactly : (limit : ℕ) → trials ≤ limit
       → limitedCall kind limit l ≡ record { says = afterTrials trials (call kind first l .says); mapBytes = call kind first l .mapBytes; scratch = call kind first l .scratch }
-  -- A larger limit may turn "stopped" into an answer and never changes a map or a "none".
+  -- A larger limit may turn "stopped" into an answer, and never changes a map or a "none".
   pub larger : (a b : ℕ) → a ≤ b → (limitedCall kind a l .says ≡ gives stopped → ⊥) → limitedCall kind b l ≡ limitedCall kind a l
-  -- Where the orders rule a map out there is none, with 0 trials.
+  -- If the orders rule a map out, the answer is none, with 0 trials.
   pub unfit : orderFits kind (l .m) (l .n) ≡ false → (trials ≡ 0) × ((limit : ℕ) → limitedCall kind limit l .says ≡ gives (ended nothing 0))
 
--- This holds for every call that no question refuses, of every kind; a refused call says its refusal and changes no byte.
+-- What `Limits` claims holds for every call that no question refuses, of every kind; a refused call says its refusal and changes no byte.
 pub record LimitsTheorem : Type 0 where
   pub answered : (kind : Kind) (l : Lent) → Passes l → Limits kind l (firstWork kind l .trials)
   pub refused-unchanged : (kind : Kind) (limit : ℕ) (l : Lent) (r : Refusal) → refusalOf l ≡ some r

@@ -17,7 +17,7 @@ use Rattle.semigroups.specs.WalksLaws.{Outcome, held, walk, claim, answered, fi
 use Rattle.search.specs.Calls.{Lent, call}
 use Rattle.search.specs.WantedLaws.{Passes}
 
--- What a call of a walk lends beside the map buffer.
+-- What a call of a walk lends besides the map buffer.
 pub record Beside : Type 0 where
   pub source : List ℕ
   pub m : ℕ
@@ -25,7 +25,7 @@ pub record Beside : Type 0 where
   pub n : ℕ
   pub scratch : List ℕ
 
--- The call on the map buffer as the last one left it.
+-- All that a call lends on the map buffer as the last call left it.
 abbrev pub lentOn : Beside → List ℕ → Lent
 lentOn c bytes = record { source = c .source; m = c .m; target = c .target; n = c .n; mapBytes = bytes; scratch = c .scratch }
 
@@ -61,13 +61,13 @@ pub record Demand3 (m : ℕ) (source target : List ℕ) : Type 0 where
   -- The full list is every isomorphism once, earliest first.
   pub increasing : Increasing (fullList m source target)
   pub exactly : (f : List ℕ) → List·Memᴰ f (fullList m source target) ↔ Isomorphism m (product m source) m (product m target) f
-  -- One claim about every walk: the calls not refused find its entries in turn and then say "none" each time; a refused one says its refusal,
-  -- is not counted and changes no byte.
+  -- One claim covers every walk: the calls that are not refused find the entries in turn and then say "none" each time; a refused call says its refusal, is
+  -- not counted and changes no byte.
   pub walks : (cs : List Beside) → IsWalk m source target cs → walk nextIsomorphism cs (zeros m) ≡ claim (refusal m) (zeros m) (fullList m source target) 0 cs
-  -- After a walk with u calls not refused the buffer holds entry u, or the last entry; the zeros where there is none.
+  -- After a walk in which u calls were not refused, the buffer holds entry u, or the last entry if there are fewer; it holds the zeros if there is no entry.
   pub ends : (cs : List Beside) → IsWalk m source target cs
       → finally (zeros m) (walk nextIsomorphism cs (zeros m)) ≡ held (zeros m) (fullList m source target) (answered (refusal m) 0 cs)
-  -- A call is refused exactly where a question gets "no", and says the earliest one's refusal.
+  -- A call is refused exactly if a question gets "no", and it says the refusal of the earliest.
   pub refused-exactly : (c : Beside) (bytes : List ℕ) → length bytes ≡ m → (r : Refusal) → (nextIsomorphism c bytes .says ≡ refused r) ↔ (refusal m c ≡ some r)
   -- A refused call changes no byte of the map buffer or of scratch.
   pub refused-unchanged : (c : Beside) (bytes : List ℕ) → length bytes ≡ m → (r : Refusal) → refusal m c ≡ some r
@@ -75,9 +75,9 @@ pub record Demand3 (m : ℕ) (source target : List ℕ) : Type 0 where
   -- Only a failed question refuses: a call is not refused exactly if both tables that it lends are accepted, the map buffer has a byte for each
   -- element of the source, and scratch has at least the bytes that its marks take.
   pub answered-exactly : (c : Beside) (bytes : List ℕ) → ((r : Refusal) → nextIsomorphism c bytes .says ≡ refused r → ⊥) ↔ Passes (lentOn c bytes)
-  -- The full list is empty or as long as the first table's onto itself.
+  -- The full list is empty, or as long as that of the first table onto itself.
   pub empty-or-as-long : (fullList m source target ≡ []) ⊎ (length (fullList m source target) ≡ length (fullList m source source))
-  -- Any entry done after each entry of that list gives every isomorphism exactly once and nothing else.
+  -- Any entry done after each entry of that list gives every isomorphism exactly once, and nothing else.
   pub each-once : (f : List ℕ) → List·Memᴰ f (fullList m source target) → EachOnce f (fullList m source source) (fullList m source target)
   -- A table's full list onto itself has the identity, composites in either order, and inverses.
   pub onto-itself : IsGroup m (fullList m source source)

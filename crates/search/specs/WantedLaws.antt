@@ -12,17 +12,17 @@ use Rattle.semigroups.specs.MapsLaws.{IsMap}
 use Rattle.semigroups.specs.PassingLaws.{SearchPasses}
 use Rattle.search.specs.Calls.{Lent, lend, call}
 
--- Two accepted tables, a map buffer of m bytes and a scratch buffer that is long enough.
+-- What passes the questions: two accepted tables, a map buffer of m bytes and a scratch buffer that is long enough.
 abbrev pub Passes : Lent → Type 0
 Passes l = SearchPasses (l .m) (l .source) (l .n) (l .target) (length (l .mapBytes)) (length (l .scratch))
 
--- First: a map of the kind asked for between the two tables. Next: one that is later than these bytes.
+-- What is wanted. First: a map of the kind asked for between the two tables. Next: one that is later than these bytes.
 abbrev pub Wanted : Kind → Lent → Ask → List ℕ → Type 0
 Wanted kind l first f = IsMap kind (l .m) (product (l .m) (l .source)) (l .n) (product (l .n) (l .target)) f
 Wanted kind l (next bytes) f = IsMap kind (l .m) (product (l .m) (l .source)) (l .n) (product (l .n) (l .target)) f × (earlier bytes f ≡ true)
 
--- What is said and the map that is left go by the tables and the map buffer alone (RULES 8.4): two
--- calls that lend different scratch buffers, both long enough, say the same and leave the same map.
+-- The answer and the map that is left depend only on the tables and the map buffer (RULES 8.4): two calls that lend different scratch buffers, both long
+-- enough, say the same and leave the same map.
 abbrev pub ScratchApart : Type 0
 ScratchApart =
     (kind : Kind) (ask : Ask) (source : List ℕ) (m : ℕ) (target : List ℕ) (n : ℕ) (bytes one other : List ℕ) → Passes (lend source m target n bytes one) → Passes (lend source m target n bytes other)

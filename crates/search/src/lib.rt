@@ -70,7 +70,7 @@ pub enum SearchAnswer {
     Refused(SearchFault),
 }
 
-// What a search with a limit answers: found or nothing, with the number of trials; or that it needs more trials than the limit.
+// What a search with a limit answers: found or nothing, with the number of trials; or stopped, because it needs more trials than the limit.
 pub enum LimitedAnswer {
     Found(u32),
     Nothing(u32),
@@ -84,7 +84,7 @@ enum Limit {
     Trials(u32),
 }
 
-// What a search comes to: whether it found a map; whether its limit stopped it; and its number of trials, which is 0 where none are counted.
+// What a search comes to: whether it found a map; whether its limit stopped it; and its number of trials, which is 0 if they are not counted.
 struct Searched {
     found: bool,
     stopped: bool,
@@ -303,7 +303,7 @@ fn search_kind(
 }
 
 // Writes the first map of the kind between two accepted tables to `map`, or with `next` the next one after the bytes of `map`. Returns whether there is one.
-// For callers that have asked the questions.
+// It is for callers that have asked the questions.
 pub fn find(
     kind: Kind,
     next: bool,

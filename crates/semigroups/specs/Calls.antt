@@ -1,5 +1,5 @@
--- What a call says behind its questions, and what it leaves in a buffer that it writes (RULES 7.1: the first "no" ends the call, with
--- every lent byte unchanged). Assumes nothing.
+-- What a call says once every question has passed, and what it leaves in a buffer that it writes (RULES 7.1: the first "no" ends the call, with every lent
+-- byte unchanged). Assumes nothing.
 use mathlib.Core.List.{List, _++_}
 use mathlib.Core.Option.{Option, none, some}
 use Prim.Native.Nat.{ℕ}
@@ -11,6 +11,7 @@ pub data Answer (A : Type 0) : Type 0 where
   refused : Refusal → Answer A
   gives : A → Answer A
 
+-- The answer of a call: its refusal if there is one, else this value.
 abbrev pub givenUnless : {A : Type 0} → Option Refusal → A → Answer A
 givenUnless none value = gives value
 givenUnless (some r) value = refused r
@@ -19,12 +20,12 @@ givenUnless (some r) value = refused r
 abbrev pub overwritten : List ℕ → List ℕ → List ℕ
 overwritten written before = written ++ drop (length written) before
 
--- A buffer after a call that is to write these bytes; a refusal changes none.
+-- A buffer after a call that writes these bytes unless it is refused; a refusal changes no byte.
 abbrev pub writtenUnless : Option Refusal → List ℕ → List ℕ → List ℕ
 writtenUnless none written before = overwritten written before
 writtenUnless (some r) written before = before
 
--- A map buffer after a search: the map that it finds; where it finds none or is refused, no byte changes.
+-- A map buffer after a search: it holds the map that is found; if there is none or the call is refused, no byte changes.
 abbrev pub mapUnless : Option Refusal → Option (List ℕ) → List ℕ → List ℕ
 mapUnless none (some f) before = f
 mapUnless none none before = before

@@ -15,10 +15,12 @@ use Rattle.semigroups.specs.Transformations.{transformationOrder, transf
 
 -- ---- the tables
 
+-- A table: its order and its cells.
 pub record Table : Type 0 where
   pub order : ℕ
   pub cells : List ℕ
 
+-- The tables of RULES 23.1: one, swap, left, right, null3, two and mat5.
 abbrev pub one : Table
 one = record { order = 1; cells = 1 ∷ [] }
 
@@ -38,15 +40,17 @@ null3 = record { order = 3; cells = replicate 9 1 }
 unfoldable pub two : Table
 two = record { order = transformationOrder 2; cells = transformationCells 2 }
 
--- 1603.06204, example 5.2.
+-- The table of arXiv 1603.06204, example 5.2.
 abbrev pub mat5 : Table
 mat5 = record { order = 5; cells = 1 ∷ 1 ∷ 1 ∷ 1 ∷ 1 ∷ 1 ∷ 2 ∷ 3 ∷ 2 ∷ 3 ∷ 1 ∷ 1 ∷ 1 ∷ 2 ∷ 3 ∷ 1 ∷ 4 ∷ 5 ∷ 4 ∷ 5 ∷ 1 ∷ 1 ∷ 1 ∷ 4 ∷ 5 ∷ [] }
 
+-- All of these tables.
 abbrev pub tables : List Table
 tables = one ∷ swap ∷ left ∷ right ∷ null3 ∷ two ∷ mat5 ∷ []
 
 -- ---- the queries
 
+-- What a case asks.
 pub data Query : Type 0 where
   isAccepted : Table → Query
   indexPeriodOf : Table → ℕ → Query
@@ -54,12 +58,14 @@ pub data Query : Type 0 where
   -- the maps of a kind from one table to another, asked for in turn
   mapsOf : Kind → Table → Table → List Ask → Query
 
+-- What a case says.
 pub data Result : Type 0 where
   aRefusal : Option Refusal → Result
   anIndexPeriod : IndexPeriod → Result
   aProfile : Profile → Result
   mapsInTurn : List (Option (List ℕ)) → Result
 
+-- The result of a query, by the definitions that contracts cite.
 unfoldable pub result : Query → Result
 result (isAccepted t) = aRefusal (tableRefusal (t .order) (t .cells))
 result (indexPeriodOf t a) = anIndexPeriod (indexPeriod (t .order) (product (t .order) (t .cells)) a)
@@ -68,10 +74,12 @@ result (mapsOf kind s t asks) =
     let l = maps kind (s .order) (product (s .order) (s .cells)) (t .order) (product (t .order) (t .cells)) in
     mapsInTurn (map (λ ask. earliest ask l) asks)
 
+-- A case: its query, and the result that RULES 23.2 gives.
 pub record Case : Type 0 where
   pub asks : Query
   pub says : Result
 
+-- The thirteen cases of RULES 23.2.
 unfoldable pub cases : List Case
 cases =
     record { asks = isAccepted (record { order = 2; cells = 2 ∷ 1 ∷ 1 ∷ 1 ∷ [] }); says = aRefusal (some (no 4 (1 ∷ 1 ∷ 2 ∷ []))) }
@@ -91,13 +99,14 @@ cases =
 
 -- ---- the claim that they share
 
+-- What is claimed of the thirteen cases.
 pub record Worked : Type 0 where
   pub thirteen : length cases ≡ 13
-  -- By the definitions each query's result is the one that stands beside it.
+  -- By the definitions, each query's result is the one that is given beside it.
   pub results : (c : Case) → List·Memᴰ c cases → result (c .asks) ≡ c .says
-  -- Each table that is named is accepted.
+  -- Each named table is accepted.
   pub accepted : (t : Table) → List·Memᴰ t tables → Accepted (t .order) (t .cells)
   -- The degree 2 table has the cells that RULES 23.1 prints.
   pub two-printed : two ≡ record { order = 4; cells = 1 ∷ 1 ∷ 4 ∷ 4 ∷ 1 ∷ 2 ∷ 3 ∷ 4 ∷ 1 ∷ 3 ∷ 2 ∷ 4 ∷ 1 ∷ 4 ∷ 1 ∷ 4 ∷ [] }
-  -- The tables of transformations (RULES 14.3): orders 1, 4, 27; cells 1, 16, 729.
+  -- The tables of transformations (RULES 14.3) have orders 1, 4 and 27, and 1, 16 and 729 cells.
   pub degrees-printed : map (λ d. transformationOrder d ∷ length (transformationCells d) ∷ []) (elements 3) ≡ (1 ∷ 1 ∷ []) ∷ (4 ∷ 16 ∷ []) ∷ (27 ∷ 729 ∷ []) ∷ []

@@ -14,7 +14,7 @@ use Rattle.semigroups.specs.Generated.{generated}
 abbrev pub Inside : ℕ → List ℕ → Type 0
 Inside n l = (x : ℕ) → List·Memᴰ x l → Element n x
 
--- The set P holds the list and every product of its own members.
+-- The set P contains the list and every product of its own members.
 pub record HoldsProducts (s : Product) (l : List ℕ) (P : ℕ → Type 0) : Type 0 where
   pub holds-list : (x : ℕ) → List·Memᴰ x l → P x
   pub holds-products : (x y : ℕ) → P x → P y → P (s x y)
@@ -24,17 +24,17 @@ pub record Smallest (s : Product) (l : List ℕ) (P : ℕ → Type 0) : Type 1 w
   pub holds : HoldsProducts s l P
   pub inside-others : (Q : ℕ → Type 0) → HoldsProducts s l Q → (x : ℕ) → P x → Q x
 
--- x is an entry of the list, or a product of entries taken from left to right, as ((a·b)·c)·d. Where the product is associative these are all that the
--- list generates.
+-- x is an entry of the list, or a product of entries taken from left to right, as ((a·b)·c)·d. If the product is associative, these are all that the list
+-- generates.
 pub data LeftProduct (s : Product) (l : List ℕ) : ℕ → Type 0 where
   entry : (x : ℕ) → List·Memᴰ x l → LeftProduct s l x
   further : (x y z : ℕ) → LeftProduct s l x → List·Memᴰ y l → z ≡ s x y → LeftProduct s l z
 
--- The list computes that set: it is the smallest, and whether x stands in the list says whether x is in the smallest set, both ways.
+-- The list `generated` is that set: it is the smallest, and x stands in the list exactly if x is in the smallest set.
 pub record Computes (n : ℕ) (s : Product) (l : List ℕ) : Type 1 where
   pub smallest : Smallest s l (λ x. List·Memᴰ x (generated n s l))
   pub agrees : (P : ℕ → Type 0) → Smallest s l P → (x : ℕ) → (member x (generated n s l) ≡ true) ↔ P x
 
--- This holds for every product that stays within the order, associative or not, and every list of elements.
+-- What `Computes` claims holds for every product that stays within the order, associative or not, and every list of elements.
 abbrev pub GeneratedTheorem : Type 1
 GeneratedTheorem = (n : ℕ) (s : Product) (l : List ℕ) → Closed n s → Inside n l → Computes n s l

@@ -1,5 +1,4 @@
--- What a function that marks candidates leaves in scratch.
--- Assumes nothing.
+-- What a function that marks candidates leaves in scratch. Assumes nothing.
 use mathlib.Core.Bool.{Bool}
 use mathlib.Core.List.{List}
 use Prim.Native.Nat.{ℕ}

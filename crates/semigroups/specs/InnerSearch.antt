@@ -1,7 +1,6 @@
--- The backtrack search of arXiv 1603.06204, section 3, as a function: elements are placed from 1 upward, images tried in rising order, each
--- placing tested before the next. It takes any candidates. What it finds is a theorem about it and no part of what first and next mean.
--- The paper prints φ(i)φ(k) for the undefined product that it means, φ(i)φ(j).
--- Assumes nothing.
+-- The backtrack search of arXiv 1603.06204, section 3, as a function: elements are placed from 1 upward, images are tried in rising order, and each placing
+-- is tested before the next. It takes any candidates. What it finds is a theorem about it and no part of what first and next mean. The paper prints φ(i)φ(k)
+-- for the undefined product, and means φ(i)φ(j). Assumes nothing.
 use mathlib.Core.Bool.{Bool, _&&_, not, cond}
 use mathlib.Core.List.{List, [], _∷_, _++_, map, List·Memᴰ}
 use mathlib.Core.Option.{Option, none, some}
@@ -15,7 +14,7 @@ use Rattle.semigroups.specs.Trials.{notBefore, passes}
 
 module _ (s t : Product) where
   module _ (candidate : ℕ → ℕ → Bool) (ask : Ask) where
-    -- x may be the image of the next element: it is a candidate, unused so far, and the list with it passes and is not too early.
+    -- Whether x may be the image of the next element: it is a candidate, unused so far, and the list with it passes and is not too early.
     unfoldable pub admits : List ℕ → ℕ → Bool
     admits p x =
         let late = notBefore ask (p ++ x ∷ []) in
@@ -31,18 +30,18 @@ module _ (s t : Product) where
 -- ---- what a search finds, whatever its test
 
 module _ (m : ℕ) (s : Product) (n : ℕ) (t : Product) (candidate : ℕ → ℕ → Bool) (ask : Ask) where
-  -- A map asked for: an embedding with its images among the candidates, late enough.
+  -- Whether a list is a map asked for: an embedding, with its images among the candidates, and late enough.
   unfoldable pub isWanted : List ℕ → Bool
   isWanted f =
       let late = beyond ask f in
       let among = all (λ i. candidate i (at f i)) (elements m) && late in
       isEmbedding m s n t f && among
 
-  -- The earliest one that begins with the list placed, where d elements are left to place. A search with any test that loses no map finds it.
+  -- The earliest map asked for that begins with the list placed, where d elements are left to place. A search finds it with any test that loses no map.
   unfoldable pub earliestBehind : ℕ → List ℕ → Option (List ℕ)
   earliestBehind d p = find isWanted (map (λ q. p ++ q) (lists d n))
 
--- What is placed so far: its entries are elements of the target, and no two are equal.
+-- What holds of the list placed so far: its entries are elements of the target, and no two are equal.
 pub record Placed (n : ℕ) (p : List ℕ) : Type 0 where
   pub entries : (x : ℕ) → List·Memᴰ x p → Element n x
   pub apart : NoRepeats p

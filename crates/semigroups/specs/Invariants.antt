@@ -6,7 +6,7 @@ use lib.Dec.{eqb, leb}
 use Rattle.semigroups.specs.Lists.{elements, sum, count, least}
 use Rattle.semigroups.specs.Tables.{Product}
 
--- Power k of a: the first power is a, each further one is the last one times a. Power 0, which nothing asks for, is a too.
+-- Power k of a: the first power is a, and each further power is the one before it times a. Power 0, which nothing asks for, is a too.
 unfoldable pub power : Product → ℕ → ℕ → ℕ
 power s a zero = a
 power s a (suc zero) = a
@@ -18,11 +18,11 @@ power s a (suc (suc k)) = s (power s a (suc k)) a
 unfoldable pub periodFrom : ℕ → Product → ℕ → ℕ → ℕ
 periodFrom n s a p = least n (λ r. eqb (power s a (p + r)) (power s a p))
 
--- The index of a: the first power that comes back.
+-- The index of a: the exponent of the first power that comes back.
 unfoldable pub index : ℕ → Product → ℕ → ℕ
 index n s a = least n (λ p. leb (periodFrom n s a p) n)
 
--- The period of a: after how many powers the index's power comes back.
+-- The period of a: after how many further powers that power comes back.
 unfoldable pub period : ℕ → Product → ℕ → ℕ
 period n s a = periodFrom n s a (index n s a)
 
@@ -34,15 +34,17 @@ idempotentPower n s a = power s a (least n (λ k. eqb (s (power s a k) (power s 
 
 -- ---- the index-period
 
+-- The index and the period of an element, and its idempotent power.
 pub record IndexPeriod : Type 0 where
   pub index : ℕ
   pub period : ℕ
   pub idempotent : ℕ
 
+-- The index-period of element a.
 unfoldable pub indexPeriod : ℕ → Product → ℕ → IndexPeriod
 indexPeriod n s a = record { index = index n s a; period = period n s a; idempotent = idempotentPower n s a }
 
--- Definition 3.3: two elements have the same index-period values. The idempotent power is an element number and no count: it is not compared.
+-- Definition 3.3: two elements have the same index-period values. The idempotent power is not compared, since it is an element and not a count.
 unfoldable pub sameIndexPeriod : IndexPeriod → IndexPeriod → Bool
 sameIndexPeriod a b = eqb (a .index) (b .index) && eqb (a .period) (b .period)
 
@@ -70,6 +72,7 @@ commuting n s a = count (λ b. eqb (s a b) (s b a)) (elements n)
 
 -- ---- the profile
 
+-- The profile of an element (definition 4.1; RULES 4.5): its index-period and five counts.
 pub record Profile : Type 0 where
   pub powers : IndexPeriod
   pub frequency : ℕ
@@ -78,6 +81,7 @@ pub record Profile : Type 0 where
   pub column : ℕ
   pub commuting : ℕ
 
+-- The profile of element a.
 unfoldable pub profile : ℕ → Product → ℕ → Profile
 profile n s a =
     record {

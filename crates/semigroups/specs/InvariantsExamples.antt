@@ -6,8 +6,8 @@ use mathlib.Core.List.{[], _∷_}
 use Rattle.semigroups.specs.Tables.{product}
 use Rattle.semigroups.specs.Invariants.{IndexPeriod, profile, sameProfile}
 
--- The two tables of order 3 in which 3 is its own square alone, `1,1,1/1,1,1/1,1,3` and `1,1,1/1,1,1/1,2,3`: their elements 3 have index, period and all
--- four frequencies equal, and only the count of commuting elements tells them apart (RULES 4.5).
+-- The two tables of order 3 `1,1,1/1,1,1/1,1,3` and `1,1,1/1,1,1/1,2,3`: their elements 3 have index, period and all four frequencies equal, and only the
+-- count of commuting elements tells them apart (RULES 4.5).
 abbrev pub CommutingExamples : Type 0
 CommutingExamples =
     let s = product 3 (1 ∷ 1 ∷ 1 ∷ 1 ∷ 1 ∷ 1 ∷ 1 ∷ 1 ∷ 3 ∷ []) in

@@ -27,13 +27,13 @@ pub record IsIdempotentPower (s : Product) (a e : ℕ) : Type 0 where
   pub is-power : power s a exponent ≡ e
   pub idempotent : s e e ≡ e
 
--- e is the one such power: among all powers, whatever their exponents, there is no other.
+-- e is the only such power: among all powers, whatever their exponents, there is no other.
 pub record TheIdempotentPower (s : Product) (a e : ℕ) : Type 0 where
   pub is-one : IsIdempotentPower s a e
   pub only : (d : ℕ) → IsIdempotentPower s a d → d ≡ e
 
--- v is the profile of element a of the table of order n with these cells: index and period, the idempotent power, and how many places of the whole table
--- hold a, how many of the diagonal, of row a and of column a, and how many elements commute with a.
+-- v is the profile of element a of the table of order n with these cells: its index and period, its idempotent power, how often a stands in the whole table,
+-- on the diagonal, in row a and in column a, and how many elements commute with a.
 pub record IsProfile (n : ℕ) (cells : List ℕ) (a : ℕ) (v : Profile) : Type 0 where
   pub index-period : IsIndexPeriod (product n cells) a (v .powers .index) (v .powers .period)
   pub idempotent : IsIdempotentPower (product n cells) a (v .powers .idempotent)

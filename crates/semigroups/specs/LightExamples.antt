@@ -7,8 +7,8 @@ use Rattle.semigroups.specs.QuestionsLaws.{no}
 use Rattle.semigroups.specs.Cases.{mat5}
 use Rattle.semigroups.specs.Light.{generatorsRefusal}
 
--- 3 and 4 generate mat5; 6 is no element of it; 2 and 5 generate four of its elements; an empty list generates nothing; a cell above the order is asked
--- about first. The table of case 1 is refused with a later triple than the full check's, 1, 1, 2, whose middle is not on the list.
+-- 3 and 4 generate mat5; 6 is not one of its elements; 2 and 5 generate four of its elements; an empty list generates nothing; a cell above the order is
+-- asked about first. The table of case 1 is refused with a later triple than that of the full check, 1, 1, 2, whose middle is not on the list.
 abbrev pub LightsExamples : Type 0
 LightsExamples =
     (generatorsRefusal 5 (mat5 .cells) (3 ∷ 4 ∷ 3 ∷ []) ≡ none) × (generatorsRefusal 5 (mat5 .cells) (3 ∷ 6 ∷ []) ≡ some (no 50 []))

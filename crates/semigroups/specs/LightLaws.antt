@@ -24,7 +24,8 @@ Generates n s l = (x : ℕ) → Element n x → List·Memᴰ x (generated n s l)
 abbrev pub AssociativeThrough : ℕ → Product → List ℕ → Type 0
 AssociativeThrough n s l = (i j k : ℕ) → Element n i → List·Memᴰ j l → Element n k → s (s i j) k ≡ s i (s j k)
 
--- Light's law, for any order and any product that stays within it: where the list generates every element, those triples decide.
+-- Light's law, for any order and any product that stays within it: if the list generates every element, the triples with their middle on it decide whether
+-- the product is associative.
 abbrev pub LightsLaw : Type 0
 LightsLaw = (n : ℕ) (s : Product) (l : List ℕ) → Closed n s → Inside n l → Generates n s l → Associative n s ↔ AssociativeThrough n s l
 
@@ -47,13 +48,13 @@ pub data GeneratorsRefused (n : ℕ) (cells l : List ℕ) : Refusal → Type 0 w
   wrong-triple : (t : List ℕ) → Filled n cells → Inside n l → Generates n (product n cells) l → Earliest (FailingThrough n (product n cells) l) t
       → GeneratorsRefused n cells l (no 4 t)
 
--- The shorter check against the full one: it accepts exactly where the full one does, and the triple that it gives is never earlier than the full
--- check's.
+-- The shorter check compared with the full one: it accepts exactly the tables that the full one accepts, and its triple is never earlier than that of the
+-- full check.
 pub record LightsTest (n : ℕ) (cells l : List ℕ) : Type 0 where
   pub accepts : (generatorsRefusal n cells l ≡ none) ↔ (tableRefusal n cells ≡ none)
   pub refuses-later : (t : List ℕ) → generatorsRefusal n cells l ≡ some (no 4 t)
       → (u : List ℕ) × (tableRefusal n cells ≡ some (no 4 u)) × ((t ≡ u) ⊎ (earlier u t ≡ true))
 
--- This holds for every table that passes 1 to 3 with a list that passes 50 and 51.
+-- What `LightsTest` claims holds for every table that passes 1 to 3 with a list that passes 50 and 51.
 abbrev pub LightsTheorem : Type 0
 LightsTheorem = (n : ℕ) (cells l : List ℕ) → Filled n cells → Inside n l → Generates n (product n cells) l → LightsTest n cells l

@@ -19,7 +19,7 @@ range i (suc k) = i ∷ range (suc i) k
 unfoldable pub elements : ℕ → List ℕ
 elements n = range 1 n
 
--- Entry i of a list, counted from 1. Past the end it is 0, which stands for no element; at 0, which nothing asks for, it is the first entry.
+-- Entry i of a list, counted from 1. After the end it is 0, which stands for no element; at 0, which nothing asks for, it is the first entry.
 unfoldable pub at : List ℕ → ℕ → ℕ
 at l i = getD l (i - 1) 0
 
@@ -50,12 +50,12 @@ module _ {A : Type 0} where
   unfoldable pub count : (A → Bool) → List A → ℕ
   count p l = sum (λ x. cond (p x) 1 0) l
 
--- The first answer of g among the entries.
+-- The first value that g gives at an entry, or none.
 unfoldable pub firstOf : {A B : Type 0} → (A → Option B) → List A → Option B
 firstOf g [] = none
 firstOf g (x ∷ l) = let r = firstOf g l in orElse (g x) r
 
--- The first of 1 to n that passes, or n + 1 where none does.
+-- The first of 1 to n that passes, or n + 1 if none does.
 unfoldable pub least : ℕ → (ℕ → Bool) → ℕ
 least n p = Option·getD (find p (elements n)) (n + 1)
 

@@ -8,23 +8,23 @@ use Prim.Native.Nat.{ℕ, _<_}
 use lib.ListN.{length, getD}
 use Rattle.semigroups.specs.Lists.{earlier}
 
--- Each entry stands in the relation R to every entry behind it.
+-- Each entry stands in the relation R to every later entry.
 abbrev pub Sorted : {A : Type 0} → (A → A → Type 0) → List A → Type 0
 Sorted R [] = Unit {0}
 Sorted {A} R (x ∷ l) = ((y : A) → List·Memᴰ y l → R x y) × Sorted R l
 
--- No entry equals one behind it.
+-- No entry equals a later one.
 abbrev pub NoRepeats : {A : Type 0} → List A → Type 0
 NoRepeats {A} l = Sorted (λ (x y : A). x ≡ y → ⊥) l
 
--- There are k numbers with the property P: a list of them, each once, has k entries.
+-- Exactly k numbers have the property P: a list of them, each once, has k entries.
 pub record IsCount (P : ℕ → Type 0) (k : ℕ) : Type 0 where
   pub those : List ℕ
   pub once : NoRepeats those
   pub exactly : (x : ℕ) → List·Memᴰ x those ↔ P x
   pub size : length those ≡ k
 
--- Each list is earlier than every list behind it.
+-- Each list is earlier than every list that follows it.
 abbrev pub Increasing : List (List ℕ) → Type 0
 Increasing l = Sorted (λ a b. earlier a b ≡ true) l
 

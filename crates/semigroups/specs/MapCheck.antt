@@ -18,24 +18,25 @@ pub data Checked : Type 0 where
   -- the pair i, j, as a list, whose product fails
   wrongProduct : List ℕ → Checked
 
--- A fault, if there is one, else what is said next.
+-- A fault, if there is one, else what is said otherwise.
 abbrev pub unless : {A : Type 0} → (A → Checked) → Option A → Checked → Checked
 unless fault none rest = rest
 unless fault (some x) rest = fault x
 
 module _ (m : ℕ) (s : Product) (n : ℕ) (t : Product) (f : List ℕ) where
-  -- The first entry outside 1 to n: its element.
+  -- The element of the first entry that is not 1 to n, or none.
   unfoldable pub firstOutside : Option ℕ
   firstOutside = find (λ i. not (isElement n (at f i))) (elements m)
 
-  -- The earliest pair i < j with equal images. Pairs run by i, then j.
+  -- The earliest pair i < j with equal images, or none. Pairs are ordered by i, then j.
   unfoldable pub firstEqual : Option (List ℕ)
   firstEqual = find (λ l. ltb (at l 1) (at l 2) && eqb (at f (at l 1)) (at f (at l 2))) (lists 2 m)
 
-  -- The earliest pair i, j whose product fails.
+  -- The earliest pair i, j whose product fails, or none.
   unfoldable pub firstWrong : Option (List ℕ)
   firstWrong = find (λ l. not (eqb (at f (s (at l 1) (at l 2))) (t (at f (at l 1)) (at f (at l 2))))) (lists 2 m)
 
+  -- What the map check says of the m bytes f: an image outside, else equal images, else a wrong product, else that the map holds.
   unfoldable pub checkMap : Checked
   checkMap =
       let products = unless wrongProduct firstWrong holds in

@@ -11,32 +11,36 @@ use Rattle.semigroups.specs.Lists.{elements, at, all, find, keep, distin
 use Rattle.semigroups.specs.Tables.{Product, turned, isElement}
 
 module _ (m : ℕ) (s : Product) (n : ℕ) (t : Product) where
+  -- Whether the image of i·j is the image of i times the image of j, for all elements i and j.
   unfoldable pub isHomomorphism : List ℕ → Bool
   isHomomorphism f =
       let products = all (λ i. all (λ j. eqb (at f (s i j)) (t (at f i) (at f j))) (elements m)) (elements m) in
       let images = all (isElement n) f && products in
       eqb (length f) m && images
 
+  -- Whether f is a homomorphism with no two images equal.
   unfoldable pub isEmbedding : List ℕ → Bool
   isEmbedding f = let h = isHomomorphism f in distinct f && h
 
+  -- Whether f is an embedding between tables of equal orders.
   unfoldable pub isIsomorphism : List ℕ → Bool
   isIsomorphism f = let e = isEmbedding f in eqb m n && e
 
 -- ---- the kinds of maps that a search is asked for, and their full lists
 
+-- The kinds of maps.
 pub data Kind : Type 0 where
   embeddings : Kind
   isomorphisms : Kind
   reversed : Kind
 
--- A reversed isomorphism is an isomorphism onto the turned product.
+-- Whether a list is a map of the kind. A reversed isomorphism is an isomorphism onto the turned product.
 abbrev pub isMap : Kind → ℕ → Product → ℕ → Product → List ℕ → Bool
 isMap embeddings = isEmbedding
 isMap isomorphisms = isIsomorphism
 isMap reversed = λ m s n t. isIsomorphism m s n (turned t)
 
--- The full list of a kind: every map of that kind once, each earlier than the one behind it.
+-- The full list of a kind: every map of that kind once, each earlier than the one that follows it.
 unfoldable pub maps : Kind → ℕ → Product → ℕ → Product → List (List ℕ)
 maps kind m s n t = keep (isMap kind m s n t) (lists m n)
 
@@ -47,11 +51,12 @@ pub data Ask : Type 0 where
   first : Ask
   next : List ℕ → Ask
 
--- Whether a list is late enough.
+-- Whether a list is late enough for what is asked.
 abbrev pub beyond : Ask → List ℕ → Bool
 beyond first f = true
 beyond (next b) f = earlier b f
 
+-- The entry of a full list that is asked for, or none.
 unfoldable pub earliest : Ask → List (List ℕ) → Option (List ℕ)
 earliest ask l = find (beyond ask) l
 
@@ -60,12 +65,13 @@ pub data Sought : Type 0 where
   found : Sought
   nothing : Sought
 
+-- Whether a map is found.
 abbrev pub sought : Option (List ℕ) → Sought
 sought (some f) = found
 sought none = nothing
 
 -- ---- identity, composite, inverse (RULES 5.8)
 
--- a done after b, their composite: byte i is a's byte at the place that b's byte i names.
+-- The composite of a and b, which is a done after b: byte i is a's byte at the place that b's byte i names.
 unfoldable pub after : List ℕ → List ℕ → List ℕ
 after a b = map (at a) b

@@ -11,18 +11,18 @@ use Rattle.semigroups.specs.Tables.{Product, Element}
 use Rattle.semigroups.specs.Maps.{Kind, embeddings, isomorphisms, reversed}
 
 module _ (m : ℕ) (s : Product) (n : ℕ) (t : Product) where
-  -- The image of i·j is the image of i times the image of j.
+  -- A homomorphism: the image of i·j is the image of i times the image of j.
   pub record Homomorphism (f : List ℕ) : Type 0 where
     pub size : length f ≡ m
     pub within : (i : ℕ) → Element m i → Element n (at f i)
     pub keeps-product : (i j : ℕ) → Element m i → Element m j → at f (s i j) ≡ t (at f i) (at f j)
 
-  -- A homomorphism with no two images equal.
+  -- An embedding: a homomorphism with no two images equal.
   pub record Embedding (f : List ℕ) : Type 0 where
     pub homomorphism : Homomorphism f
     pub one-to-one : (i j : ℕ) → Element m i → Element m j → at f i ≡ at f j → i ≡ j
 
-  -- An embedding with m = n.
+  -- An isomorphism: an embedding with m = n.
   pub record Isomorphism (f : List ℕ) : Type 0 where
     pub same-order : m ≡ n
     pub embedding : Embedding f
@@ -44,7 +44,7 @@ IsMap reversed = ReversedIsomorphism
 
 -- ---- identity, composite, inverse (RULES 5.8)
 
--- Byte i is i.
+-- The identity on n elements: byte i is i.
 unfoldable pub identity : ℕ → List ℕ
 identity n = elements n
 

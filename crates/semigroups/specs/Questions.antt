@@ -13,14 +13,14 @@ use Rattle.semigroups.specs.Scratch.{scratchSize}
 
 -- ---- a question
 
--- A question: its number, the side that it names (1 for source, 2 for target) if it names one, and what is said where it fails: none where the
--- answer is "yes", else the values said with the "no".
+-- A question: its number; the side that it names (1 for source, 2 for target), if it names one; and how it fails: none if the answer is "yes", else the
+-- values that the "no" carries.
 pub record Question : Type 0 where
   pub number : ℕ
   pub side : Option ℕ
   pub fails : Option (List ℕ)
 
--- A question that carries nothing; one that carries the values found.
+-- A question that carries nothing, and one that carries the values found.
 abbrev pub ask : ℕ → Bool → Question
 ask number passes = record { number = number; side = none; fails = cond passes none (some []) }
 
@@ -39,65 +39,69 @@ pub record Refusal : Type 0 where
   pub side : Option ℕ
   pub values : List ℕ
 
--- What a question says where it fails.
+-- The refusal by a question, if it fails.
 abbrev pub refusalBy : Question → Option Refusal
 refusalBy q = Option·map (λ values. record { number = q .number; side = q .side; values = values }) (q .fails)
 
--- The first "no" of a list of questions.
+-- The refusal by the first question of a list that fails, if one does.
 abbrev pub firstNo : List Question → Option Refusal
 firstNo qs = firstOf refusalBy qs
 
 -- ---- about a table
 
--- 3, is every cell 1 to n? It carries the first cell that is not.
+-- Question 3: is every cell 1 to n? It carries the first cell that is not.
 abbrev pub cellQuestion : ℕ → List ℕ → Question
 cellQuestion n cells = seek 3 (Option·map (λ k. k ∷ []) (badCell n cells))
 
--- 4, is the table associative? It carries the first failing triple.
+-- Question 4: is the table associative? It carries the first failing triple.
 abbrev pub tripleQuestion : ℕ → List ℕ → Question
 tripleQuestion n cells = seek 4 (badTriple n (product n cells))
 
--- About cells and an order: 1, is the order 1 to 120? 2, are there n × n cells? Then 3. Saving a text asks these alone.
+-- The questions about cells and an order: 1, is the order 1 to 120? 2, are there n × n cells? Then 3. Saving a text asks only these.
 abbrev pub cellsQuestions : ℕ → List ℕ → List Question
 cellsQuestions n cells = ask 1 (isElement 120 n) ∷ ask 2 (eqb (length cells) (n * n)) ∷ cellQuestion n cells ∷ []
 
--- About a table: these three; then 4.
+-- The questions about a table: 1 to 3, then 4.
 abbrev pub tableQuestions : ℕ → List ℕ → List Question
 tableQuestions n cells = cellsQuestions n cells ++ tripleQuestion n cells ∷ []
 
+-- The refusal of a table, if a question fails.
 unfoldable pub tableRefusal : ℕ → List ℕ → Option Refusal
 tableRefusal n cells = firstNo (tableQuestions n cells)
 
 -- ---- about an element, a map check, a search
 
--- About an element: the table's four; then 7, is it 1 to n?
+-- The questions about an element: the table's four; then 7, is it 1 to n?
 abbrev pub elementQuestions : ℕ → List ℕ → ℕ → List Question
 elementQuestions n cells a = tableQuestions n cells ++ ask 7 (isElement n a) ∷ []
 
+-- The refusal of a table and an element, if a question fails.
 unfoldable pub elementRefusal : ℕ → List ℕ → ℕ → Option Refusal
 elementRefusal n cells a = firstNo (elementQuestions n cells a)
 
--- About two tables: the source's four, then the target's four.
+-- The questions about two tables: the source's four, then the target's four.
 abbrev pub tablesQuestions : ℕ → List ℕ → ℕ → List ℕ → List Question
 tablesQuestions m source n target = map (onSide 1) (tableQuestions m source) ++ map (onSide 2) (tableQuestions n target)
 
--- About a map check: the two tables'; then 5, has the map buffer exactly m bytes?
+-- The questions of a map check: those about the two tables; then 5, has the map buffer exactly m bytes?
 abbrev pub checkQuestions : ℕ → List ℕ → ℕ → List ℕ → ℕ → List Question
 checkQuestions m source n target mapLength = tablesQuestions m source n target ++ ask 5 (eqb mapLength m) ∷ []
 
+-- The refusal of a map check, if a question fails.
 unfoldable pub checkRefusal : ℕ → List ℕ → ℕ → List ℕ → ℕ → Option Refusal
 checkRefusal m source n target mapLength = firstNo (checkQuestions m source n target mapLength)
 
--- About a search: those of a map check; then 6, has the scratch buffer at least the bytes that its marks take?
+-- The questions of a search: those of a map check; then 6, has the scratch buffer at least the bytes that its marks take?
 abbrev pub searchQuestions : ℕ → List ℕ → ℕ → List ℕ → ℕ → ℕ → List Question
 searchQuestions m source n target mapLength scratchLength = checkQuestions m source n target mapLength ++ ask 6 (leb (scratchSize m n) scratchLength) ∷ []
 
+-- The refusal of a search, if a question fails.
 unfoldable pub searchRefusal : ℕ → List ℕ → ℕ → List ℕ → ℕ → ℕ → Option Refusal
 searchRefusal m source n target mapLength scratchLength = firstNo (searchQuestions m source n target mapLength scratchLength)
 
 -- ---- refusals as numbers
 
--- 0 stands for no side.
+-- The side as a number; 0 stands for no side.
 abbrev pub sideOf : Option ℕ → ℕ
 sideOf none = 0
 sideOf (some side) = side

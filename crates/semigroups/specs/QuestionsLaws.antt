@@ -1,5 +1,4 @@
--- What is said of questions in plain words: which one is the earliest that fails, and what the refusal of a table says.
--- Assumes nothing.
+-- What is said of questions in plain words: which one is the earliest that fails, and what the refusal of a table means. Assumes nothing.
 use mathlib.Core.List.{List, [], _∷_, _++_, map}
 use mathlib.Core.Option.{Option, none, some}
 use mathlib.Core.Path.{_≡_}
@@ -26,7 +25,7 @@ abbrev pub Passed : List Question → Type 0
 Passed [] = Unit {0}
 Passed (q ∷ qs) = (q .fails ≡ none) × Passed qs
 
--- In plain words: r is what the earliest question that fails says. It has a place in the list, and every question before it passes.
+-- r is the refusal by the earliest question that fails: that question has a place in the list, and every question before it passes.
 pub record EarliestNo (qs : List Question) (r : Refusal) : Type 0 where
   pub before : List Question
   pub question : Question
@@ -46,7 +45,7 @@ numbers qs = map (λ q. q .number) qs
 unfoldable pub cellsRefusal : ℕ → List ℕ → Option Refusal
 cellsRefusal n cells = firstNo (cellsQuestions n cells)
 
--- What the refusal of a table says: the earliest question whose answer is "no", with the earliest cell or triple.
+-- What the refusal of a table means: the earliest question whose answer is "no", with the earliest cell or triple.
 pub data Refused (n : ℕ) (cells : List ℕ) : Refusal → Type 0 where
   wrong-order : (Element 120 n → ⊥) → Refused n cells (no 1 [])
   wrong-size : Element 120 n → (length cells ≡ n * n → ⊥) → Refused n cells (no 2 [])

@@ -20,6 +20,7 @@ use Rattle.semigroups.specs.ReversedLaws.{ReversedTheorem}
 use Rattle.semigroups.specs.SubsemigroupsLaws.{SubsemigroupTheorem}
 use Rattle.semigroups.specs.CopiesLaws.{CopiesTheorem}
 
+-- What these rules ask to be shown.
 pub record TableRequests : Type 1 where
   -- RULES 4.3: "The one power e of the element with e·e = e", whatever the exponents of the others.
   pub one-idempotent : (n : ℕ) (cells : List ℕ) (a : ℕ) → Accepted n cells → Element n a → TheIdempotentPower (product n cells) a (idempotentPower n (product n cells) a)

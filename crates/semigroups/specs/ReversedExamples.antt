@@ -13,8 +13,8 @@ use Rattle.semigroups.specs.ReversedLaws.{between}
 abbrev pub worked : Kind → Table → Table → List (List ℕ)
 worked kind s t = between kind (s .order) (s .cells) (t .order) (t .cells)
 
--- Left onto right has both lists reversed and no plain map, left onto left the other way round; the degree 2 table has two plain ones onto itself and
--- none reversed; swap is commutative. So every sentence of the two records has an instance.
+-- Between left and right every list is a reversed isomorphism and none is a plain one; from left onto left it is the other way round. The degree 2 table has
+-- two plain ones onto itself and no reversed one; swap is commutative. So every sentence of the two records has an instance.
 abbrev pub ReversedExamples : Type 0
 ReversedExamples =
     (worked reversed left right ≡ (1 ∷ 2 ∷ []) ∷ (2 ∷ 1 ∷ []) ∷ []) × (worked isomorphisms left right ≡ [])

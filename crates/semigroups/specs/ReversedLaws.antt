@@ -27,9 +27,9 @@ pub record ReversedMaps (m : ℕ) (source : List ℕ) (n : ℕ) (target : List �
   pub turned-list : between reversed m source n target ≡ between isomorphisms m source n (turnedCells n target)
   -- That table's profiles have row and column counts exchanged.
   pub turned-profile : (a : ℕ) → Element n a → profile n (product n (turnedCells n target)) a ≡ exchanged (profile n (product n target) a)
-  -- It is empty or as long as the first table's list onto itself.
+  -- The list is empty, or as long as that of the isomorphisms of the first table onto itself.
   pub empty-or-as-long : (between reversed m source n target ≡ []) ⊎ (length (between reversed m source n target) ≡ length (between isomorphisms m source m source))
-  -- Between tables of two orders there is none.
+  -- Between tables of different orders there is none.
   pub other-order : (m ≡ n → ⊥) → between reversed m source n target ≡ []
   -- Onto a commutative table the reversed maps are the plain ones.
   pub onto-commutative : Commutative n (product n target) → between reversed m source n target ≡ between isomorphisms m source n target
@@ -39,7 +39,7 @@ pub record ReversedMaps (m : ℕ) (source : List ℕ) (n : ℕ) (target : List �
 pub record ReversedComposites (k : ℕ) (first : List ℕ) (m : ℕ) (second : List ℕ) (n : ℕ) (third : List ℕ) (f g : List ℕ) : Type 0 where
   -- Two reversed maps in a row make a plain isomorphism.
   pub both-reversed : List·Memᴰ f (between reversed k first m second) → List·Memᴰ g (between reversed m second n third) → List·Memᴰ (after g f) (between isomorphisms k first n third)
-  -- A reversed one before a plain one makes a reversed one, and so does a reversed one after a plain one.
+  -- A plain map after a reversed one makes a reversed one, and so does a reversed map after a plain one.
   pub reversed-before : List·Memᴰ f (between reversed k first m second) → List·Memᴰ g (between isomorphisms m second n third) → List·Memᴰ (after g f) (between reversed k first n third)
   pub reversed-after : List·Memᴰ f (between isomorphisms k first m second) → List·Memᴰ g (between reversed m second n third) → List·Memᴰ (after g f) (between reversed k first n third)
 

@@ -52,12 +52,13 @@ pub record MapRules (m : ℕ) (source : List ℕ) (n : ℕ) (target : List ℕ) 
   -- "For m > n there is no embedding, and for m ≠ n no isomorphism."
   pub no-embedding : n < m → (f : List ℕ) → Embedding m (product m source) n (product n target) f → ⊥
   pub no-isomorphism : (m ≡ n → ⊥) → (f : List ℕ) → Isomorphism m (product m source) n (product n target) f → ⊥
-  -- Candidates lose no map.
+  -- The candidates lose no map.
   pub none-lost : (kind : Kind) (f : List ℕ) → IsMap kind m (product m source) n (product n target) f → Among m (candidate kind m (product m source) n (product n target)) f
-  -- Where the mark of a pair stands (RULES 8.2), and that nothing else is marked: the bytes written are the marks, in plain words, and no others are.
+  -- Where the mark of a pair stands (RULES 8.2), and that nothing else is marked: the bytes written are the marks, as said in plain words, and no other bytes
+  -- are.
   pub marks-stand : (kind : Kind) (bytes : List ℕ)
       → (bytes ≡ marks m n (candidate kind m (product m source) n (product n target))) ↔ AreMarks m n (candidate kind m (product m source) n (product n target)) bytes
-  -- "A map check, given m bytes, says "holds" or the earliest fault": what each answer means, both ways.
+  -- "A map check, given m bytes, says "holds" or the earliest fault": what each answer means, in both directions.
   pub checked : (f : List ℕ) → length f ≡ m → (c : Checked) → (checkMap m (product m source) n (product n target) f ≡ c) ↔ IsChecked m (product m source) n (product n target) f c
 
 -- "Tables of all transformations", for any degree d.
@@ -76,9 +77,9 @@ pub record TransformationRules (d : ℕ) : Type 0 where
   -- The tables of degrees 1 to 3 are accepted.
   pub accepted : Element 3 d → Accepted (transformationOrder d) (transformationCells d)
 
--- For any tables and any degree.
+-- All of these rules, for any tables and any degree.
 pub record TableRules : Type 0 where
-  -- Questions 1 to 4: what a refusal says, both ways.
+  -- Questions 1 to 4: what a refusal means, in both directions.
   pub refused : (n : ℕ) (cells : List ℕ) (r : Refusal) → (tableRefusal n cells ≡ some r) ↔ Refused n cells r
   pub marks-of : (n : ℕ) (cells : List ℕ) → Accepted n cells → MarkRules n cells
   pub maps-between : (m : ℕ) (source : List ℕ) (n : ℕ) (target : List ℕ) → Accepted m source → Accepted n target → MapRules m source n target

@@ -1,5 +1,5 @@
--- The layout of the scratch buffer (RULES 8.2): one bit for each pair of a source and a target element. The one place that knows where the
--- mark of a pair stands and how many bytes the marks take.
+-- The layout of the scratch buffer (RULES 8.2): one bit for each pair of a source and a target element. Only this file says where the mark of a pair stands
+-- and how many bytes the marks take.
 -- Assumes nothing.
 use mathlib.Core.Bool.{Bool, cond}
 use mathlib.Core.List.{List, map}
@@ -11,7 +11,7 @@ use Rattle.semigroups.specs.Tables.{cellPlace, grid}
 
 -- ---- eight to a byte
 
--- Byte b of a list of zeros and ones: number 8 × b + r of the list, counted from 0, is worth 2 to the power r. Past the end of the list are zeros.
+-- Byte b of a list of zeros and ones: entry 8 × b + r of the list, counted from 0, is worth 2 to the power r. After the end of the list there are zeros.
 unfoldable pub packedByte : List ℕ → ℕ → ℕ
 packedByte l b = sum (λ r. getD l (8 * b + r) 0 * 2 ^ r) (range 0 8)
 
@@ -29,7 +29,7 @@ scratchSize m n = (m * n + 7) / 8
 unfoldable pub pairMarks : ℕ → ℕ → (ℕ → ℕ → Bool) → List ℕ
 pairMarks m n candidate = grid m n (λ i j. cond (candidate i j) 1 0)
 
--- The marks: those numbers, eight to a byte.
+-- The marks: the numbers of `pairMarks`, eight to a byte.
 unfoldable pub marks : ℕ → ℕ → (ℕ → ℕ → Bool) → List ℕ
 marks m n candidate = map (packedByte (pairMarks m n candidate)) (range 0 (scratchSize m n))
 

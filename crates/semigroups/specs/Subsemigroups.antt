@@ -23,12 +23,13 @@ renumbered s e i j = numberIn e (s (at e i) (at e j))
 unfoldable pub partCells : Product → List ℕ → List ℕ
 partCells s e = grid (length e) (length e) (renumbered s e)
 
--- About a table, a list of chosen elements that generates k of them, and the lengths of two buffers: the table's four; then 60, is the list not empty,
--- and every entry 1 to n? 61, has the cell buffer at least k × k bytes? 62, has the element buffer at least k?
+-- The questions about a table, a list of chosen elements that generates k of them, and the lengths of two buffers: the table's four; then 60, is the list not
+-- empty, and every entry 1 to n? 61, has the cell buffer at least k × k bytes? 62, has the element buffer at least k?
 abbrev pub subsemigroupQuestions : ℕ → List ℕ → List ℕ → ℕ → ℕ → List Question
 subsemigroupQuestions n cells l cellsLength elementsLength =
     let k = length (generated n (product n cells) l) in
     tableQuestions n cells ++ ask 60 (leb 1 (length l) && all (isElement n) l) ∷ ask 61 (leb (k * k) cellsLength) ∷ ask 62 (leb k elementsLength) ∷ []
 
+-- The refusal of a call that makes a table of a part, if a question fails.
 unfoldable pub subsemigroupRefusal : ℕ → List ℕ → List ℕ → ℕ → ℕ → Option Refusal
 subsemigroupRefusal n cells l cellsLength elementsLength = firstNo (subsemigroupQuestions n cells l cellsLength elementsLength)

@@ -10,7 +10,7 @@ use lib.Dec.{eqb, leb}
 use lib.ListN.{length, getD}
 use Rattle.semigroups.specs.Lists.{range, elements, at, find, lists}
 
--- A product of elements; i times j is `s i j`. Outside its order a product may be anything: no statement asks.
+-- A product of elements; i times j is `s i j`. Outside its order a product may be anything: no statement depends on it.
 abbrev pub Product : Type 0
 Product = ℕ → ℕ → ℕ
 
@@ -44,21 +44,23 @@ pub record Filled (n : ℕ) (cells : List ℕ) : Type 0 where
   pub size : length cells ≡ n * n
   pub in-range : (k : ℕ) → k < length cells → Element n (getD cells k 0)
 
--- A table is accepted (RULES 3.4).
+-- A table is accepted: its cells fill it, its order is 1 to 120, and it is associative (RULES 3.4).
 pub record Accepted (n : ℕ) (cells : List ℕ) : Type 0 where
   pub filled : Filled n cells
   pub associative : Associative n (product n cells)
 
+-- Whether x is an element of a table of order n.
 unfoldable pub isElement : ℕ → ℕ → Bool
 isElement n x = leb 1 x && leb x n
 
+-- Whether (i·j)·k = i·(j·k).
 unfoldable pub associates : Product → ℕ → ℕ → ℕ → Bool
 associates s i j k = eqb (s (s i j) k) (s i (s j k))
 
--- The first cell that is not 1 to n, counted from 1.
+-- The first cell that is not 1 to n, counted from 1, or none.
 unfoldable pub badCell : ℕ → List ℕ → Option ℕ
 badCell n cells = find (λ k. not (isElement n (at cells k))) (range 1 (length cells))
 
--- The first triple i, j, k that does not associate, by i, then j, then k.
+-- The first triple i, j, k that does not associate, or none. Triples are ordered by i, then j, then k.
 unfoldable pub badTriple : ℕ → Product → Option (List ℕ)
 badTriple n s = find (λ l. not (associates s (at l 1) (at l 2) (at l 3))) (lists 3 n)

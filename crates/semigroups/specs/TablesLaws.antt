@@ -1,5 +1,5 @@
--- What is said of tables in plain words beside what a table is: products that stay inside, commutative, failing triples; the table with rows and columns
--- exchanged.
+-- What is said of tables in plain words, besides what a table is: products that stay inside, commutative products, failing triples; the table with rows and
+-- columns exchanged.
 -- Assumes nothing.
 use mathlib.Core.Path.{_≡_}
 use mathlib.Core.List.{List, List·Memᴰ}

@@ -15,7 +15,7 @@ use Rattle.semigroups.specs.Maps.{after}
 unfoldable pub transformations : ℕ → List (List ℕ)
 transformations d = lists d d
 
--- How many there are.
+-- How many transformations of d points there are.
 unfoldable pub transformationOrder : ℕ → ℕ
 transformationOrder d = d ^ d
 
@@ -35,9 +35,10 @@ transformationProduct d s t = numberOf d (after (transformation d t) (transforma
 unfoldable pub transformationCells : ℕ → List ℕ
 transformationCells d = grid (transformationOrder d) (transformationOrder d) (transformationProduct d)
 
--- Questions about such a table: 8, is the degree 1 to 3? 9, has the buffer at least its cells?
+-- The questions about a table of transformations: 8, is the degree 1 to 3? 9, has the buffer room for its cells?
 abbrev pub transformationQuestions : ℕ → ℕ → List Question
 transformationQuestions d size = ask 8 (isElement 3 d) ∷ ask 9 (leb (transformationOrder d * transformationOrder d) size) ∷ []
 
+-- The refusal of a degree and a buffer of this size, if a question fails.
 unfoldable pub transformationRefusal : ℕ → ℕ → Option Refusal
 transformationRefusal d size = firstNo (transformationQuestions d size)

@@ -9,17 +9,17 @@ use Rattle.semigroups.specs.Candidates.{candidate}
 use Rattle.semigroups.specs.Cases.{swap, left, two}
 use Rattle.semigroups.specs.Trials.{counted, work, limited, stopped, ended}
 
--- From `1,1,1/1,3,3/1,3,3` to `1,1,3/1,1,3/3,3,3`: 1 on 1 and 2 on 2 fails, since 2·2 is 3, which is not placed, and 2·2 in the target is 1, an image
--- used. So five trials find `3,2,1`; if products outside the list were not looked at, 3 on 3 would be a sixth.
+-- From `1,1,1/1,3,3/1,3,3` to `1,1,3/1,1,3/3,3,3`: placing 1 on 1 and 2 on 2 fails, since 2·2 is 3, which is not placed, and 2·2 in the target is 1, an image
+-- already used. So five trials find `3,2,1`; if products outside the list were not looked at, 3 on 3 would be a sixth.
 abbrev pub OutsideExample : Type 0
 OutsideExample =
     let s = product 3 (1 ∷ 1 ∷ 1 ∷ 1 ∷ 3 ∷ 3 ∷ 1 ∷ 3 ∷ 3 ∷ []) in
     let t = product 3 (1 ∷ 1 ∷ 3 ∷ 1 ∷ 1 ∷ 3 ∷ 3 ∷ 3 ∷ 3 ∷ []) in
     counted s t (candidate embeddings 3 s 3 t) first 3 3 [] ≡ work (some (3 ∷ 2 ∷ 1 ∷ [])) 5
 
--- From swap to the degree 2 table, where 1 may go to 1, 2 and 4 and 2 to 3: 1 on 1, 2 on 3, 1 on 2, 2 on 3 make four trials, and the last one completes
--- the map `2,3`. Asked for a later one, the search begins with 1 on 2. From the degree 2 table to swap, 2 may only go where 1 went: one trial. From a
--- group whose element 1 has period 2 to left, which has no such element: no trial.
+-- From swap to the degree 2 table, where 1 may go to 1, 2 and 4, and 2 may go to 3: the placings 1 on 1, 2 on 3, 1 on 2, 2 on 3 make four trials, and the
+-- last one completes the map `2,3`. Asked for a later one, the search begins with 1 on 2. From the degree 2 table to swap, 2 may only go where 1 went: one
+-- trial. From a group whose element 1 has period 2 to left, which has no such element: no trial.
 abbrev pub TrialsExamples : Type 0
 TrialsExamples =
     let s = product 2 (swap .cells) in

@@ -16,7 +16,8 @@ pub record Outcome : Type 0 where
   pub says : Answer Sought
   pub buffer : List ℕ
 
--- The buffer after k calls of a walk that were not refused: z, what it held at first, for 0; then entry k; from the last entry on the last one.
+-- The buffer after k calls of a walk that were not refused: for 0 it is z, what the buffer held at first; then it is entry k; after the last entry it stays
+-- the last one.
 unfoldable pub held : List ℕ → List (List ℕ) → ℕ → List ℕ
 held z l k = getD (z ∷ l) (min k (length l)) z
 
@@ -24,22 +25,22 @@ held z l k = getD (z ∷ l) (min k (length l)) z
 abbrev pub nextOutcome : Option Refusal → List (List ℕ) → List ℕ → Outcome
 nextOutcome o l b = let f = earliest (next b) l in record { says = givenUnless o (sought f); buffer = mapUnless o f b }
 
--- The calls not refused, counted on from k.
+-- How many calls were not refused, counted on from k, after one more call.
 abbrev pub counted : ℕ → Option Refusal → ℕ
 counted k (some r) = k
 counted k none = suc k
 
--- What the walk's claim says of a call before which k calls were not refused: the k-th from 1 finds entry k while there is one.
+-- What the claim says of a call before which k calls were not refused: the k-th from 1 finds entry k while there is one.
 abbrev pub claimed : List ℕ → List (List ℕ) → ℕ → Option Refusal → Outcome
 claimed z l k o = record { says = givenUnless o (cond (leb (suc k) (length l)) found nothing); buffer = held z l (counted k o) }
 
 module _ {C : Type 0} where
-  -- What each call of a walk says and leaves: each gets the buffer as the last one left it.
+  -- What each call of a walk says and leaves: each gets the buffer as the call before it left it.
   abbrev pub walk : (C → List ℕ → Outcome) → List C → List ℕ → List Outcome
   walk call [] b = []
   walk call (c ∷ cs) b = let o = call c b in o ∷ walk call cs (o .buffer)
 
-  -- The claim about a whole walk on a buffer that held z at first, k calls of which were not refused already.
+  -- The claim about a whole walk on a buffer that held z at first, where k calls before it were not refused.
   abbrev pub claim : (C → Option Refusal) → List ℕ → List (List ℕ) → ℕ → List C → List Outcome
   claim refusal z l k [] = []
   claim refusal z l k (c ∷ cs) = claimed z l k (refusal c) ∷ claim refusal z l (counted k (refusal c)) cs

@@ -1,2 +1,2 @@
-// Definitions and laws of finite semigroups given by their Cayley tables. It has no code: the definitions stand in specs/,
-// and what is proved of them in proofs/.
+// Definitions and laws of finite semigroups that are given by their Cayley tables. There is no code: the definitions are in specs/, and their proofs in
+// proofs/.

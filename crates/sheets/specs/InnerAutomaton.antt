@@ -11,8 +11,8 @@ pub data Column : Type 0 where
   number-part : Column
   name-part : Column
 
--- Where the reading stands: at the start of a field; behind a byte of a field with no quote marks; between quote marks; behind a quote mark that
--- closes the field or is the first of two; behind CR; behind CR LF; nowhere.
+-- Where the reading stands: at the start of a field; after a byte of a field with no quote marks; between quote marks; after a quote mark that closes the
+-- field or is the first of two; after CR; after CR LF; nowhere, because no sheet begins so.
 pub data State : Type 0 where
   opening : Column → State
   bare : Column → State
@@ -22,7 +22,7 @@ pub data State : Type 0 where
   line : State
   dead : State
 
--- Behind a field.
+-- The state after a byte that follows a field.
 unfoldable pub afterField : Column → ℕ → State
 afterField number-part b = cond (eqb b 44) (opening name-part) dead
 afterField name-part b = cond (eqb b 13) cr dead
@@ -71,7 +71,7 @@ run q (b ∷ t) = run (stateAfter q b) t
 unfoldable pub accepts : List ℕ → Bool
 accepts t = accepting (run (opening number-part) t)
 
--- How many bytes are read before the reading stands nowhere; all, where it never does.
+-- How many bytes are read before the reading stands nowhere; all of them, if it never does.
 unfoldable pub placeFrom : State → List ℕ → ℕ
 placeFrom q [] = 0
 placeFrom q (b ∷ t) = let r = suc (placeFrom (stateAfter q b) t) in cond (isDead (stateAfter q b)) 0 r

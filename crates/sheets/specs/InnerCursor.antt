@@ -7,12 +7,12 @@ use Prim.Native.Nat.{ℕ, suc}
 use lib.Dec.{eqb}
 use lib.ListN.{length}
 
--- A field with no quote marks around it ends at a comma, at CR, or with the text.
+-- The value of a field with no quote marks around it, which ends at a comma, at CR, or with the text.
 unfoldable pub bareValue : List ℕ → List ℕ
 bareValue [] = []
 bareValue (b ∷ u) = let r = bareValue u in cond (eqb b 44 || eqb b 13) [] (b ∷ r)
 
--- Behind an opening quote mark: the bytes up to the closing one, doubled ones undone; and how many bytes they take, the closing one among them.
+-- After an opening quote mark: the bytes up to the closing one, with doubled quote marks undone; and how many bytes they take, the closing one included.
 unfoldable pub quotedValue : List ℕ → List ℕ
 quotedValue [] = []
 quotedValue (b ∷ []) = cond (eqb b 34) [] (b ∷ [])

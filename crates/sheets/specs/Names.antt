@@ -14,7 +14,7 @@ use Rattle.sheets.specs.Grammar.{isPrintable}
 unfoldable pub isName : List ℕ → Bool
 isName s = isElement 40 (length s) && all isPrintable s
 
--- Whether a field is the number k, of at most 120: "Numbers are decimal and start with no 0"; so it has at most three digits.
+-- Whether a field is the number k, at most 120: "Numbers are decimal and start with no 0"; so it has at most three digits.
 unfoldable pub isNumber : ℕ → List ℕ → Bool
 isNumber k f = leb k 120 && (all isDigit f && (isElement 3 (length f) && (not (eqb (getD f 0 0) 48) && eqb (value f) k)))
 
@@ -25,7 +25,7 @@ unfoldable pub needsQuotes : List ℕ → Bool
 needsQuotes [] = false
 needsQuotes (b ∷ s) = let r = needsQuotes s in (eqb b 44 || eqb b 34) || r
 
--- Each quote mark doubled.
+-- The bytes with each quote mark doubled.
 unfoldable pub doubled : List ℕ → List ℕ
 doubled s = flatMap (λ b. cond (eqb b 34) (34 ∷ 34 ∷ []) (b ∷ [])) s
 
@@ -38,12 +38,13 @@ unfoldable pub namesTextFrom : ℕ → List (List ℕ) → List ℕ
 namesTextFrom k [] = []
 namesTextFrom k (s ∷ l) = numeral k ++ (44 ∷ nameText s ++ (13 ∷ 10 ∷ namesTextFrom (suc k) l))
 
+-- The sheet of these names.
 unfoldable pub namesText : List (List ℕ) → List ℕ
 namesText l = namesTextFrom 1 l
 
 -- ---- names in memory
 
--- The names that stand one after another in these bytes, with these lengths. Bytes past the last are not looked at.
+-- The names that stand one after another in these bytes, with these lengths. Bytes after the last name are not looked at.
 unfoldable pub namesAt : List ℕ → List ℕ → List (List ℕ)
 namesAt bytes [] = []
 namesAt bytes (n ∷ ns) = take n bytes ∷ namesAt (drop n bytes) ns

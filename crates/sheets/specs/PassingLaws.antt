@@ -1,5 +1,4 @@
--- What passes the questions about loading and saving a name sheet, in plain words (RULES 20): a call is not refused exactly there.
--- Assumes nothing.
+-- What passes the questions about loading and saving a name sheet, in plain words (RULES 20): a call is not refused exactly if this holds. Assumes nothing.
 use mathlib.Core.Path.{_≡_}
 use mathlib.Core.List.{List, map, flatten, List·Memᴰ}
 use Prim.Native.Nat.{ℕ, _≤_}
@@ -17,8 +16,8 @@ pub record Name (s : List ℕ) : Type 0 where
   pub short : length s ≤ 40
   pub allowed : (b : ℕ) → List·Memᴰ b s → (32 ≤ b) × (b ≤ 126)
 
--- About loading a text into buffers for so many bytes of names and so many lengths: it is a sheet; its records have the decimal numbers from 1 on, at
--- most 120, and names; the buffers have room.
+-- What passes the questions about loading a text into buffers for this many bytes of names and this many lengths: it is a sheet; its records have the decimal
+-- numbers from 1 on, at most 120, and names; the buffers have room.
 pub record LoadNamesPass (t : List ℕ) (nameRoom lengthRoom : ℕ) : Type 0 where
   pub form : IsSheet t
   pub numbers : map (λ (r : Row). r .number) (sheetRows (form .sheet)) ≡ map numeral (elements (length (sheetRows (form .sheet))))
@@ -27,8 +26,8 @@ pub record LoadNamesPass (t : List ℕ) (nameRoom lengthRoom : ℕ) : Type 0 whe
   pub names-room : length (flatten (rowsNames (sheetRows (form .sheet)))) ≤ nameRoom
   pub lengths-room : length (sheetRows (form .sheet)) ≤ lengthRoom
 
--- About saving names with these lengths, one after another in these bytes, into a text buffer of so many bytes: 1 to 120 names, all of whose bytes are
--- there; the buffer has room.
+-- What passes the questions about saving names with these lengths, one after another in these bytes, into a text buffer of this many bytes: there are 1 to
+-- 120 names, all of whose bytes are there; the buffer has room.
 pub record SaveNamesPass (bytes lengths : List ℕ) (room : ℕ) : Type 0 where
   pub count : Element 120 (length lengths)
   pub inside : sum (λ (n : ℕ). n) lengths ≤ length bytes

@@ -1,5 +1,4 @@
--- What is so of a text by question 40 (RULES 20.8): it passes, or it does not and has an offending place.
--- Assumes nothing.
+-- What question 40 decides about a text (RULES 20.8): it passes, or it fails and has an offending place. Assumes nothing.
 use mathlib.Core.List.{List, [], _∷_, _++_, map}
 use mathlib.Core.Option.{Option, none, some}
 use Prim.Native.Nat.{ℕ, _≤_, _<_}
@@ -21,23 +20,25 @@ pub record Offending (t : List ℕ) (k : ℕ) : Type 0 where
 
 -- ---- a reading of a text
 
+-- A reading of a text: that it passes 40, or its offending place.
 pub data Reading (t : List ℕ) : Type 0 where
   passes : IsSheet t → Reading t
   offends : (k : ℕ) → (IsSheet t → ⊥) → Offending t k → Reading t
 
--- The place, where it does not pass.
+-- The offending place, if the text fails.
 abbrev pub offence : {t : List ℕ} → Reading t → Option (List ℕ)
 offence (passes p) = none
 offence (offends k fails place) = some (k ∷ [])
 
--- The values of its records; of a text that does not pass, none.
+-- The values of its records; if the text fails, there are none.
 abbrev pub readRows : {t : List ℕ} → Reading t → List Row
 readRows (passes p) = sheetRows (p .sheet)
 readRows (offends k fails place) = []
 
--- The names on it.
+-- The names on the records.
 unfoldable pub rowsNames : List Row → List (List ℕ)
 rowsNames l = map (λ r. r .name) l
 
+-- The names that a reading gives.
 abbrev pub namesIn : {t : List ℕ} → Reading t → List (List ℕ)
 namesIn w = rowsNames (readRows w)

@@ -1,5 +1,4 @@
--- Every text has a reading, and only one as far as a call can tell.
--- Assumes nothing.
+-- Every text has a reading, and a call says the same by each of its readings. Assumes nothing.
 use mathlib.Core.Path.{_≡_}
 use mathlib.Core.List.{List}
 use Prim.Native.Nat.{ℕ}

@@ -1,4 +1,4 @@
--- What RULES 20 asks to be so of name sheets, as sentences about the definitions. Assumes nothing.
+-- What RULES 20 says of name sheets, as sentences about the definitions. Assumes nothing.
 use mathlib.Core.Path.{_≡_}
 use mathlib.Core.Bool.{true}
 use mathlib.Core.Logic.{_⊎_, _↔_}
@@ -14,6 +14,7 @@ use Rattle.sheets.specs.PassingLaws.{Name, LoadNamesPass, SaveNamesPass}
 use Rattle.sheets.specs.CallsLaws.{LoadKeeps, SaveKeeps}
 use Rattle.sheets.specs.RoundsLaws.{SavedNamesAreLoaded, LastBreakMayLack, SavedSheetStays, LoadedSheetStays}
 
+-- What RULES 20 says of any names and any sheet.
 pub record NameRequests : Type 0 where
   -- "A name is 1 to 40 bytes from hexadecimal 20 to 7E."
   pub a-name : (s : List ℕ) → (isName s ≡ true) ↔ Name s
@@ -25,7 +26,7 @@ pub record NameRequests : Type 0 where
   pub readable : Readable
   pub same-reading : SameReading
   pub empty-offends : (w : Reading []) → offence w ≡ some (0 ∷ [])
-  -- What passes the questions, in plain words, both ways.
+  -- What passes the questions, in plain words and in both directions.
   pub load-passes : (t : List ℕ) (w : Reading t) (nameRoom lengthRoom : ℕ) → (loadNamesRefusal w nameRoom lengthRoom ≡ none) ↔ LoadNamesPass t nameRoom lengthRoom
   pub save-passes : (bytes lengths : List ℕ) (room : ℕ) → (saveNamesRefusal bytes lengths room ≡ none) ↔ SaveNamesPass bytes lengths room
   -- A refusal changes no byte.

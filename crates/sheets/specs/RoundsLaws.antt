@@ -48,11 +48,11 @@ pub record NameBuffers : Type 0 where
   pub names : List ℕ
   pub lengths : List ℕ
 
--- The sheet that stands there.
+-- The sheet that the first buffer holds.
 abbrev pub sheetHeld : NameBuffers → List ℕ
 sheetHeld b = take (b .size) (b .text)
 
--- Names are saved.
+-- The buffers after names are saved.
 unfoldable pub namesSaved : List ℕ → List ℕ → NameBuffers → NameBuffers
 namesSaved names lengths b =
     record { text = sheetAfter names lengths (b .text); size = given (saveNamesAnswer names lengths (b .text)); names = b .names; lengths = b .lengths }
@@ -67,7 +67,7 @@ unfoldable pub nameRounds : Readable → ℕ → NameBuffers → NameBuffers
 nameRounds read zero b = b
 nameRounds read (suc k) b = let c = nameRounds read k b in nameRound c (read (sheetHeld c))
 
--- The text buffer and the sheet's length are what they were.
+-- The text buffer and the length of the sheet have not changed.
 pub record SheetUnchanged (first b : NameBuffers) : Type 0 where
   pub text : b .text ≡ first .text
   pub size : b .size ≡ first .size

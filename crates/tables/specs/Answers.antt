@@ -23,50 +23,50 @@ use Rattle.tables.specs.declared.Refusal.{Refusal as Numbers}
 use Rattle.tables.specs.declared.Place.{Place}
 use Rattle.tables.specs.declared.Place.the-variants.{At, Nowhere}
 
--- 1 and 2 carry nothing, 3 the cell, 4 the triple.
+-- The refusal of each fault: 1 and 2 carry nothing, 3 carries the cell, 4 the triple.
 abbrev pub faultRefusal : Fault → Refusal
 faultRefusal Order = no 1 []
 faultRefusal Size = no 2 []
 faultRefusal (Cell k) = no 3 (k ∷ [])
 faultRefusal (Triple i j k) = no 4 (i ∷ j ∷ k ∷ [])
 
--- A "no" with its number and its values.
+-- The refusal of a "no": its number and its values.
 abbrev pub noRefusal : No → Refusal
 noRefusal (Bare number) = no number []
 noRefusal (With number value) = no number (value ∷ [])
 noRefusal (NoTriple i j k) = no 4 (i ∷ j ∷ k ∷ [])
 
--- A number, or the earliest failed question.
+-- What the answer says: a number, or the earliest failed question.
 abbrev pub numberedSays : Numbered → Answer ℕ
 numberedSays (Number x) = gives x
 numberedSays (NumberRefused r) = refused (noRefusal r)
 
--- An accepted table has no failed question.
+-- The refusal of a verdict; an accepted table has none.
 abbrev pub verdictRefusal : Verdict → Option Refusal
 verdictRefusal Accepted = none
 verdictRefusal (Refused fault) = some (faultRefusal fault)
 
--- 1 for source, 2 for target.
+-- The side as a number: 1 for source, 2 for target.
 abbrev pub sideNumber : Side → ℕ
 sideNumber Source = 1
 sideNumber Target = 2
 
--- Of two tables the refused one is named.
+-- The refusal of two tables, which names the side of the refused one; none if both are accepted.
 abbrev pub pairRefusal : PairVerdict → Option Refusal
 pairRefusal pair.Accepted = none
 pairRefusal (pair.Refused side fault) = some (naming (sideNumber side) (faultRefusal fault))
 
--- The place, where there is one.
+-- The place, or none.
 abbrev pub placeOption : Place → Option ℕ
 placeOption (At k) = some k
 placeOption Nowhere = none
 
 -- ---- refusals as numbers
 
--- The number, the side and three values, with 0 for those that are not said.
+-- The number, the side and three values, with 0 for those that the refusal does not carry.
 abbrev pub refusalNumbers : Refusal → Numbers
 refusalNumbers r = record { number = r .number; side = sideOf (r .side); first = getD (r .values) 0 0; second = getD (r .values) 1 0; third = getD (r .values) 2 0 }
 
--- The same numbers with another side.
+-- These numbers with another side.
 abbrev pub numbersNaming : ℕ → Numbers → Numbers
 numbersNaming side r = record { number = r .number; side = side; first = r .first; second = r .second; third = r .third }

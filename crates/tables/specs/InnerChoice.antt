@@ -1,5 +1,6 @@
--- The generators that question 4 chooses for itself, and what Light's associativity test answers with them. Of the elements that products of the list do
--- not give, the rarest in the table joins the list, and the smallest of these; a list that is longer than n / 4 is given up. Assumes nothing.
+-- The generators that question 4 chooses for itself, and the answer of Light's associativity test with them. Of the elements that are not products of the
+-- list, the one that is rarest in the table joins the list, and of equally rare ones the smallest; a list that would be longer than n / 4 is given up.
+-- Assumes nothing.
 use mathlib.Core.Path.{_≡_}
 use mathlib.Core.Bool.{Bool, true, false, _&&_}
 use mathlib.Core.Logic.{_⊎_}
@@ -14,7 +15,7 @@ use Rattle.tables.specs.InnerFound.{Found}
 
 -- ---- products from left to right
 
--- The elements found are the products from left to right of entries of the list, each once, in an order that no definition gives.
+-- The elements found are the products from left to right of entries of the list, each once, in an order that no definition fixes.
 pub record FoundProducts (s : Product) (l found marks : List ℕ) (count : ℕ) : Type 0 where
   pub held : Found (take count found) found marks count
   pub products-alone : (x : ℕ) → List·Memᴰ x (take count found) → LeftProduct s l x
@@ -32,16 +33,17 @@ pub record Rarest (n : ℕ) (weight : ℕ → ℕ) (Free : ℕ → Type 0) (x : 
 abbrev pub RarestOrNone : ℕ → (ℕ → ℕ) → (ℕ → Type 0) → ℕ → Type 0
 RarestOrNone n weight Free x = Rarest n weight Free x ⊎ ((x ≡ 0) × ((y : ℕ) → Element n y → Free y → ⊥))
 
--- The next generator behind the list: the rarest element of the table that is no product of it; or 0, and there is none.
+-- The next generator after the list: the rarest element of the table that is not a product of it; or 0, and there is none.
 abbrev pub NextGenerator : ℕ → Product → List ℕ → ℕ → Type 0
 NextGenerator n s l x = RarestOrNone n (frequency n s) (λ y. LeftProduct s l y → ⊥) x
 
--- The first `count` entries of the list are such generators, each the next one behind those before it; zeros stand behind them.
+-- The first `count` entries of the list are such generators, each the next one after those before it; zeros follow.
 pub record RarestFirst (n : ℕ) (s : Product) (list : List ℕ) (count : ℕ) : Type 0 where
   pub entries : (k : ℕ) → k < count → Rarest n (frequency n s) (λ y. LeftProduct s (take k list) y → ⊥) (getD list k 0)
   pub zeros-behind : (k : ℕ) → count ≤ k → getD list k 0 ≡ 0
 
--- The generators chosen. They are complete where every element is a product of them; else there are n / 4 of them, and some element is none.
+-- The generators chosen. They are complete if every element is a product of them; if they are not, there are n / 4 of them, and some element is not a product
+-- of them.
 pub record Choice (n : ℕ) (s : Product) (list : List ℕ) (count : ℕ) (complete : Bool) : Type 0 where
   pub few : count ≤ n / 4
   pub rarest-first : RarestFirst n s list count
@@ -54,7 +56,7 @@ pub record Choice (n : ℕ) (s : Product) (list : List ℕ) (count : ℕ) (compl
 unfoldable pub goodMiddle : ℕ → Product → ℕ → Bool
 goodMiddle n s j = all (λ i. all (associates s i j) (elements n)) (elements n)
 
--- What Light's test answers with the generators chosen: "yes" where they are complete and every triple with its middle on their list associates.
+-- The answer of Light's test with the generators chosen: "yes" if they are complete and every triple with its middle on their list associates.
 pub record LightsAnswer (n : ℕ) (s : Product) (answer : Bool) : Type 0 where
   pub list : List ℕ
   pub count : ℕ

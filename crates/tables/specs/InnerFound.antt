@@ -13,7 +13,7 @@ use Rattle.semigroups.specs.GeneratedLaws.{Inside}
 unfoldable pub indicator : List ℕ → List ℕ
 indicator l = map (λ x. cond (member x l) 1 0) (range 0 121)
 
--- The list r with x behind it, unless x stands in it.
+-- The list r with x appended, unless x stands in it.
 unfoldable pub adding : List ℕ → ℕ → List ℕ
 adding r x = cond (member x r) r (r ++ x ∷ [])
 
@@ -22,7 +22,7 @@ unfoldable pub addingAll : List ℕ → List ℕ → List ℕ
 addingAll r [] = r
 addingAll r (x ∷ l) = addingAll (adding r x) l
 
--- The elements found so far are r: they stand in `found`, and zeros behind them; `marks` marks them; they are `count`.
+-- The elements found so far are r: they stand in `found`, followed by zeros; `marks` marks them; `count` is how many they are.
 pub record Found (r found marks : List ℕ) (count : ℕ) : Type 0 where
   pub listed : found ≡ r ++ replicate (120 - length r) 0
   pub marked : marks ≡ indicator r

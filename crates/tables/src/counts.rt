@@ -6,7 +6,8 @@ ghost use Rattle.semigroups.specs.Invariants.{frequency};
 ghost use Rattle.tables.specs.InnerCounting.{occurrences, InRange};
 ghost use Rattle.tables.specs.InnerPerElement.{perElement};
 
-// How often each element stands among k cells, the first and then each that is `step` further on: element a's count at place a - 1, then zeros.
+// Returns how often each element stands among k cells: the first, and then each that is `step` cells after the one before. The count of element a stands at
+// place a - 1; zeros follow.
 pub fn tally(cells: &[u8], n: usize, k: usize, step: usize) -> [u16; 120]
     requires { ⌜ Filled n (now cells) ⌝ ∗ ⌜ InRange k step (now cells) ⌝ ∗ ⌜ k ≤ 14400 ⌝ }
     ensures answer { λ r. ⌜ r ≡ perElement n (λ a. occurrences a step k (now (cells .entry))) ⌝ }
@@ -21,7 +22,7 @@ pub fn tally(cells: &[u8], n: usize, k: usize, step: usize) -> [u16; 120]
     found
 }
 
-// How often each element stands in the table: element a's count at place a - 1, then zeros.
+// Returns how often each element stands in the table. The count of element a stands at place a - 1; zeros follow.
 pub fn frequencies(cells: &[u8], n: usize) -> [u16; 120]
     requires { ⌜ Filled n (now cells) ⌝ }
     ensures answer { λ r. ⌜ r ≡ perElement n (frequency n (product n (now (cells .entry)))) ⌝ }

@@ -1,5 +1,5 @@
-// Question 4 by Light's associativity test: elements that generate all are chosen, the rarest first, and where few are enough, only the triples with
-// their middle on their list are looked at. A "no" here does not say that the table is not associative.
+// Question 4 by Light's associativity test. Elements that generate the whole table are chosen, the rarest first; if few are enough, only the triples whose
+// middle is one of them are looked at. A "no" from here does not mean that the table is not associative.
 ghost use mathlib.Core.Path.{_≡_};
 ghost use mathlib.Core.List.{map};
 ghost use Prim.Native.Nat.{_-_, _≤_, _<_};
@@ -16,7 +16,7 @@ use crate::times;
 
 // ---- elements found one by one
 
-// Adds x to the elements found unless it is there; returns how many there are.
+// Adds x to the elements found unless it is among them. Returns how many there are.
 pub fn add(found: &mut [u8; 120], marks: &mut [u8; 121], count: usize, x: usize) -> usize
     requires { ⌜ Found (take count (now found)) (now found) (now marks) count ⌝ ∗ ⌜ Element 120 x ⌝ }
     ensures found { λ r. ⌜ Found (adding (take count (now (found .entry))) x) (now (found .exit)) (now (marks .exit)) r ⌝ }
@@ -29,7 +29,7 @@ pub fn add(found: &mut [u8; 120], marks: &mut [u8; 121], count: usize, x: usize)
     count + 1
 }
 
-// Adds the products of the element found at `place` with each entry of the list from `from` on, as the right factor; returns how many are found.
+// Adds the products of the element found at `place` with each entry of the list from `from` on, as the right factor. Returns how many are found.
 fn multiply_right(
     cells: &[u8],
     n: usize,
@@ -55,8 +55,8 @@ fn multiply_right(
     known
 }
 
-// Adds the products from left to right that the last entry of the list makes possible, and returns how many are found: the entry itself, the products of
-// the elements found before with it, and those of the new elements with every entry.
+// Adds the products, from left to right, that the last entry of the list makes possible: the entry itself, its products with the elements found before on its
+// left, and those of the new elements with every entry. Returns how many are found.
 fn reach(
     cells: &[u8],
     n: usize,
@@ -85,7 +85,7 @@ fn reach(
 
 // ---- the choice of generators
 
-// The rarest element that has no mark, the smallest of them; or 0 where all have one. Element a's count stands at place a - 1.
+// Returns the rarest element that has no mark, and of those the smallest; or 0 if all have one. The count of element a stands at place a - 1.
 fn rarest(counts: &[u16; 120], marks: &[u8; 121], n: usize) -> usize
     requires { ⌜ n ≤ 120 ⌝ }
     ensures rarest { λ r. ⌜ RarestOrNone n (λ x. getD (now (counts .entry)) (x - 1) 0) (λ x. getD (now (marks .entry)) x 0 ≡ 0) r ⌝ }
@@ -105,14 +105,14 @@ fn rarest(counts: &[u16; 120], marks: &[u8; 121], n: usize) -> usize
     chosen
 }
 
-// The generators chosen: the first `count` entries; and whether every element is a product of them.
+// The generators chosen, which are the first `count` entries, and whether every element is a product of them.
 struct Generators {
     list: [u8; 30],
     count: usize,
     complete: bool,
 }
 
-// Chooses generators, at most n / 4: each is the rarest element that is no product, from left to right, of those before it.
+// Chooses at most n / 4 generators and returns them. Each is the rarest element that is not a product, from left to right, of those before it.
 fn choose(cells: &[u8], n: usize) -> Generators
     requires { ⌜ Filled n (now cells) ⌝ }
     ensures choice { λ r. ⌜ Choice n (product n (now (cells .entry))) (r .list) (r .count) (r .complete) ⌝ }
@@ -146,7 +146,7 @@ fn choose(cells: &[u8], n: usize) -> Generators
 
 // ---- triples with a given middle
 
-// Whether every triple with j in the middle associates.
+// Returns whether every triple with j in the middle associates.
 fn associative_at(cells: &[u8], n: usize, j: usize) -> bool
     requires { ⌜ Filled n (now cells) ⌝ ∗ ⌜ Element n j ⌝ }
     ensures answer { λ r. ⌜ r ≡ goodMiddle n (product n (now (cells .entry))) j ⌝ }
@@ -162,7 +162,7 @@ fn associative_at(cells: &[u8], n: usize, j: usize) -> bool
     true
 }
 
-// Whether every triple with its middle on the list associates.
+// Returns whether every triple with its middle on the list associates.
 fn associative_through(cells: &[u8], n: usize, list: &[u8]) -> bool
     requires { ⌜ Filled n (now cells) ⌝ ∗ ⌜ Inside n (now list) ⌝ }
     ensures answer { λ r. ⌜ r ≡ all (goodMiddle n (product n (now (cells .entry)))) (now (list .entry)) ⌝ }
@@ -178,7 +178,7 @@ fn associative_through(cells: &[u8], n: usize, list: &[u8]) -> bool
     true
 }
 
-// Whether few generators are complete and every triple with its middle on their list associates: the table is associative then.
+// Returns whether few generators are enough and every triple with its middle on their list associates. If so, the table is associative.
 pub fn accept(cells: &[u8], n: usize) -> bool
     requires { ⌜ Filled n (now cells) ⌝ }
     ensures answer { λ r. ⌜ LightsAnswer n (product n (now (cells .entry))) r ⌝ }

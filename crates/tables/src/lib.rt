@@ -1,4 +1,4 @@
-// The four questions about a table: an order and cells, of any content. The first "no" is the answer, with the cell or the triple that is said with it.
+// The four questions about a table, given as an order and cells of any content. The first "no" is the answer, with its cell or triple.
 ghost use mathlib.Core.Path.{_≡_};
 ghost use mathlib.Core.Bool.{not};
 ghost use mathlib.Core.List.{[], _∷_};
@@ -30,7 +30,7 @@ pub enum Verdict {
     Refused(Fault),
 }
 
-// Which of two tables.
+// One of the two tables.
 pub enum Side {
     Source,
     Target,
@@ -45,14 +45,14 @@ pub struct Refusal {
     pub third: usize,
 }
 
-// A "no" to a question: the question's number alone; with the one value that is said with it; or, of question 4, the triple.
+// A "no" to a question: the number of the question alone; or with its one value; or, for question 4, with the triple.
 pub enum No {
     Bare(usize),
     With(usize, usize),
     Triple(usize, usize, usize),
 }
 
-// What a call answers that gives a number: an order, a length or a count; or the earliest "no".
+// The answer of a call that gives a number, which is an order, a length or a count; or the earliest "no".
 pub enum Numbered {
     Number(usize),
     Refused(No),
@@ -63,7 +63,7 @@ pub enum PairVerdict {
     Refused(Side, Fault),
 }
 
-// Where something stands, counted from 1.
+// The place of something, counted from 1; or none.
 pub enum Place {
     At(usize),
     Nowhere,
@@ -83,7 +83,7 @@ impl Side {
 }
 
 impl Refusal {
-    // The refusal by question `number`, which names no side and carries one value, or none where that is 0.
+    // Returns the refusal by question `number`, which names no side and has one value, or no value where that is 0.
     pub fn by(number: usize, value: usize) -> Self
         ensures answer { λ r. ⌜ r ≡ refusalNumbers (no number (value ∷ [])) ⌝ }
     {
@@ -96,7 +96,7 @@ impl Refusal {
         }
     }
 
-    // The same refusal of one of two tables.
+    // Returns this refusal with the side of the table that it names.
     pub fn naming(self, side: Side) -> Self
         ensures answer { λ r. ⌜ r ≡ numbersNaming (sideNumber side) self ⌝ }
     {
@@ -152,7 +152,7 @@ impl Fault {
 
 // ---- the questions
 
-// The product i·j.
+// Returns the product i·j.
 pub fn times(cells: &[u8], n: usize, i: usize, j: usize) -> usize
     requires { ⌜ Filled n (now cells) ⌝ ∗ ⌜ Element n i ⌝ ∗ ⌜ Element n j ⌝ }
     ensures answer { λ r. ⌜ r ≡ product n (now (cells .entry)) i j ⌝ }
@@ -161,7 +161,7 @@ pub fn times(cells: &[u8], n: usize, i: usize, j: usize) -> usize
     cells[(i - 1) * n + (j - 1)] as usize
 }
 
-// The first cell that is not 1 to n, counted from 1.
+// Returns the place of the first cell that is not 1 to n, counted from 1; or none.
 pub fn outside(cells: &[u8], n: usize) -> Place
     ensures answer { λ r. ⌜ placeOption r ≡ badCell n (now (cells .entry)) ⌝ }
 {
@@ -179,7 +179,7 @@ pub fn outside(cells: &[u8], n: usize) -> Place
     Place::Nowhere
 }
 
-// The first k for which (i·j)·k = i·(j·k) does not hold.
+// Returns the first k for which (i·j)·k = i·(j·k) does not hold, or none.
 pub fn failing_third(cells: &[u8], n: usize, i: usize, j: usize) -> Place
     requires { ⌜ Filled n (now cells) ⌝ ∗ ⌜ Element n i ⌝ ∗ ⌜ Element n j ⌝ }
     ensures answer { λ r. ⌜ placeOption r ≡ find (λ k. not (associates (product n (now (cells .entry))) i j k)) (elements n) ⌝ }
@@ -196,7 +196,7 @@ pub fn failing_third(cells: &[u8], n: usize, i: usize, j: usize) -> Place
     Place::Nowhere
 }
 
-// The first triple for which (i·j)·k = i·(j·k) does not hold.
+// Returns the first triple for which (i·j)·k = i·(j·k) does not hold, if there is one.
 fn associative(cells: &[u8], n: usize) -> Verdict
     requires { ⌜ Filled n (now cells) ⌝ }
     ensures answer { λ r. ⌜ verdictRefusal r ≡ Option·map (λ l. no 4 l) (badTriple n (product n (now (cells .entry)))) ⌝ }
@@ -223,7 +223,7 @@ fn associative(cells: &[u8], n: usize) -> Verdict
     verdict
 }
 
-// Question 4: (i·j)·k = i·(j·k) for every triple. Where few generators say so, not every triple is looked at.
+// Asks question 4: does (i·j)·k = i·(j·k) hold for every triple? Where few generators show that it does, not every triple is looked at.
 fn associativity(cells: &[u8], n: usize) -> Verdict
     requires { ⌜ Filled n (now cells) ⌝ }
     ensures answer { λ r. ⌜ verdictRefusal r ≡ Option·map (λ l. no 4 l) (badTriple n (product n (now (cells .entry)))) ⌝ }
@@ -234,7 +234,7 @@ fn associativity(cells: &[u8], n: usize) -> Verdict
     associative(cells, n)
 }
 
-// Questions 1 to 3: order, size, cells.
+// Asks questions 1 to 3, about order, size and cells. Returns the first that fails.
 pub fn check_cells(cells: &[u8], n: usize) -> Verdict
     ensures answer { λ r. ⌜ verdictRefusal r ≡ cellsRefusal n (now (cells .entry)) ⌝ }
 {
@@ -253,7 +253,7 @@ pub fn check_cells(cells: &[u8], n: usize) -> Verdict
     }
 }
 
-// Questions 1 to 4: order, size, cells, associativity.
+// Asks questions 1 to 4, about order, size, cells and associativity. Returns the first that fails.
 pub fn check(cells: &[u8], n: usize) -> Verdict
     ensures answer { λ r. ⌜ verdictRefusal r ≡ tableRefusal n (now (cells .entry)) ⌝ }
 {
@@ -263,7 +263,7 @@ pub fn check(cells: &[u8], n: usize) -> Verdict
     }
 }
 
-// Questions 1 to 4 of the source, then of the target.
+// Asks questions 1 to 4 of the source, then of the target. Returns the first that fails.
 pub fn check_pair(source: &[u8], m: usize, target: &[u8], n: usize) -> PairVerdict
     ensures answer { λ r. ⌜ pairRefusal r ≡ tablesRefusal m (now (source .entry)) n (now (target .entry)) ⌝ }
 {
@@ -280,7 +280,7 @@ pub fn check_pair(source: &[u8], m: usize, target: &[u8], n: usize) -> PairVerdi
 
 // ---- rows and columns exchanged
 
-// Writes the table with rows and columns exchanged.
+// Writes the table with rows and columns exchanged to `turned`.
 pub fn turn(cells: &[u8], n: usize, turned: &mut [u8])
     requires { ⌜ Filled n (now cells) ⌝ ∗ ⌜ n * n ≤ length (now turned) ⌝ }
     ensures turned { λ _. ⌜ now (turned .exit) ≡ overwritten (turnedCells n (now (cells .entry))) (now (turned .entry)) ⌝ }

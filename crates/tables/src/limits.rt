@@ -3,19 +3,19 @@
 // The largest order of a table, and the largest number in a text.
 pub const ORDER: usize = 120;
 
-// A place for each element, and place 0, which stands for no element.
+// The length of an array with a place for each element and place 0, which stands for no element.
 pub const PLACES: usize = ORDER + 1;
 
-// The cells of a table of the largest order.
+// The number of cells of a table of the largest order.
 pub const CELLS: usize = ORDER * ORDER;
 
-// The marks of two tables of the largest order, a bit for each pair.
+// The number of bytes that the marks of two tables of the largest order take, at one bit for each pair.
 pub const SCRATCH: usize = CELLS / 8;
 
 // The bytes of the longest text of a table: 120 lines of 120 fields of three digits, each with a comma or CR after it, and an LF.
 pub const TEXT: usize = 57720;
 
-// One byte more: enough to see that a file is too long. Later bytes do not matter (`first-bytes-decide`).
+// One byte more than the longest text: enough to see that a file is too long. Later bytes do not matter (`first-bytes-decide`).
 pub const FILE: usize = TEXT + 1;
 
 // The longest output of the program `recue`: its first record, and one for each of 120 elements.

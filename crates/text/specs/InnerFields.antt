@@ -1,5 +1,4 @@
--- The field of a text at a place, as the reading functions hand it on.
--- Assumes nothing.
+-- The field of a text at a place, as the reading functions return it. Assumes nothing.
 use mathlib.Core.List.{List}
 use Prim.Native.Nat.{ℕ}
 use Rattle.csv.specs.InnerCursor.{fieldEnd, nextField, commaBehind, fieldFollows}

@@ -1,6 +1,6 @@
-// Cayley tables as RFC 4180 text: a record for each row, a decimal field for each cell, each record closed by CR LF; a text that is loaded may lack
-// the last CR LF. `load` asks questions 20, 21, 23 to 27 and 1 of a text, `save` asks 1, 2, 3 and 28; a refusal changes no byte. What the contracts
-// cite, and that saving and loading undo each other, is in the crate `csv`.
+// Cayley tables as RFC 4180 text: a record for each row, a decimal field for each cell, each record closed by CR LF; a text that is loaded may lack the last
+// CR LF. `load` asks questions 20, 21, 23 to 27 and 1 of a text, `save` asks 1, 2, 3 and 28; a refusal changes no byte. The definitions that the contracts
+// cite, and the proof that saving and loading undo each other, are in the crate `csv`.
 ghost use mathlib.Core.Path.{_≡_};
 ghost use mathlib.Core.Option.{none};
 ghost use Prim.Native.Nat.{_+_, _≤_};
@@ -24,13 +24,13 @@ use tables::Verdict;
 use tables::limits::ORDER;
 use tables::limits::TEXT;
 
-// Whether some of the questions about a text pass.
+// Whether some of the questions about a text pass, or the first that fails.
 enum Judged {
     Passed,
     Failed(No),
 }
 
-// Question 21: is every byte a digit, a comma, or part of a CR LF pair?
+// Asks question 21: is every byte a digit, a comma, or part of a CR LF pair?
 fn judge_bytes(text: &[u8]) -> Judged
     ensures answer { λ r. ⌜ judgedRefusal r ≡ bytesRefusal (now (text .entry)) ⌝ }
 {
@@ -61,7 +61,7 @@ fn judge_bytes(text: &[u8]) -> Judged
     Judged::Passed
 }
 
-// The place behind the digits that stand from `at` on.
+// Returns the place after the digits that stand from `at` on.
 fn digits_end(text: &[u8], at: usize) -> usize
     requires { ⌜ at ≤ length (now text) ⌝ }
     ensures answer { λ r. ⌜ r ≡ fieldEnd (now (text .entry)) at ⌝ }
@@ -80,7 +80,7 @@ fn digits_end(text: &[u8], at: usize) -> usize
     i
 }
 
-// The number that the digits from `at` to `end` stand for: at most three of them.
+// Returns the number that the digits from `at` to `end` stand for. There are at most three.
 fn read_number(text: &[u8], at: usize, end: usize) -> usize
     requires inside { ⌜ at ≤ length (now text) ⌝ }
     requires whole { ⌜ end ≡ fieldEnd (now text) at ⌝ }
@@ -96,7 +96,7 @@ fn read_number(text: &[u8], at: usize, end: usize) -> usize
     v
 }
 
-// Questions 24, 23 and 25 about the field of digits from `at` to `end`. One with no byte passes 24.
+// Asks questions 24, 23 and 25 about the field of digits from `at` to `end`. An empty field passes 24.
 fn judge_field(text: &[u8], at: usize, end: usize) -> Judged
     requires inside { ⌜ at ≤ length (now text) ⌝ }
     requires whole { ⌜ end ≡ fieldEnd (now text) at ⌝ }
@@ -117,7 +117,7 @@ fn judge_field(text: &[u8], at: usize, end: usize) -> Judged
     Judged::Passed
 }
 
-// A field of the text: the place behind it, where the next field begins, whether a comma stands between the two, and whether there is a next one.
+// A field of the text: the place after it, the place where the next field begins, whether a comma stands between the two, and whether there is a next one.
 struct Field {
     end: usize,
     next: usize,
@@ -125,7 +125,7 @@ struct Field {
     more: bool,
 }
 
-// The field that begins at `at`: where the text ends, an empty one.
+// Returns the field that begins at `at`. Where the text ends, it is empty.
 fn next_field(text: &[u8], at: usize) -> Field
     requires { ⌜ at ≤ length (now text) ⌝ }
     ensures answer { λ r. ⌜ r ≡ fieldAt (now (text .entry)) at ⌝ }
@@ -155,7 +155,7 @@ fn next_field(text: &[u8], at: usize) -> Field
     }
 }
 
-// The number of fields of the first record.
+// Returns the number of fields of the first record.
 fn columns(text: &[u8]) -> usize
     requires some { ⌜ 1 ≤ length (now text) ⌝ }
     requires bytes { ⌜ bytesRefusal (now text) ≡ none ⌝ }
@@ -173,7 +173,7 @@ fn columns(text: &[u8]) -> usize
     n
 }
 
-// Questions 24, 23 and 25 about each field; then, where they pass, 26: are there n records, each with n fields?
+// Asks questions 24, 23 and 25 about each field; then, if they pass, 26: are there n records, each with n fields?
 fn judge_fields(text: &[u8], n: usize) -> Judged
     requires some { ⌜ 1 ≤ length (now text) ⌝ }
     requires bytes { ⌜ bytesRefusal (now text) ≡ none ⌝ }
@@ -230,8 +230,8 @@ fn fill(text: &[u8], cells: &mut [u8])
     }
 }
 
-// Loads the table that `text` holds: answers its order and writes its cells, row by row, to the start of `cells`; or answers the earliest
-// question that fails, and writes nothing.
+// Loads the table that `text` holds: writes its cells, row by row, to the start of `cells` and answers its order; or answers the earliest question that
+// fails, and writes nothing.
 pub fn load(text: &[u8], cells: &mut [u8]) -> Numbered
     ensures answer { λ r. ⌜ numberedSays r ≡ loadAnswer (now (text .entry)) (now (cells .entry)) ⌝ }
     ensures cells { λ _. ⌜ now (cells .exit) ≡ cellsAfter (now (text .entry)) (now (cells .entry)) ⌝ }
@@ -261,7 +261,7 @@ pub fn load(text: &[u8], cells: &mut [u8]) -> Numbered
     Numbered::Number(n)
 }
 
-// The length of the text of a table: each cell is followed by a comma or a CR, each row by an LF.
+// Returns the length of the text of a table: each cell is followed by a comma or a CR, each row by an LF.
 fn text_length(cells: &[u8], n: usize) -> usize
     requires { ⌜ Filled n (now cells) ⌝ }
     ensures answer { λ r. ⌜ r ≡ length (tableText n (now (cells .entry))) ⌝ }
@@ -275,7 +275,7 @@ fn text_length(cells: &[u8], n: usize) -> usize
     total
 }
 
-// Writes row i of a table at `start`, with its line break. Answers the place behind it.
+// Writes row i of a table at `start`, with its line break. Returns the place after it.
 fn put_row(cells: &[u8], n: usize, i: usize, text: &mut [u8], start: usize) -> usize
     requires table { ⌜ Filled n (now cells) ⌝ }
     requires row { ⌜ Element n i ⌝ }
@@ -292,7 +292,7 @@ fn put_row(cells: &[u8], n: usize, i: usize, text: &mut [u8], start: usize) -> u
     lines::put_break(text, at)
 }
 
-// Writes the text of a table to the start of `text`. Answers its length.
+// Writes the text of a table to the start of `text`. Returns its length.
 fn put_rows(cells: &[u8], n: usize, text: &mut [u8]) -> usize
     requires table { ⌜ Filled n (now cells) ⌝ }
     requires room { ⌜ length (tableText n (now cells)) ≤ length (now text) ⌝ }

@@ -5,6 +5,6 @@ use Prim.Native.Nat.{ℕ}
 use lib.Dec.{leb}
 use Rattle.semigroups.specs.Questions.{Refusal, ask, firstNo}
 
--- Question 9 alone, about a table of `need` cells.
+-- The refusal by question 9, about a table of `need` cells.
 abbrev pub roomRefusal : ℕ → ℕ → Option Refusal
 roomRefusal need size = firstNo (ask 9 (leb need size) ∷ [])

@@ -6,7 +6,7 @@ use lib.ListN.{length}
 use Rattle.semigroups.specs.Calls.{Answer, givenUnless, writtenUnless}
 use Rattle.semigroups.specs.Transformations.{transformationOrder, transformationCells, transformationRefusal}
 
--- What a call says for degree d and a buffer of `size` bytes: the order is given.
+-- What a call answers for degree d and a buffer of `size` bytes: the order.
 unfoldable pub transformationSays : ℕ → ℕ → Answer ℕ
 transformationSays d size = givenUnless (transformationRefusal d size) (transformationOrder d)
 

@@ -11,7 +11,7 @@ use tables::Numbered;
 
 pub mod stored;
 
-// Writes a table of order n to the start of `cells` and answers its order; or answers 9 where there is no room for it.
+// Writes a table of order n to the start of `cells` and answers its order; or answers 9 if there is no room for it.
 fn put(n: usize, table: &[u8], cells: &mut [u8]) -> Numbered
     ensures answer { λ r. ⌜ numberedSays r ≡ givenUnless (roomRefusal (length (now (table .entry))) (length (now (cells .entry)))) n ⌝ }
     ensures cells { λ r. ⌜ now (cells .exit) ≡ writtenUnless (roomRefusal (length (now (table .entry))) (length (now (cells .entry)))) (now (table .entry)) (now (cells .entry)) ⌝ }

@@ -1,8 +1,8 @@
-// The tables of all transformations of one, two and three points: row s, column t holds the number of s first, then t.
+// The tables of all transformations of one, two and three points: the cell in row s and column t holds the number of the transformation s, then t.
 ghost use mathlib.Core.Path.{_≡_};
 ghost use Rattle.semigroups.specs.Transformations.{transformationCells};
 
-// Degree 3. Each row begins with the number and the images of its s.
+// The table of degree 3. Each row begins with the number and the images of its s.
 const PRODUCTS: [u8; 729] = [
     // 1: 1 1 1
     1,
