@@ -7,7 +7,7 @@ use std::error::Error;
 use std::fmt;
 
 /// The table that a refusal names, in a call with two tables.
-#[derive(Clone, Copy, Debug, PartialEq, Eq)]
+#[derive(Clone, Copy, Debug, PartialEq, Eq, Hash)]
 pub enum Side {
     /// The table that is mapped.
     Source,
@@ -15,8 +15,9 @@ pub enum Side {
     Target,
 }
 
-/// A question that a call asks, with what is said where the answer is "no".
-#[derive(Clone, Copy, Debug, PartialEq, Eq)]
+/// A question that a call asks, with what is said where the answer is "no". Later versions may ask more.
+#[derive(Clone, Copy, Debug, PartialEq, Eq, Hash)]
+#[non_exhaustive]
 pub enum Question {
     /// 1: is the order 1 to 120?
     Order,
@@ -96,6 +97,7 @@ pub enum Question {
 
 impl Question {
     /// The question's number.
+    #[must_use]
     pub fn number(self) -> u64 {
         match self {
             Question::Order => 1,
@@ -161,7 +163,15 @@ impl Question {
 }
 
 /// The earliest question that failed, with the table that it is about where the call has two.
-#[derive(Clone, Copy, Debug, PartialEq, Eq)]
+///
+/// It is displayed as a sentence, also by `{:?}`, so that a `main` that returns it prints the sentence:
+///
+/// ```
+/// let refusal = tickdrizzle::Table::new(vec![1, 2, 2, 3], 2).unwrap_err();
+/// assert_eq!(refusal.to_string(), "cell 4 is no element of the table (question 3)");
+/// assert_eq!(format!("{refusal:?}"), refusal.to_string());
+/// ```
+#[derive(Clone, Copy, PartialEq, Eq, Hash)]
 pub struct Refusal {
     /// The side, for questions 1 to 4 of a map check or a search.
     pub side: Option<Side>,
@@ -232,6 +242,12 @@ impl fmt::Display for Refusal {
             Some(Side::Target) => "the target: ",
         };
         write!(formatter, "{side}{} (question {})", self.question, self.question.number())
+    }
+}
+
+impl fmt::Debug for Refusal {
+    fn fmt(&self, formatter: &mut fmt::Formatter<'_>) -> fmt::Result {
+        fmt::Display::fmt(self, formatter)
     }
 }
 

@@ -1,33 +1,48 @@
 //! Multiplication tables of finite semigroups: checks, invariants, generators, embeddings, isomorphisms, CSV text and
 //! least degrees, over a library that is proved for every input.
 //!
+//! Start with [`Table`]: it is checked once, answers questions about itself, and walks through its maps to other tables.
+//!
+//! ```
+//! use tickdrizzle::{Copies, Table};
+//!
+//! let swap = Table::load(b"1,2\r\n2,1\r\n")?;
+//! let all = Table::transformations(2)?;
+//! assert_eq!(swap.embeddings(&all).next(), Some(vec![2, 3]));
+//! assert_eq!(swap.copies(&all), Copies::Number(1));
+//! # Ok::<(), tickdrizzle::Refusal>(())
+//! ```
+//!
 //! A table of order n is n × n bytes, row after row, each 1 to n: the cell in row i, column j is the product i·j. A map
-//! is one byte for each source element, its image. Elements count from 1, and byte 0 stands for no element.
+//! is one byte for each source element, its image. Elements count from 1, and byte 0 stands for no element. [`Names`]
+//! holds what elements are called.
 //!
-//! Every call takes any content, any order and buffers of any length. It answers what was asked for, or a [`Refusal`]: the
-//! earliest question that failed. A refused call changes no byte of any buffer, and bytes behind the part that a call is
-//! said to write stay as they were. [`Table`] holds cells that were checked once, and walks through maps.
+//! Below these stand the calls of the library as functions that take slices, such as [`first_embedding`]. Every call takes
+//! any content, any order and buffers of any length. It answers what was asked for, or a [`Refusal`]: the earliest question
+//! that failed. A refused call changes no byte of any buffer, and bytes behind the part that a call is said to write stay as
+//! they were. [`abi`] has the same calls with sixteen numbers, as C has them.
 //!
-//! ```
-//! use tickdrizzle::{first_embedding, scratch_size, Search};
+//! # Threads
 //!
-//! let swap = [1, 2, 2, 1];
-//! let transformations = [1, 1, 4, 4, 1, 2, 3, 4, 1, 3, 2, 4, 1, 4, 1, 4];
-//! let (mut map, mut scratch) = ([0; 2], [0; scratch_size(2, 4)]);
-//! let search = first_embedding(&swap, 2, &transformations, 4, &mut map, &mut scratch);
-//! assert_eq!(search, Ok(Search::Found));
-//! assert_eq!(map, [2, 3]);
-//! ```
+//! No call keeps state or allocates, and every type here is `Send` and `Sync`: any number of threads may ask the same
+//! tables at one time. A search between tables of order 120 needs up to 1 MB of stack, which Rust's own threads have.
+//!
+//! # Linking
+//!
+//! In the repository the package links the archive that `rt staticlib exports` makes. Anywhere else it links the installed
+//! library that `pkg-config` finds, and needs no toolchain but Rust's.
 
 #![warn(missing_docs, clippy::missing_errors_doc)]
 
 #[allow(missing_docs)]
 pub mod abi;
 mod answers;
+mod names;
 mod table;
 
 use abi::Answer;
 pub use answers::{Copies, IndexPeriod, LimitedSearch, MapCheck, Profile, Question, Refusal, Search, Side};
+pub use names::Names;
 pub use table::{Maps, Part, Table};
 
 /// The greatest order of a table.
@@ -45,7 +60,13 @@ pub const LONGEST_NAME: usize = 40;
 /// The greatest degree of a table of transformations.
 pub const GREATEST_DEGREE: usize = 3;
 
+/// The greatest number of copies that is counted.
+pub const MOST_COPIES: usize = 65_535;
+/// Stack bytes that are enough for any call, as measured.
+pub const STACK: usize = 1_000_000;
+
 /// The scratch bytes that a search between tables of these orders asks for: a bit for each pair.
+#[must_use]
 pub const fn scratch_size(source_order: usize, target_order: usize) -> usize {
     (source_order * target_order).div_ceil(8)
 }

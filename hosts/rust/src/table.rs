@@ -1,29 +1,34 @@
-//! A table that is checked once, and the walks through its embeddings and isomorphisms.
+//! A table that is checked once, what is asked of it, and the walks through its maps.
 
 use crate::{
-    check_table, copies, first_embedding, first_embedding_within, first_isomorphism, least_degree, load,
-    next_embedding, next_isomorphism, save, scratch_size, subsemigroup, transformations, Copies, LimitedSearch,
-    Refusal, Search, GREATEST_DEGREE, GREATEST_ORDER, LONGEST_TEXT, MOST_CELLS,
+    check_generated, check_map, check_table, copies, first_embedding, first_embedding_within, first_isomorphism,
+    first_isomorphism_within, first_reversed_isomorphism, first_reversed_isomorphism_within, index_period,
+    least_degree, load, next_embedding, next_isomorphism, next_reversed_isomorphism, profile, save, scratch_size,
+    subsemigroup, transformations, Copies, IndexPeriod, LimitedSearch, MapCheck, Profile, Refusal, Search,
+    GREATEST_DEGREE, GREATEST_ORDER, LONGEST_TEXT, MOST_CELLS,
 };
 
 /// The cells and the order of an accepted table.
 ///
 /// ```
-/// use tickdrizzle::Table;
+/// use tickdrizzle::{MapCheck, Table};
 ///
 /// let swap = Table::new(vec![1, 2, 2, 1], 2)?;
 /// let all = Table::transformations(2)?;
 /// assert_eq!(swap.embeddings(&all).collect::<Vec<_>>(), [[2, 3]]);
+/// assert_eq!(swap.check_map(&all, &[1, 3])?, MapCheck::WrongProduct { i: 1, j: 2 });
+/// assert_eq!(swap.index_period(2)?.period, 2);
+/// assert_eq!(all.part(&[3])?.table, swap);
 /// # Ok::<(), tickdrizzle::Refusal>(())
 /// ```
-#[derive(Clone, Debug, PartialEq, Eq)]
+#[derive(Clone, Debug, PartialEq, Eq, Hash)]
 pub struct Table {
     cells: Vec<u8>,
     order: usize,
 }
 
 /// A part of a table that holds every product of its own members, as a table of its own.
-#[derive(Clone, Debug, PartialEq, Eq)]
+#[derive(Clone, Debug, PartialEq, Eq, Hash)]
 pub struct Part {
     /// The part, renumbered from 1.
     pub table: Table,
@@ -38,6 +43,16 @@ impl Table {
     /// The earliest of the questions 1 to 4 that fails.
     pub fn new(cells: Vec<u8>, order: usize) -> Result<Table, Refusal> {
         check_table(&cells, order)?;
+        Ok(Table { cells, order })
+    }
+
+    /// Takes cells that are a table of this order, given a list of elements of which all others are products. Fewer triples
+    /// are looked at than by [`Table::new`], which accepts the same tables.
+    ///
+    /// # Errors
+    /// The earliest of the questions 1 to 3, 50, 51 and 4 that fails.
+    pub fn generated(cells: Vec<u8>, order: usize, generators: &[u8]) -> Result<Table, Refusal> {
+        check_generated(&cells, order, generators)?;
         Ok(Table { cells, order })
     }
 
@@ -64,11 +79,13 @@ impl Table {
     }
 
     /// The number of elements.
+    #[must_use]
     pub fn order(&self) -> usize {
         self.order
     }
 
     /// The cells, row after row.
+    #[must_use]
     pub fn cells(&self) -> &[u8] {
         &self.cells
     }
@@ -77,12 +94,14 @@ impl Table {
     ///
     /// # Panics
     /// Where i or j is no element.
+    #[must_use]
     pub fn product(&self, i: usize, j: usize) -> usize {
         assert!((1..=self.order).contains(&i) && (1..=self.order).contains(&j), "{i} or {j} is no element");
         usize::from(self.cells[(i - 1) * self.order + (j - 1)])
     }
 
     /// The CSV text of the table.
+    #[must_use]
     pub fn text(&self) -> Vec<u8> {
         let mut text = vec![0; LONGEST_TEXT];
         let length = save(&self.cells, self.order, &mut text).expect("an accepted table has a text");
@@ -102,13 +121,52 @@ impl Table {
         Ok(Part { table: Table { cells, order }, elements })
     }
 
+    /// Index, period and idempotent power of an element.
+    ///
+    /// # Errors
+    /// Question 7, where it is no element.
+    pub fn index_period(&self, element: usize) -> Result<IndexPeriod, Refusal> {
+        index_period(&self.cells, self.order, element)
+    }
+
+    /// The profile of an element.
+    ///
+    /// # Errors
+    /// Question 7, where it is no element.
+    pub fn profile(&self, element: usize) -> Result<Profile, Refusal> {
+        profile(&self.cells, self.order, element)
+    }
+
+    /// Whether a map is an embedding of this table in the target, or its earliest fault.
+    ///
+    /// # Errors
+    /// Question 5, where it has not exactly one image for each element.
+    pub fn check_map(&self, target: &Table, map: &[u8]) -> Result<MapCheck, Refusal> {
+        check_map(&self.cells, self.order, &target.cells, target.order, map)
+    }
+
+    /// The least degree, 1 to 3, whose table of transformations holds an embedding of this table; nothing where three points
+    /// are not enough.
+    #[must_use]
+    pub fn degree(&self) -> Option<usize> {
+        self.positions().map(|positions| positions[0].len())
+    }
+
     /// The fewest rest positions, 1 to 3: for each element in turn where it takes each of them, under the first embedding in a
     /// table of transformations; nothing where three are not enough.
+    #[must_use]
     pub fn positions(&self) -> Option<Vec<Vec<u8>>> {
         let mut positions = vec![0; self.order * GREATEST_DEGREE];
-        let degree =
-            least_degree(&self.cells, self.order, &mut positions).expect("an accepted table is not refused")?;
+        let degree = least_degree(&self.cells, self.order, &mut positions).expect(ACCEPTED)?;
         Some(positions.chunks(degree).take(self.order).map(<[u8]>::to_vec).collect())
+    }
+
+    /// The number of different copies of this table in the target: of the image sets of its embeddings.
+    #[must_use]
+    pub fn copies(&self, target: &Table) -> Copies {
+        let mut scratch = vec![0; scratch_size(self.order, target.order)];
+        let counted = copies(&self.cells, self.order, &target.cells, target.order, &mut scratch);
+        counted.expect(ACCEPTED)
     }
 
     /// Every embedding of this table in the target, earliest first.
@@ -116,33 +174,56 @@ impl Table {
         Maps::new(self, target, first_embedding, next_embedding)
     }
 
-    /// The earliest embedding of this table in the target within so many trials: what the search says, and the map where it
-    /// is found.
-    pub fn embedding_within(&self, target: &Table, limit: u32) -> (LimitedSearch, Option<Vec<u8>>) {
-        let (mut map, mut scratch) = (vec![0; self.order], vec![0; scratch_size(self.order, target.order)]);
-        let (source, order) = (&self.cells, self.order);
-        let search = first_embedding_within(source, order, &target.cells, target.order, &mut map, &mut scratch, limit);
-        let search = search.expect("accepted tables are not refused");
-        (search, matches!(search, LimitedSearch::Found { .. }).then_some(map))
-    }
-
-    /// The number of different copies of this table in the target: of the image sets of its embeddings.
-    pub fn copies(&self, target: &Table) -> Copies {
-        let mut scratch = vec![0; scratch_size(self.order, target.order)];
-        let counted = copies(&self.cells, self.order, &target.cells, target.order, &mut scratch);
-        counted.expect("accepted tables are not refused")
-    }
-
     /// Every isomorphism of this table onto the target, earliest first.
     pub fn isomorphisms<'a>(&'a self, target: &'a Table) -> Maps<'a> {
         Maps::new(self, target, first_isomorphism, next_isomorphism)
     }
+
+    /// Every reversed isomorphism of this table onto the target, earliest first: one to one, onto, and the image of i·j is the
+    /// image of j times the image of i.
+    pub fn reversed_isomorphisms<'a>(&'a self, target: &'a Table) -> Maps<'a> {
+        Maps::new(self, target, first_reversed_isomorphism, next_reversed_isomorphism)
+    }
+
+    /// The earliest embedding of this table in the target within so many trials: what the search says, and the map where it
+    /// is found.
+    #[must_use]
+    pub fn embedding_within(&self, target: &Table, limit: u32) -> (LimitedSearch, Option<Vec<u8>>) {
+        self.within(target, limit, first_embedding_within)
+    }
+
+    /// The earliest isomorphism of this table onto the target within so many trials: what the search says, and the map where
+    /// it is found.
+    #[must_use]
+    pub fn isomorphism_within(&self, target: &Table, limit: u32) -> (LimitedSearch, Option<Vec<u8>>) {
+        self.within(target, limit, first_isomorphism_within)
+    }
+
+    /// The earliest reversed isomorphism of this table onto the target within so many trials: what the search says, and the
+    /// map where it is found.
+    #[must_use]
+    pub fn reversed_isomorphism_within(&self, target: &Table, limit: u32) -> (LimitedSearch, Option<Vec<u8>>) {
+        self.within(target, limit, first_reversed_isomorphism_within)
+    }
+
+    fn within(&self, target: &Table, limit: u32, search: LimitedSearching) -> (LimitedSearch, Option<Vec<u8>>) {
+        let (mut map, mut scratch) = (vec![0; self.order], vec![0; scratch_size(self.order, target.order)]);
+        let said = search(&self.cells, self.order, &target.cells, target.order, &mut map, &mut scratch, limit);
+        let said = said.expect(ACCEPTED);
+        (said, matches!(said, LimitedSearch::Found { .. }).then_some(map))
+    }
 }
+
+/// Why no call on tables is refused where its buffers are long enough.
+const ACCEPTED: &str = "accepted tables are not refused";
+
+type LimitedSearching = fn(&[u8], usize, &[u8], usize, &mut [u8], &mut [u8], u32) -> Result<LimitedSearch, Refusal>;
 
 type Searching = fn(&[u8], usize, &[u8], usize, &mut [u8], &mut [u8]) -> Result<Search, Refusal>;
 
 /// A walk through all maps of one kind between two tables, earliest first. Each map has one byte for each source element.
 #[derive(Clone, Debug)]
+#[must_use = "a walk does nothing until it is asked for its maps"]
 pub struct Maps<'a> {
     source: &'a Table,
     target: &'a Table,
@@ -171,7 +252,7 @@ impl Iterator for Maps<'_> {
         self.searches = [then, then];
         let (source, target) = (self.source, self.target);
         let search = now(&source.cells, source.order, &target.cells, target.order, &mut self.map, &mut self.scratch);
-        self.ended = search.expect("accepted tables are not refused") == Search::None;
+        self.ended = search.expect(ACCEPTED) == Search::None;
         (!self.ended).then(|| self.map.clone())
     }
 }

@@ -14,7 +14,7 @@ fn help_has_an_example() {
         assert_eq!((help.errors.as_str(), help.status), ("", 0));
         assert!(help.output.contains("\nExample") && help.output.contains(&format!("$ tickdrizzle {command} ")));
     }
-    assert_eq!(run(&["--version"]), answer("tickdrizzle 0.1.0\n", 0));
+    assert_eq!(run(&["--version"]), answer("tickdrizzle 1.0.0\n", 0));
 }
 
 #[test]

@@ -1,4 +1,4 @@
-//! A call with all that is lent to it, and the three ways to make it: by the archive, by the wrapper, by the reference.
+//! A call with all that is lent to it, and three ways to make it: by the archive, by the wrapper, by the reference.
 
 use crate::random::Random;
 use crate::reference::{self, Ask, Kind};
@@ -107,7 +107,51 @@ pub const FUNCTIONS: [&str; 22] = [
     "copies",
 ];
 
+/// An argument of a call.
+pub enum Argument<'a> {
+    Read(&'a [u8]),
+    Written(&'a mut [u8]),
+    Number(usize),
+}
+
 impl Call {
+    /// The arguments in the order of the header.
+    pub fn arguments(&mut self) -> Vec<Argument<'_>> {
+        use Argument::{Number, Read, Written};
+        fn table(table: &LentTable) -> [Argument<'_>; 2] {
+            [Read(&table.cells), Number(table.order)]
+        }
+        let tables = |source, target| table(source).into_iter().chain(table(target));
+        match self {
+            Call::CheckTable { table: lent } => table(lent).into(),
+            Call::IndexPeriod { table: lent, element } | Call::Profile { table: lent, element } => {
+                table(lent).into_iter().chain([Number(*element)]).collect()
+            }
+            Call::CheckMap { source, target, map } => tables(source, target).chain([Read(map)]).collect(),
+            Call::CheckGenerated { table: lent, generators } => {
+                table(lent).into_iter().chain([Read(generators)]).collect()
+            }
+            Call::Subsemigroup { table: lent, chosen, part, elements } => {
+                table(lent).into_iter().chain([Read(chosen), Written(part), Written(elements)]).collect()
+            }
+            Call::Search { source, target, map, scratch, .. } => {
+                tables(source, target).chain([Written(map), Written(scratch)]).collect()
+            }
+            Call::LimitedSearch { source, target, map, scratch, limit, .. } => {
+                tables(source, target).chain([Written(map), Written(scratch), Number(*limit as usize)]).collect()
+            }
+            Call::Transformations { degree, cells } => vec![Number(*degree), Written(cells)],
+            Call::Load { text, cells } => vec![Read(text), Written(cells)],
+            Call::Save { table: lent, text } => table(lent).into_iter().chain([Written(text)]).collect(),
+            Call::LeastDegree { table: lent, positions } => {
+                table(lent).into_iter().chain([Written(positions)]).collect()
+            }
+            Call::LoadNames { text, names, lengths } => vec![Read(text), Written(names), Written(lengths)],
+            Call::SaveNames { names, lengths, text } => vec![Read(names), Read(lengths), Written(text)],
+            Call::Copies { source, target, scratch } => tables(source, target).chain([Written(scratch)]).collect(),
+        }
+    }
+
     pub fn function(&self) -> &'static str {
         match self {
             Call::CheckTable { .. } => "check_table",

@@ -1,11 +1,12 @@
 //! Compares the library with an independent implementation, the whole answer and every byte of every buffer, on every
 //! small table, every short name sheet and CALLS random inputs: differential [CALLS] [SEED]. Prints the counts; fails where there is any
-//! difference.
+//! difference. Where `DIFFERENTIAL_PYTHON` names a program, some of the calls are made by it.
 
 mod calls;
 mod families;
 mod inputs;
 mod names;
+mod python;
 mod random;
 mod reference;
 mod sheets;
@@ -14,6 +15,7 @@ mod tally;
 use calls::{Call, Lent, LentTable};
 use families::Semigroup;
 use inputs::Input;
+use python::Python;
 use random::Random;
 use reference::{Ask, Kind, Pair, Table, KINDS};
 use std::process::ExitCode;
@@ -38,7 +40,7 @@ fn main() -> ExitCode {
         return ExitCode::from(64);
     };
     println!("seed {seed}");
-    let mut comparison = Comparison { random: Random::new(seed), tally: Tally::default() };
+    let mut comparison = Comparison { random: Random::new(seed), tally: Tally::default(), python: Python::start() };
     comparison.small_tables();
     comparison.scratch_lengths();
     comparison.small_sheets();
@@ -48,6 +50,9 @@ fn main() -> ExitCode {
         comparison.some_calls();
     }
     comparison.tally.print();
+    if let Some(python) = comparison.python {
+        comparison.tally.differences += u64::from(!python.end());
+    }
     println!("seed {seed}");
     ExitCode::from(u8::from(comparison.tally.differences > 0))
 }
@@ -70,6 +75,7 @@ fn seed_of_the_clock() -> u64 {
 struct Comparison {
     random: Random,
     tally: Tally,
+    python: Option<Python>,
 }
 
 impl Comparison {
@@ -78,7 +84,11 @@ impl Comparison {
         let before = call.clone();
         let expected = call.by_reference();
         let mut other = before.clone();
-        let answer = if self.random.one_in(2) { other.by_archive(&mut self.random) } else { other.by_wrapper() };
+        let answer = match &mut self.python {
+            Some(python) if self.random.one_in(python::ONE_IN) => python.make(&mut other),
+            _ if self.random.one_in(2) => other.by_archive(&mut self.random),
+            _ => other.by_wrapper(),
+        };
         self.tally.count(&before, family, &expected);
         if answer != expected || other != *call {
             self.tally.differences += 1;
