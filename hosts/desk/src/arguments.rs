@@ -71,6 +71,9 @@ pub enum Command {
     /// Finds which cue of the rig each cue of the show becomes
     #[command(after_help = MOVE_EXAMPLE)]
     Move(MoveArguments),
+    /// Tells why a show does not fit: the smallest part that has no place, and the largest that can be moved
+    #[command(after_help = WHY_EXAMPLE)]
+    Why(WhyArguments),
     /// Says of each sheet whether it is a linking table, or what is wrong with it and where
     #[command(after_help = CHECK_EXAMPLE)]
     Check(CheckArguments),
@@ -86,6 +89,12 @@ pub enum Command {
     /// Tells how few rest positions can carry a table, and where each cue then lands
     #[command(after_help = POSITIONS_EXAMPLE)]
     Positions(PositionsArguments),
+    /// Tells which cue a repeated cue settles on, after how many times, and in what rhythm
+    #[command(after_help = SETTLES_EXAMPLE)]
+    Settles(SettlesArguments),
+    /// Finds a short list of building cues, from which all others are linked
+    #[command(after_help = CUES_EXAMPLE)]
+    Cues(CuesArguments),
     /// Writes a sheet as clean CSV beside the original, for other programs
     #[command(after_help = MEND_EXAMPLE)]
     Mend(MendArguments),
@@ -126,6 +135,25 @@ pub struct Tables {
     pub paths: Vec<PathBuf>,
 }
 
+const WHY_EXAMPLE: &str = "\
+Example:
+  $ tickdrizzle why examples/none
+  The show does not fit: there is no way to give its 2 cues partners among the rig's 4.
+  Each smaller part that one, two or three cues make has a place (2 parts); the whole show has none.
+  Without cue 1, 1 of 2 cues can be moved. More cannot, where one, two or three of its building cues (1, 2) are left out.
+  What is said of parts is certain; what to leave out is a suggestion.
+  The partners of what can be moved:
+    2  ->  1";
+
+#[derive(Debug, Args)]
+pub struct WhyArguments {
+    #[command(flatten)]
+    pub tables: Tables,
+    /// How long each search may take, such as 1m; 10s where no time is given
+    #[arg(long, value_name = "TIME", value_parser = duration)]
+    pub timeout: Option<Duration>,
+}
+
 const CHECK_EXAMPLE: &str = "\
 Example:
   $ tickdrizzle check examples/found/source.csv
@@ -136,6 +164,9 @@ pub struct CheckArguments {
     /// Sheets, or a folder with the show as source and the rig as target
     #[arg(value_name = "SHEET or FOLDER", required = true)]
     pub paths: Vec<PathBuf>,
+    /// The cues that the sheet is built from, with commas between: fewer links are looked at then, and the answer is the same
+    #[arg(long, value_name = "NUMBERS", value_delimiter = ',', value_parser = cue)]
+    pub cues: Vec<usize>,
 }
 
 const CLASSES_EXAMPLE: &str = "\
@@ -211,6 +242,38 @@ Example:
 
 #[derive(Debug, Args)]
 pub struct PositionsArguments {
+    /// A sheet, or a folder whose show is meant
+    #[arg(value_name = "SHEET or FOLDER")]
+    pub path: PathBuf,
+}
+
+const SETTLES_EXAMPLE: &str = "\
+Example:
+  $ tickdrizzle settles examples/found/source.csv
+  What each of the 2 cues settles on when it is repeated:
+    1  is settled: repeating it changes nothing
+    2  settles on 1 after 2 times and again every 2 times; this rhythm begins with time 1";
+
+#[derive(Debug, Args)]
+pub struct SettlesArguments {
+    /// A sheet, or a folder whose show is meant
+    #[arg(value_name = "SHEET or FOLDER")]
+    pub path: PathBuf,
+    /// The cues, by number or by name; all where none is given
+    #[arg(value_name = "CUE")]
+    pub cues: Vec<String>,
+}
+
+const CUES_EXAMPLE: &str = "\
+Example:
+  $ tickdrizzle cues examples/found/target.csv
+  2 cues build all 4; none of them can be left out, but a shorter list of others may do:
+    1
+    3
+  For the shorter check: --cues 1,3";
+
+#[derive(Debug, Args)]
+pub struct CuesArguments {
     /// A sheet, or a folder whose show is meant
     #[arg(value_name = "SHEET or FOLDER")]
     pub path: PathBuf,

@@ -2,13 +2,16 @@
 
 mod answer;
 mod arguments;
+mod building;
 mod commands;
 mod input;
 mod names;
 mod output;
+mod parts;
 mod patience;
 mod progress;
 mod reader;
+mod repair;
 mod sheet;
 mod signals;
 mod status;

@@ -17,6 +17,15 @@ pub fn count(number: usize, thing: &str) -> String {
     format!("{number} {thing}{}", if number == 1 { "" } else { "s" })
 }
 
+/// Things one after another, with "and" before the last.
+pub fn listed(things: &[String]) -> String {
+    match things {
+        [] => String::new(),
+        [one] => one.clone(),
+        [front @ .., last] => format!("{} and {last}", front.join(", ")),
+    }
+}
+
 /// A text between quote marks, cut where it is long, with characters that would not show or would move others written by number.
 pub fn shown(text: &str) -> String {
     let length = text.chars().count();

@@ -3,10 +3,13 @@
 mod check;
 mod classes;
 mod copies;
+mod cues;
 mod cut;
 mod mend;
 mod moving;
 mod positions;
+mod settles;
+mod why;
 
 use crate::answer::Answer;
 use crate::arguments::{Command, Options, Page};
@@ -42,6 +45,9 @@ pub fn run(command: &Command, options: &Options) -> Done {
             let paths = &arguments.tables.paths;
             answered("move", options, paths, Some(&arguments.page), |work| moving::run(arguments, work))
         }
+        Command::Why(arguments) => {
+            answered("why", options, &arguments.tables.paths, None, |work| why::run(arguments, work))
+        }
         Command::Check(arguments) => {
             answered("check", options, &arguments.paths, None, |work| check::run(arguments, work))
         }
@@ -59,6 +65,14 @@ pub fn run(command: &Command, options: &Options) -> Done {
         Command::Positions(arguments) => {
             let path = std::slice::from_ref(&arguments.path);
             answered("positions", options, path, None, |work| positions::run(arguments, work))
+        }
+        Command::Settles(arguments) => {
+            let path = std::slice::from_ref(&arguments.path);
+            answered("settles", options, path, None, |work| settles::run(arguments, work))
+        }
+        Command::Cues(arguments) => {
+            let path = std::slice::from_ref(&arguments.path);
+            answered("cues", options, path, None, |work| cues::run(arguments, work))
         }
         Command::Mend(arguments) => {
             answered("mend", options, &arguments.paths, None, |work| mend::run(arguments, work))

@@ -1,6 +1,6 @@
 //! The first embedding of the show's table in the rig's.
 
-use super::Work;
+use super::{why, Work};
 use crate::answer::{Found, Role};
 use crate::arguments::MoveArguments;
 use crate::input;
@@ -41,8 +41,14 @@ pub fn run(arguments: &MoveArguments, work: &mut Work) -> Result<(), Failure> {
     let outcome = search(source, target, arguments, work.options.quiet);
     let (status, says) = (status(&outcome), sentence(source, target, &outcome));
     work.say(says, status);
-    if let Outcome::Found { images, trials } = outcome {
-        work.answer.result = Some(Found::Map { images, trials });
+    match outcome {
+        Outcome::Found { images, trials } => work.answer.result = Some(Found::Map { images, trials }),
+        Outcome::None { .. } if !arguments.csv => {
+            let mut misfit = why::smallest(&work.answer.sheets[0], source, target, HINT_TIME);
+            misfit.says.truncate(usize::from(misfit.smallest.is_some() || source.order() > target.order()));
+            work.answer.result = Some(Found::Misfit(misfit));
+        }
+        _ => {}
     }
     if !arguments.csv {
         work.answer.hints.extend(hint(&sources, source, target, status));
@@ -76,22 +82,30 @@ fn status(outcome: &Outcome) -> Status {
 }
 
 fn sentence(source: &Table, target: &Table, outcome: &Outcome) -> String {
-    let (cues, order) = (count(source.order(), "cue"), target.order());
     let counted = |trials: &Option<u32>| trials.map_or(String::new(), |trials| format!(" {}.", tried(trials)));
     match outcome {
-        Outcome::Found { trials, .. } => {
-            let go = if source.order() == 1 { "goes" } else { "go" };
-            format!("The show fits: its {cues} {go} to {} of the rig's {order}.{}", source.order(), counted(trials))
-        }
-        Outcome::None { trials } => format!(
-            "The show does not fit: there is no way to give its {cues} partners among the rig's {order}.{}",
-            counted(trials)
-        ),
+        Outcome::Found { trials, .. } => fits(source, target) + &counted(trials),
+        Outcome::None { trials } => does_not_fit(source, target) + &counted(trials),
         Outcome::Stopped { enough } => {
             let option = if enough.contains("trial") { "--limit" } else { "--timeout" };
             format!("Stopped: {enough} not enough to tell. Give a larger {option}, or none.")
         }
     }
+}
+
+/// That the show fits.
+pub fn fits(source: &Table, target: &Table) -> String {
+    let (order, go) = (source.order(), if source.order() == 1 { "goes" } else { "go" });
+    format!("The show fits: its {} {go} to {order} of the rig's {}.", count(order, "cue"), target.order())
+}
+
+/// That the show does not fit.
+pub fn does_not_fit(source: &Table, target: &Table) -> String {
+    format!(
+        "The show does not fit: there is no way to give its {} partners among the rig's {}.",
+        count(source.order(), "cue"),
+        target.order()
+    )
 }
 
 fn tried(trials: u32) -> String {

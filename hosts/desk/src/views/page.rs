@@ -31,6 +31,9 @@ pub fn page(answer: &Answer) -> String {
             partners("Cues of the part", elements, &Sheet::default(), &answer.sheets[0])
         }
         Some(Found::Classes(classes)) => classes_list(answer, classes),
+        Some(Found::Misfit(misfit)) => {
+            misfit.says.iter().map(|sentence| format!("<p>{}</p>\n", escaped(sentence))).collect()
+        }
         _ => String::new(),
     };
     body += &refusals(answer);

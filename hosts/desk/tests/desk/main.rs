@@ -2,14 +2,18 @@
 //! folders, options, what is written, and damaged files.
 
 mod answers;
+mod building;
 mod damage;
 mod endings;
 mod folders;
 mod formats;
 mod options;
 mod outputs;
+mod plain;
 mod random;
+mod reasons;
 mod refusals;
+mod repairs;
 mod run;
 mod sheets;
 mod workbooks;
