@@ -119,8 +119,12 @@ pub struct Cells {
 #[derive(Clone, Debug, Serialize)]
 #[serde(rename_all = "snake_case")]
 pub enum Found {
-    /// The image of each cue of the show, in turn; the trials where they were counted.
-    Map { images: Vec<u8>, trials: Option<u32> },
+    /// The image of each cue of the show, in turn; the trials where they were counted; whether the rig's table is read column first.
+    Map { images: Vec<u8>, trials: Option<u32>, mirrored: bool },
+    /// The earliest maps, and whether they are all.
+    Maps { images: Vec<Vec<u8>>, complete: bool },
+    /// How many places of the rig the show fits in, up to a number, and in how many ways in each.
+    Ways { places: usize, in_each: usize, more: bool },
     /// The classes: the places of their sheets, counted from 1, and their number of cues.
     Classes(Vec<Class>),
     /// A part of a table: the cues that it has there, and its own table.
@@ -137,6 +141,31 @@ pub enum Found {
     Settles(Vec<Settling>),
     /// Cues from which all others are linked.
     Building { cues: Vec<u8> },
+    /// What came of each rig.
+    Rigs(Vec<Rig>),
+}
+
+/// What came of a rig.
+#[derive(Clone, Debug, Serialize)]
+pub struct Rig {
+    /// The place of its sheet, counted from 1.
+    pub sheet: usize,
+    pub outcome: RigOutcome,
+    /// In how many places the show fits, or `more` than that; nothing where it does not, or there was no time to count.
+    pub copies: Option<usize>,
+    pub more: bool,
+    /// Where the show does not fit, whether it does with the rig's table read column first; nothing where there was no time to tell.
+    pub mirrored: Option<bool>,
+    pub milliseconds: u128,
+}
+
+#[derive(Clone, Copy, Debug, PartialEq, Eq, Serialize)]
+#[serde(rename_all = "snake_case")]
+pub enum RigOutcome {
+    Fits,
+    None,
+    Stopped,
+    Refused,
 }
 
 /// What a cue settles on when it is repeated.

@@ -2,6 +2,20 @@
 //!
 //! They are chosen here, the rarest first; that they build the table is for the library to say, by `check_generated`.
 
+use tickdrizzle::{Refusal, Table, MOST_CELLS};
+
+/// Loads a table by the shorter check, which is quicker; where that refuses it, the full check says why.
+pub fn load(text: &[u8]) -> Result<Table, Refusal> {
+    let mut cells = vec![0; MOST_CELLS];
+    let order = tickdrizzle::load(text, &mut cells)?;
+    cells.truncate(order * order);
+    if cells.iter().any(|&cell| usize::from(cell) > order) {
+        return Table::new(cells, order);
+    }
+    let building = generators(&cells, order);
+    Table::generated(cells, order, &building).or_else(|_| Table::load(text))
+}
+
 /// A list of elements of which all others are products, and of which none can be left out.
 pub fn generators(cells: &[u8], order: usize) -> Vec<u8> {
     let mut frequency = vec![0; order + 1];

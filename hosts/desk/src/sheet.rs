@@ -47,7 +47,8 @@ pub fn opened(source: &Source, bytes: &[u8], role: Role, strict: bool, names: Ve
     opened_by(&Table::load, source, bytes, role, strict, names)
 }
 
-fn opened_by(load: Loading, source: &Source, bytes: &[u8], role: Role, strict: bool, names: Vec<String>) -> Opened {
+/// Reads a sheet by itself, as a table in this way.
+pub fn opened_by(load: Loading, source: &Source, bytes: &[u8], role: Role, strict: bool, names: Vec<String>) -> Opened {
     let mut about = Sheet { path: path_shown(&source.given), role, names, ..Sheet::default() };
     let reading = if strict { table::strict(bytes) } else { table::read(bytes, source.sheet.as_deref()) };
     let table = match reading {

@@ -1,6 +1,7 @@
 //! Why a show does not fit: the smallest part of it that already has no place, and the largest part that can be moved.
 
-use super::{moving, Work};
+use super::moving::Search;
+use super::Work;
 use crate::answer::{Fitting, Found, Misfit, Misfitting, Role, Sheet};
 use crate::arguments::WhyArguments;
 use crate::building::generators;
@@ -30,11 +31,12 @@ pub fn run(arguments: &WhyArguments, work: &mut Work) -> Result<(), Failure> {
     let [show, rig] = &tables[..] else { return Ok(()) };
     let limit = arguments.timeout.unwrap_or(PATIENCE);
     let _line = Progress::start("looking for the reason", work.options.quiet);
+    let search = Search::plain(show, rig);
     let lent = (show.clone(), rig.clone());
     let whole = within(Some(limit), move || lent.0.embeddings(&lent.1).next());
     if let Some(Some(images)) = whole {
-        work.say(format!("{} There is nothing to explain.", moving::fits(show, rig)), Status::Found);
-        work.answer.result = Some(Found::Map { images, trials: None });
+        work.say(format!("{} There is nothing to explain.", search.fits()), Status::Found);
+        work.answer.result = Some(Found::Map { images, trials: None, mirrored: false });
         return Ok(());
     }
     let mut misfit = smallest(&work.answer.sheets[0], show, rig, limit);
@@ -44,7 +46,7 @@ pub fn run(arguments: &WhyArguments, work: &mut Work) -> Result<(), Failure> {
     } else {
         add_largest(&mut misfit, &work.answer.sheets[0], show, rig, limit);
         misfit.says.push("What is said of parts is certain; what to leave out is a suggestion.".into());
-        work.say(moving::does_not_fit(show, rig), Status::None);
+        work.say(search.does_not_fit(), Status::None);
     }
     work.answer.result = Some(Found::Misfit(misfit));
     Ok(())
@@ -128,20 +130,20 @@ fn add_largest(misfit: &mut Misfit, sheet: &Sheet, show: &Table, rig: &Table, li
         told_within(Some(limit), move |tell| parts::largest_fit(&lent.0, &lent.1, &lent.2, tell));
     let among = format!("where one, two or three of its building cues ({}) are left out", numbers(&building));
     let within = if complete { String::new() } else { format!(" Within {limit:?} not all were looked at.") };
-    misfit.says.push(match told.pop() {
-        _ if building.len() == 1 => format!("Cue {} makes the whole show: no part is left without it.", building[0]),
-        Some(rest) => {
-            let (moved, order) = (rest.elements.len(), show.order());
-            let says = format!(
-                "Without {}, {moved} of {order} cues can be moved. More cannot, {among}.{within}",
-                named(sheet, &rest.without, false)
-            );
-            let parts::Rest { without, elements, images } = rest;
-            misfit.largest = Some(Fitting { generators: building, without, elements, images });
-            says
+    match told.pop() {
+        _ if building.len() == 1 => {
+            misfit.says.push(format!("Cue {} makes the whole show: no part is left without it.", building[0]));
         }
-        None => format!("No part can be moved {among}.{within}"),
-    });
+        Some(parts::Rest { without, elements, images }) => {
+            let (moved, order) = (elements.len(), show.order());
+            misfit
+                .says
+                .push(format!("Without {}, {moved} of {order} cues can be moved.", named(sheet, &without, false)));
+            misfit.says.push(format!("More cannot, {among}.{within}"));
+            misfit.largest = Some(Fitting { generators: building, without, elements, images });
+        }
+        None => misfit.says.push(format!("No part can be moved {among}.{within}")),
+    }
 }
 
 /// Cues by number and name.

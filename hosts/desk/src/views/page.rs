@@ -1,11 +1,11 @@
 //! Pages: tables as coloured grids, partner lists, classes, and what is wrong with a sheet, marked in it. A page needs no other file and
 //! prints well.
 
-use crate::answer::{Answer, Cells, Class, Found, Refusal, Role, Sheet};
+use crate::answer::{Answer, Cells, Class, Found, Refusal, Rig, RigOutcome, Role, Sheet};
 use crate::output::MARK;
 use crate::reader::grid::letters;
 use crate::status::Status;
-use crate::views::text::{refused, Manner};
+use crate::views::text::{refused, rig_in_words, Manner};
 use crate::words::count;
 use std::fmt::Write;
 
@@ -22,6 +22,7 @@ pub fn page(answer: &Answer) -> String {
     let title = match answer.command {
         "classes" => "Which sheets are the same",
         "cut" => "A part of a table",
+        "rigs" => "Which rigs take the show",
         _ => "Moving the show",
     };
     let mut body = notes(answer);
@@ -31,6 +32,7 @@ pub fn page(answer: &Answer) -> String {
             partners("Cues of the part", elements, &Sheet::default(), &answer.sheets[0])
         }
         Some(Found::Classes(classes)) => classes_list(answer, classes),
+        Some(Found::Rigs(rigs)) => rigs_list(answer, rigs),
         Some(Found::Misfit(misfit)) => {
             misfit.says.iter().map(|sentence| format!("<p>{}</p>\n", escaped(sentence))).collect()
         }
@@ -61,7 +63,7 @@ fn pictures(answer: &Answer) -> Vec<Picture<'_>> {
         format!("{what}: {}, {}", sheet.path, count(sheet.order.unwrap_or(0), "cue"))
     };
     let mut pictures = Vec::new();
-    if answer.command == "classes" {
+    if matches!(answer.command, "classes" | "rigs") {
         return pictures;
     }
     if let Some(Found::Part { table, .. }) = &answer.result {
@@ -240,6 +242,27 @@ fn partners(head: &str, map: &[u8], source: &Sheet, target: &Sheet) -> String {
     list + "</ol></section>\n"
 }
 
+/// What came of each rig.
+fn rigs_list(answer: &Answer, rigs: &[Rig]) -> String {
+    let mut body = String::from(
+        "<section><table class=\"rigs\"><thead><tr><th scope=\"col\">Rig<th scope=\"col\">Cues<th scope=\"col\">The show\
+         <th scope=\"col\">Time</thead><tbody>\n",
+    );
+    for rig in rigs {
+        let sheet = &answer.sheets[rig.sheet - 1];
+        let class = if rig.outcome == RigOutcome::Fits { " class=\"fits\"" } else { "" };
+        let cues = sheet.order.map_or(String::new(), |order| order.to_string());
+        let _ = writeln!(
+            body,
+            "<tr{class}><th scope=\"row\">{}<td>{cues}<td>{}<td>{} ms",
+            escaped(&sheet.path),
+            escaped(&rig_in_words(sheet, rig)),
+            rig.milliseconds
+        );
+    }
+    body + "</tbody></table></section>\n"
+}
+
 /// The classes, each with its members.
 fn classes_list(answer: &Answer, classes: &[Class]) -> String {
     let mut body = String::from("<section><h2>Classes</h2>\n");
@@ -279,7 +302,7 @@ fn palette(colours: usize) -> String {
     rules
 }
 
-fn escaped(text: &str) -> String {
+pub fn escaped(text: &str) -> String {
     text.replace('&', "&amp;").replace('<', "&lt;").replace('>', "&gt;").replace('"', "&quot;")
 }
 
@@ -311,6 +334,9 @@ h3{font-size:1rem;margin:0 0 .3rem}
 .class ul{margin:0;columns:18rem}
 pre{white-space:pre-wrap}
 .grid td.fault{background:#c00;color:#fff;font-weight:700}
+.rigs{border-collapse:collapse}
+.rigs th,.rigs td{text-align:left;padding:.15rem .8rem .15rem 0;border-bottom:1px solid #ddd;font-weight:400;overflow-wrap:anywhere}
+.rigs thead th,.rigs .fits th,.rigs .fits td{font-weight:700}
 .notes{color:#444;margin:.5rem 0;padding-left:1.2rem}
 @media print{
 @page{size:A4 landscape;margin:10mm}

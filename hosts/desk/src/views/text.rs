@@ -1,6 +1,8 @@
 //! An answer in words.
 
-use crate::answer::{Answer, Class, Found, Mending, MendingState, Misfit, Refusal, Role, Settling, Sheet};
+use crate::answer::{
+    Answer, Class, Found, Mending, MendingState, Misfit, Refusal, Rig, RigOutcome, Role, Settling, Sheet,
+};
 use crate::status::Status;
 use crate::words::count;
 
@@ -35,10 +37,15 @@ fn answered(answer: &Answer, manner: Manner) -> String {
     }
     text += &match &answer.result {
         Some(Found::Map { images, .. }) => map(answer, images),
+        Some(Found::Maps { images, .. }) => {
+            let way = |(place, images): (usize, &Vec<u8>)| format!("Way {}:\n{}", place + 1, map(answer, images));
+            images.iter().enumerate().map(way).collect()
+        }
         Some(Found::Classes(classes)) => classes_in_words(answer, classes),
         Some(Found::Part { elements, .. }) => part(answer, elements),
         Some(Found::Positions { positions, .. }) => landings(answer, positions),
         Some(Found::Misfit(misfit)) => misfit_in_words(answer, misfit),
+        Some(Found::Rigs(rigs)) => rigs_in_words(answer, rigs),
         Some(Found::Settles(settlings)) => settlings_in_words(answer, settlings),
         Some(Found::Building { cues }) => {
             let label = |&cue: &u8| format!("  {}\n", answer.sheets[0].label(cue.into()));
@@ -46,7 +53,8 @@ fn answered(answer: &Answer, manner: Manner) -> String {
         }
         _ => String::new(),
     };
-    for sheet in &answer.sheets {
+    let in_lines = matches!(answer.result, Some(Found::Rigs(_)));
+    for sheet in answer.sheets.iter().filter(|_| !in_lines) {
         text += &refusals(sheet, manner);
     }
     for path in &answer.written {
@@ -153,6 +161,41 @@ fn landings(answer: &Answer, positions: &[Vec<u8>]) -> String {
         format!("  {label}  lands at  {}\n", lands.join(" "))
     };
     answer.sheets[0].labels().iter().zip(positions).map(line).collect()
+}
+
+/// What came of each rig, a line each.
+fn rigs_in_words(answer: &Answer, rigs: &[Rig]) -> String {
+    let path = |rig: &Rig| &answer.sheets[rig.sheet - 1].path;
+    let width = rigs.iter().map(|rig| path(rig).chars().count()).max().unwrap_or(0);
+    let line = |rig: &Rig| {
+        let sheet = &answer.sheets[rig.sheet - 1];
+        let cues = sheet.order.map_or(String::new(), |order| format!("{}, ", count(order, "cue")));
+        format!("  {:width$}  {} ({cues}{} ms)\n", sheet.path, rig_in_words(sheet, rig), rig.milliseconds)
+    };
+    rigs.iter().map(line).collect()
+}
+
+/// What came of a rig.
+pub fn rig_in_words(sheet: &Sheet, rig: &Rig) -> String {
+    match (rig.outcome, rig.copies, &sheet.refusal) {
+        (RigOutcome::Fits, Some(number), _) => {
+            format!("fits in {}{}", if rig.more { "more than " } else { "" }, count(number, "place"))
+        }
+        (RigOutcome::Fits, None, _) => "fits; there was no time to count the places".into(),
+        (RigOutcome::None, _, _) => match rig.mirrored {
+            Some(true) => "does not fit; read column first it does".into(),
+            Some(false) => "does not fit, nor read column first".into(),
+            None => "does not fit; there was no time to read it column first".into(),
+        },
+        (RigOutcome::Stopped, _, _) => "there was no time to tell".into(),
+        (RigOutcome::Refused, _, refusal) => {
+            let fault = refusal.as_ref().map_or(String::new(), |refusal| {
+                let number = refusal.question.map_or(String::new(), |number| format!(" (question {number})"));
+                format!("{number}: {}: {}", refusal.faults[0].place, refusal.faults[0].there)
+            });
+            format!("refused{fault}")
+        }
+    }
 }
 
 /// Cues with commas between, as `--cues` takes them.

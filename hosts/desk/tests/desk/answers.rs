@@ -13,7 +13,8 @@ fn a_show_that_fits() {
 
 #[test]
 fn a_show_that_does_not_fit() {
-    let words = "The show does not fit: there is no way to give its 2 cues partners among the rig's 4.\n";
+    let words = "The show does not fit: there is no way to give its 2 cues partners among the rig's 4.\n\
+                 Note: The rig's table read column first fits: see --mirror.\n";
     assert_eq!(run(&["move", "examples/none"]), answer(words, 1));
 }
 
@@ -149,7 +150,7 @@ fn a_limit() {
     let stopped = "Stopped: 1 trial is not enough to tell. Give a larger --limit, or none.\n";
     assert_eq!(run(&["move", "--limit", "1", "examples/found"]), answer(stopped, 3));
     assert_eq!(run(&["move", "--limit", "0", "--csv", "examples/found"]), answer("stopped,2,4\r\n", 3));
-    let none = run(&["move", "--limit", "4294967295", "examples/none"]);
+    let none = run(&["move", "--quiet", "--limit", "4294967295", "examples/none"]);
     assert!(none.output.starts_with("The show does not fit: ") && none.output.ends_with(" trials.\n"));
     assert_eq!(none.status, 1);
 }

@@ -14,6 +14,8 @@ mod random;
 mod reasons;
 mod refusals;
 mod repairs;
+mod rigs;
 mod run;
 mod sheets;
+mod ways;
 mod workbooks;

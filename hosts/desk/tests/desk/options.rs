@@ -39,7 +39,7 @@ fn every_answer_as_json() {
                     "name_sheet": {"path": "examples/named/target.names.csv", "mended": [], "refusal": null}
                 }
             ],
-            "result": {"map": {"images": [2, 3], "trials": null}},
+            "result": {"map": {"images": [2, 3], "trials": null, "mirrored": false}},
             "hints": [],
             "written": []
         })

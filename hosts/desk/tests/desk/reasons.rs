@@ -10,7 +10,7 @@ use std::path::Path;
 fn a_reason_in_words() {
     let none = "The show does not fit: there is no way to give its 2 cues partners among the rig's 4.\n\
                 Each smaller part that one, two or three cues make has a place (2 parts); the whole show has none.\n\
-                Without cue 1, 1 of 2 cues can be moved. More cannot, where one, two or three of its building cues (1, 2) are left out.\n\
+                Without cue 1, 1 of 2 cues can be moved.\nMore cannot, where one, two or three of its building cues (1, 2) are left out.\n\
                 What is said of parts is certain; what to leave out is a suggestion.\n\
                 The partners of what can be moved:\n  2  ->  1\n";
     assert_eq!(run(&["why", "examples/none"]), answer(none, 1));
@@ -37,7 +37,7 @@ fn a_cue_without_a_place() {
     assert_eq!(run_in(&here, &["move", "."]), answer(&format!("{head}{reason}"), 1));
     assert_eq!(run_in(&here, &["move", "--csv", "."]), answer("none,3,3\r\n", 1));
     let rest = "Each smaller part that one cue makes has one.\n\
-                Without cue 2 \"change\", 1 of 3 cues can be moved. More cannot, where one, two or three of its building cues (2, 3) are left out.\n\
+                Without cue 2 \"change\", 1 of 3 cues can be moved.\nMore cannot, where one, two or three of its building cues (2, 3) are left out.\n\
                 What is said of parts is certain; what to leave out is a suggestion.\n\
                 The partners of what can be moved:\n  3 \"dark\"  ->  1\n";
     assert_eq!(run_in(&here, &["why", "."]), answer(&format!("{head}{reason}{rest}"), 1));
