@@ -50,13 +50,23 @@ pub fn opened(source: &Source, bytes: &[u8], role: Role, strict: bool, names: Ve
 /// Reads a sheet by itself, as a table in this way.
 pub fn opened_by(load: Loading, source: &Source, bytes: &[u8], role: Role, strict: bool, names: Vec<String>) -> Opened {
     let mut about = Sheet { path: path_shown(&source.given), role, names, ..Sheet::default() };
+    // What the library takes as it is needs no reading.
+    let as_it_is = Some(bytes).filter(|_| source.sheet.is_none()).and_then(|bytes| load(bytes).ok());
+    let table = as_it_is.or_else(|| read(load, source, bytes, strict, &mut about));
+    about.order = table.as_ref().map(Table::order);
+    about.table = table.as_ref().map(rows);
+    Opened { about, table, hints: Vec::new() }
+}
+
+/// Reads cells and loads the table that they hold; tells what was mended, or why there is none.
+fn read(load: Loading, source: &Source, bytes: &[u8], strict: bool, about: &mut Sheet) -> Option<Table> {
     let reading = if strict { table::strict(bytes) } else { table::read(bytes, source.sheet.as_deref()) };
-    let table = match reading {
+    match reading {
         Ok(reading) => {
             about.mended.clone_from(&reading.mended);
             let loaded = load(&reading.text);
             if let Err(refusal) = &loaded {
-                about.refusal = Some(explain(&reading, refusal.question, &source.given, &about));
+                about.refusal = Some(explain(&reading, refusal.question, &source.given, about));
                 let ((top, left), rows) = reading.shown();
                 about.cells = Some(Cells { row: top + 1, column: left + 1, rows });
             }
@@ -66,10 +76,7 @@ pub fn opened_by(load: Loading, source: &Source, bytes: &[u8], role: Role, stric
             about.refusal = Some(unreadable(unread, bytes));
             None
         }
-    };
-    about.order = table.as_ref().map(Table::order);
-    about.table = table.as_ref().map(rows);
-    Opened { about, table, hints: Vec::new() }
+    }
 }
 
 /// A file that has no cells to ask about, or cells with two readings. The library's question is named where the file is text.
