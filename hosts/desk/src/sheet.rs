@@ -73,18 +73,19 @@ fn read(load: Loading, source: &Source, bytes: &[u8], strict: bool, about: &mut 
             loaded.ok()
         }
         Err(unread) => {
-            about.refusal = Some(unreadable(unread, bytes));
+            about.refusal = Some(unreadable(unread, bytes, strict));
             None
         }
     }
 }
 
-/// A file that has no cells to ask about, or cells with two readings. The library's question is named where the file is text.
-fn unreadable(unread: Unread, bytes: &[u8]) -> Refusal {
+/// A file that has no cells to ask about, or cells with two readings. The library's question is named where the file is text, and
+/// where the library alone decides.
+fn unreadable(unread: Unread, bytes: &[u8], strict: bool) -> Refusal {
     let is_text = !crate::reader::is_workbook(bytes) && std::str::from_utf8(bytes).is_ok();
     let question = Table::load(bytes).err().map(|refusal| refusal.question.number() as usize);
     Refusal {
-        question: question.filter(|_| is_text),
+        question: question.filter(|_| is_text || strict),
         faults: vec![Fault { place: unread.place, cells: Vec::new(), there: unread.there }],
         more: 0,
         expected: unread.expected,

@@ -14,6 +14,10 @@ type Archive<'a> = ZipArchive<Cursor<&'a [u8]>>;
 const WORKBOOK: &str = "xl/workbook.xml";
 const RELATIONS: &str = "xl/_rels/workbook.xml.rels";
 const SHARED: &str = "xl/sharedStrings.xml";
+const STYLES: &str = "xl/styles.xml";
+
+/// More elements of one kind are not looked at.
+const MOST_ELEMENTS: usize = 1 << 16;
 
 /// No row and no column is counted farther.
 const FARTHEST: usize = 1 << 24;
@@ -27,7 +31,7 @@ pub fn grid(archive: &mut Archive, sheet: Option<&str>) -> Result<Grid, Unread> 
     let target = relations.into_iter().find(|[id, _]| *id == sheets[wanted][1]).map(|[_, target]| target);
     let target = target.ok_or_else(|| broken("a workbook that does not tell where its sheet is"))?;
     let file = target.strip_prefix('/').map_or_else(|| format!("xl/{target}"), str::to_owned);
-    let mut reading = Reading::default();
+    let mut reading = Reading { is_plain: plain_formats(archive)?, ..Reading::default() };
     each_event(archive, &file, |around, event| reading.take(around, event))?;
     share(archive, &mut reading)?;
     reading.grid.changes.extend(said);
@@ -46,9 +50,54 @@ fn elements(archive: &mut Archive, file: &str, name: &[u8], of: [&str; 2]) -> Re
                 found.push(of.map(|name| attribute(start, name).unwrap_or_default()));
             }
         }
-        Ok(true)
+        Ok(found.len() < MOST_ELEMENTS)
     })?;
     Ok(found)
+}
+
+/// Whether each format of cells, by its place in the workbook, shows the number that is stored: no percentage, date or time.
+fn plain_formats(archive: &mut Archive) -> Result<Vec<bool>, Unread> {
+    let mut is_plain = Vec::new();
+    if !archive.file_names().any(|name| name == STYLES) {
+        return Ok(is_plain);
+    }
+    let codes = elements(archive, STYLES, b"numFmt", ["numFmtId", "formatCode"])?;
+    let codes: HashMap<String, String> = codes.into_iter().map(|[id, code]| (id, code)).collect();
+    each_event(archive, STYLES, |around, event| {
+        if let Event::Start(start) = event {
+            if start.local_name().as_ref() == b"xf" && around.last().is_some_and(|parent| parent == b"cellXfs") {
+                let id = attribute(start, "numFmtId").unwrap_or_default();
+                is_plain.push(codes.get(&id).map_or_else(|| is_plain_number(&id), |code| is_plain_code(code)));
+            }
+        }
+        Ok(is_plain.len() < MOST_ELEMENTS)
+    })?;
+    Ok(is_plain)
+}
+
+/// The formats that have a number of their own: 9 and 10 are percentages, 14 to 22 and 45 to 47 dates and times.
+fn is_plain_number(id: &str) -> bool {
+    !matches!(id.parse(), Ok(9 | 10 | 14..=22 | 45..=47))
+}
+
+/// A format's code without what stands in quote marks and brackets has no sign of a percentage, a date or a time.
+fn is_plain_code(code: &str) -> bool {
+    let mut closes = None;
+    code.chars().all(|character| match (closes, character) {
+        (Some(close), _) => {
+            closes = Some(close).filter(|&close| close != character);
+            true
+        }
+        (None, '"') => {
+            closes = Some('"');
+            true
+        }
+        (None, '[') => {
+            closes = Some(']');
+            true
+        }
+        (None, _) => !"%dmyhsDMYHS".contains(character),
+    })
 }
 
 /// How far the sheet has been read. Rows and columns count from 0.
@@ -58,6 +107,9 @@ struct Reading {
     row: usize,
     column: usize,
     kind: String,
+    /// Which formats show the number that is stored, and whether that of the cell does.
+    is_plain: Vec<bool>,
+    shows_number: bool,
     text: String,
     formulas: usize,
     /// The cells whose text is shared, by its number.
@@ -101,6 +153,8 @@ impl Reading {
                 (self.row, self.column) = (row.min(FARTHEST), column.min(FARTHEST));
                 self.opened.1 = self.column + 1;
                 self.kind = attribute(start, "t").unwrap_or_default();
+                let format = attribute(start, "s").and_then(|place| place.parse::<usize>().ok()).unwrap_or(0);
+                self.shows_number = self.is_plain.get(format).copied().unwrap_or(true);
                 self.text.clear();
             }
             b"f" => self.formulas += 1,
@@ -119,6 +173,9 @@ impl Reading {
                 }
                 Err(_) => Cell::new(&text),
             },
+            "" | "n" if !text.is_empty() && !self.shows_number => {
+                Cell::new(&format!("{text} shown as a percentage, date or time"))
+            }
             "" | "n" => Cell { stored: !text.is_empty(), ..Cell::new(&text) },
             "b" => Cell::new(if text == "0" { "FALSE" } else { "TRUE" }),
             _ => Cell::new(&text),
@@ -174,6 +231,17 @@ fn place_of(place: &str) -> Option<(usize, usize)> {
 #[cfg(test)]
 mod tests {
     use super::*;
+
+    #[test]
+    fn formats_that_show_what_is_stored() {
+        for code in ["General", "0", "0.00", "#,##0", "[Red]0", "0 \"cues\"", "@"] {
+            assert!(is_plain_code(code), "{code}");
+        }
+        for code in ["0%", "yyyy-mm-dd", "hh:mm", "[Red]0.0%", "\"x\"d"] {
+            assert!(!is_plain_code(code), "{code}");
+        }
+        assert!(is_plain_number("0") && is_plain_number("49") && !is_plain_number("9") && !is_plain_number("14"));
+    }
 
     #[test]
     fn places_have_letters_and_numbers() {

@@ -2,7 +2,7 @@
 
 use crate::random::{table, Random};
 use crate::run::{answer, folder, put, root, run_in};
-use crate::workbooks::{numbers, ods, xlsx, Cell, Rows};
+use crate::workbooks::{archive, numbers, ods, xlsx, Cell, Rows};
 use std::fs;
 use std::path::Path;
 
@@ -155,6 +155,27 @@ fn cells_of_a_workbook_that_are_no_numbers() {
 }
 
 #[test]
+fn a_percentage_is_no_cue() {
+    let here = folder("percentage");
+    let book = archive(&[
+        ("xl/workbook.xml", b"<workbook><sheets><sheet name=\"One\" r:id=\"a\"/></sheets></workbook>".as_slice()),
+        (
+            "xl/_rels/workbook.xml.rels",
+            b"<Relationships><Relationship Id=\"a\" Target=\"/xl/one.xml\"/></Relationships>",
+        ),
+        ("xl/styles.xml", b"<styleSheet><cellXfs><xf numFmtId=\"0\"/><xf numFmtId=\"9\"/></cellXfs></styleSheet>"),
+        (
+            "xl/one.xml",
+            b"<worksheet><sheetData><row r=\"1\"><c r=\"A1\" s=\"1\"><v>1</v></c></row></sheetData></worksheet>",
+        ),
+    ]);
+    put(&here, "book.xlsx", book);
+    let words = "book.xlsx: refused (question 21).\n  where:     row 1, column 1 (A1)\n  there:     \"1 shown as a percentage, date or \
+                 time\"\n  expected:  a whole number\n  to do:     correct the cell\n";
+    assert_eq!(run_in(&here, &["check", "book.xlsx"]), answer(words, 2));
+}
+
+#[test]
 fn names_in_a_workbook() {
     let here = folder("workbook-names");
     put(&here, "source.ods", ods(&[("Show", &numbers(&[vec![1, 2], vec![2, 1]]))]));
@@ -176,7 +197,7 @@ fn files_that_are_no_spreadsheets() {
     let here = folder("no-spreadsheet");
     put(&here, "old.xls", b"\xD0\xCF\x11\xE0\xA1\xB1\x1A\xE1");
     put(&here, "cut.ods", &ods(&[("One", &numbers(&[vec![1]]))])[..100]);
-    put(&here, "other.zip", crate::workbooks::archive(&[("a.txt", b"1")]));
+    put(&here, "other.zip", archive(&[("a.txt", b"1")]));
     put(&here, "noise.csv", b"\x80\x81\x82");
     for (name, there) in [
         ("old.xls", "a file of an older Excel (.xls)"),

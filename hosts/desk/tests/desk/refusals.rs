@@ -243,3 +243,19 @@ fn the_rig_is_looked_at_after_the_show() {
     put(&here, "source.csv", "01");
     assert_eq!(run_in(&here, &["move", "--csv", "."]), answer("refused,1,24\r\n", 2));
 }
+
+#[test]
+fn records_have_the_number_of_the_library_whatever_the_bytes_are() {
+    let here = folder("records");
+    put(&here, "one.csv", "1\r\n");
+    let workbook = crate::workbooks::ods(&[("One", &crate::workbooks::numbers(&[vec![1]]))]);
+    let utf16: Vec<u8> = "1\r\n".encode_utf16().flat_map(u16::to_le_bytes).collect();
+    for bytes in
+        [b"\x80".to_vec(), b"1\0\x80".to_vec(), b"\xFF\xFE1".to_vec(), utf16, workbook, b"\xD0\xCF\x11\xE0".to_vec()]
+    {
+        put(&here, "sheet.csv", bytes);
+        assert_eq!(run_in(&here, &["move", "--csv", "sheet.csv", "one.csv"]), answer("refused,1,21\r\n", 2));
+        let classes = "class,1,1,1\r\nrefused,2,21\r\ntotal,1,1\r\n";
+        assert_eq!(run_in(&here, &["classes", "--csv", "one.csv", "sheet.csv"]), answer(classes, 2));
+    }
+}
