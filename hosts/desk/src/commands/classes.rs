@@ -97,7 +97,10 @@ pub fn in_folder(folder: &Path, work: &mut Work) -> Vec<Source> {
 fn left_out(left: Vec<PathBuf>, why: &str, work: &mut Work) {
     if !left.is_empty() {
         let names: Vec<_> = left.iter().map(|path| name_of(path)).collect();
-        work.answer.hints.push(format!("Left out: {} ({why}).", names.join(", ")));
+        let hint = format!("Left out: {} ({why}).", names.join(", "));
+        if !work.answer.hints.contains(&hint) {
+            work.answer.hints.push(hint);
+        }
     }
 }
 

@@ -135,12 +135,14 @@ fn pages_need_nothing_else() {
         assert!(run_in(&here, arguments).status < 3);
         let page = fs::read_to_string(here.join(arguments[arguments.len() - 1])).expect("it was written");
         assert!(page.starts_with("<!DOCTYPE html>") && page.ends_with("</html>\n"));
-        assert!(!page.contains("<script") && !page.contains("<link") && !page.contains("src="));
+        assert!(!page.contains("<link") && !page.contains("src=") && !page.contains("url(") && !page.contains("http"));
     }
     let page = fs::read_to_string(here.join("move.html")).expect("it was written");
     let marked = page.matches("<td class=").count();
-    assert_eq!((page.matches("<td").count(), marked), (31 * 31 + 59 * 59, 2 * 31 * 31));
-    assert!(page.contains("<li><b class=\"c31\">31</b> <span>→ 20</span>"));
+    assert_eq!((page.matches("<td").count(), marked), (31 * 31 + 59 * 59, 31 * 31));
+    assert!(page.contains("<li><b class=\"m\">31</b> <span>→ 20</span>"));
+    // The rig's cue 20, with the show's cue 31 below it.
+    assert!(page.contains("<th scope=\"col\" class=\"m\">20<small>31</small>"));
 }
 
 #[test]
@@ -187,7 +189,7 @@ fn cues_by_name() {
     assert_eq!(run_in(&here, &["move", ".", "--html", "page.html"]).status, 0);
     let page = fs::read_to_string(here.join("page.html")).expect("it was written");
     assert!(
-        page.contains("<li><b class=\"c2\">2 &quot;second link, up&quot;</b> <span>→ 3 &quot;say \\now&quot;</span>")
+        page.contains("<li><b class=\"m c2\">2 &quot;second link, up&quot;</b> <span>→ 3 &quot;say \\now&quot;</span>")
     );
     assert!(page.contains("title=\"&lt;b&gt;\"") && !page.contains("<b>\""));
 }
