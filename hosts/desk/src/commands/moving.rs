@@ -161,6 +161,11 @@ fn one(search: &Search, arguments: &MoveArguments, work: &mut Work) {
             let mut misfit = why::smallest(&work.answer.sheets[0], &search.source, &rig, HINT_TIME);
             let is_larger = search.source.order() > rig.order();
             misfit.says.truncate(usize::from(misfit.smallest.is_some() || is_larger));
+            if misfit.smallest.is_none() && !misfit.complete {
+                let far =
+                    format!("Within {HINT_TIME:?} no part without a place was found: tickdrizzle why looks longer.");
+                work.answer.hints.push(far);
+            }
             work.answer.result = Some(Found::Misfit(misfit));
         }
         _ => {}

@@ -109,7 +109,7 @@ fn others(looked: [usize; 3], complete: bool, limit: Duration) -> String {
         let makers = makers(parts::MOST_CUES, "makes", "make");
         format!("Each smaller part that {makers} has a place ({parts}); the whole show has none.")
     } else {
-        format!("Within {limit:?} no part without a place was found: {parts} were looked at, and each has one.")
+        format!("Within {limit:?} no part without a place was found ({parts} looked at).")
     }
 }
 

@@ -1,5 +1,5 @@
 //! Runs the program and compares whole outputs: every subcommand on examples, every refusal, every spreadsheet's sheet, every format,
-//! folders, options, what is written, and damaged files.
+//! folders, options, what is written, and damaged files. Reasons, repairs, ways and rigs are compared with plain searches.
 
 mod answers;
 mod building;

@@ -2,7 +2,7 @@
 
 use crate::plain::{choices, closure, fits, keeps, Table};
 use crate::random::{of_maps, sheet, Random};
-use crate::run::{answer, folder, put, run, run_in};
+use crate::run::{answer, folder, graph, put, run, run_in};
 use serde_json::Value;
 use std::path::Path;
 
@@ -62,6 +62,20 @@ fn one_cue_that_makes_the_whole_show() {
     let moved = "The show does not fit: there is no way to give its 2 cues partners among the rig's 1.\n\
                  The show has more cues than the rig.\n";
     assert!(run_in(&here, &["move", "."]).output.starts_with(moved));
+}
+
+#[test]
+fn a_search_that_takes_too_long() {
+    let here = folder("reason-long");
+    put(&here, "source.csv", graph(50, 1));
+    put(&here, "target.csv", graph(110, 2));
+    let told = run_in(&here, &["why", ".", "--timeout", "300ms"]);
+    let lines: Vec<_> = told.output.lines().collect();
+    let [stopped, looked] = lines[..] else { panic!("{}", told.output) };
+    assert_eq!(stopped, "Stopped: 300ms for each search is not enough to tell. Give a larger --timeout.");
+    assert!(looked.starts_with("Within 300ms no part without a place was found ("), "{looked}");
+    assert!(looked.ends_with(" looked at)."), "{looked}");
+    assert_eq!((told.errors.as_str(), told.status), ("", 3));
 }
 
 fn numbers(value: &Value) -> Vec<u8> {
