@@ -214,6 +214,8 @@ pub struct Fitting {
     /// Its cues in the show, and the partner of each.
     pub elements: Vec<u8>,
     pub images: Vec<u8>,
+    /// Whether every part that leaves out one, two or three building cues was looked at.
+    pub complete: bool,
 }
 
 #[derive(Clone, Debug, Serialize)]

@@ -129,7 +129,6 @@ fn add_largest(misfit: &mut Misfit, sheet: &Sheet, show: &Table, rig: &Table, li
     let (mut told, complete) =
         told_within(Some(limit), move |tell| parts::largest_fit(&lent.0, &lent.1, &lent.2, tell));
     let among = format!("where one, two or three of its building cues ({}) are left out", numbers(&building));
-    let within = if complete { String::new() } else { format!(" Within {limit:?} not all were looked at.") };
     match told.pop() {
         _ if building.len() == 1 => {
             misfit.says.push(format!("Cue {} makes the whole show: no part is left without it.", building[0]));
@@ -139,10 +138,15 @@ fn add_largest(misfit: &mut Misfit, sheet: &Sheet, show: &Table, rig: &Table, li
             misfit
                 .says
                 .push(format!("Without {}, {moved} of {order} cues can be moved.", named(sheet, &without, false)));
-            misfit.says.push(format!("More cannot, {among}.{within}"));
-            misfit.largest = Some(Fitting { generators: building, without, elements, images });
+            misfit.says.push(if complete {
+                format!("More cannot, {among}.")
+            } else {
+                format!("Perhaps more can: within {limit:?} not every part was looked at, {among}.")
+            });
+            misfit.largest = Some(Fitting { generators: building, without, elements, images, complete });
         }
-        None => misfit.says.push(format!("No part can be moved {among}.{within}")),
+        None if complete => misfit.says.push(format!("No part can be moved {among}.")),
+        None => misfit.says.push(format!("Within {limit:?} no part was found that can be moved {among}.")),
     }
 }
 
