@@ -165,9 +165,10 @@ fn whole(tight: bool, limit: u32, image: [u8; 120]) -> Outcome
     }
 }
 
-// Returns the trials left after one more, or that there is none left for it.
+// Returns whether one more trial is within those left, and how many are left after it; if none is left, none is left after it either.
 fn pay(left: u32) -> Paid
     ensures answer { λ r. ⌜ cond (r .enough) (remaining (r .left) none) exhausted ≡ within left (work none 1) ⌝ }
+    ensures left { λ r. ⌜ r .left ≡ left - 1 ⌝ }
 {
     if left == 0 {
         return Paid {

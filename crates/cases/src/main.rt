@@ -3,20 +3,24 @@
 mod limits;
 mod worked;
 
+ghost use mathlib.Core.Path.{_≡_};
 ghost use Prim.Native.Nat.{_≤_};
 ghost use lib.ListN.{length};
+ghost use Rattle.judging.specs.InnerTally.{tallyLine};
 use comparisons::small;
 use judging::tally::Tally;
 use judging::tally::put_line;
 use libc::STDOUT_FILENO;
 
-// Prints the line of a group.
-fn print(group: &[u8], tally: Tally)
+// Prints the line of a group. Returns its length.
+fn print(group: &[u8], tally: Tally) -> usize
     requires short { ⌜ length (now group) ≤ 40 ⌝ }
+    ensures answer { λ r. ⌜ r ≡ length (tallyLine (now (group .entry)) tally) ⌝ }
 {
     let mut out = [0u8; 100];
     let written = put_line(&mut out, group, tally);
     io::write_all(STDOUT_FILENO, &out[..written]);
+    written
 }
 
 fn main() {
@@ -37,7 +41,7 @@ fn main() {
     print(b"every map from order 3 to order 3", small::all_maps(3, 3));
     print(b"orders 120 and 121", limits::orders());
     print(b"degrees 1 to 4", limits::degrees());
-    print(b"scratch of 8 and 7 bytes", limits::scratch());
+    print(b"scratch of 1 and 0 bytes", limits::scratch());
     print(b"fields 120, 121, 0 and 0001", limits::fields());
     print(b"mat5 in the table of degree 3", limits::large_target());
 }

@@ -21,8 +21,8 @@ use Rattle.files.specs.Files.{fileRefusal, room}
 use Rattle.files.specs.Answers.{fileAnswer}
 use Rattle.files.proofs.Files.{Holds, refused-file}
 use Rattle.files.proofs.Length.{Cut, whole, too-much, cut}
-use Rattle.output.specs.Program.{answerRecords, recueRecords, recueOutput}
-use Rattle.output.specs.Examples.{sourceFile, targetFile, recuePrinted}
+use Rattle.output.specs.Program.{answerRecords, recueRecords, recueOutput, FirstBytesDecide}
+use Rattle.output.specs.Examples.{sourceFile, targetFile, recuePrinted, RecueExample}
 
 -- ---- which file speaks
 
@@ -73,7 +73,7 @@ by-target source (whole e) = rw e
 by-target source (too-much e f) = rw (e, f)
 
 -- The first 57,721 bytes of each file decide the output.
-pub first-bytes-decide : (source target : List ℕ) → recueOutput (take 57721 source) (take 57721 target) ≡ recueOutput source target
+pub first-bytes-decide : FirstBytesDecide
 first-bytes-decide source target = by-source (cut source)
   where
     by-source : Cut source → recueOutput (take 57721 source) (take 57721 target) ≡ recueOutput source target
@@ -82,6 +82,6 @@ first-bytes-decide source target = by-source (cut source)
 
 -- ---- the example of RULES 21.4
 
-pub example : recueOutput sourceFile targetFile ≡ recuePrinted
+pub example : RecueExample
 unfolding recueOutput recueRecords answerRecords sourceFile targetFile recuePrinted fileRefusal firstRecord pairRecord pairRecords foundRecords noneRecords refusedRecord refusedRecords isDigit value valueFrom numeralWithin numeral isBreak onto records fields rows recordText lineText rowsText fieldsOf orderOf cellsOf breakAt inBreak isAllowed firstOther fieldsQuestions isSquare range elements at all find keep member distinct lists product isElement associates badCell badTriple firstOf isHomomorphism isEmbedding maps earliest orElse flatMap flatten
 example = refl

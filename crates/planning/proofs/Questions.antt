@@ -25,7 +25,6 @@ use Rattle.planning.specs.Calls.{degreeSays, positionsAfter}
 use Rattle.planning.specs.CallsLaws.{PositionsKept}
 use Rattle.planning.proofs.Degrees.{no-fit}
 use Rattle.planning.proofs.Searching.{order-most}
-use Rattle.planning.proofs.Trying.{Placed}
 
 module _ (m : ℕ) (cells : List ℕ) (size : ℕ) where
   abbrev room : List Question
@@ -70,12 +69,13 @@ module _ (m : ℕ) (cells before : List ℕ) where
     room-kept h = kept (no 80 []) (room-refused m cells (length before) t h)
 
     module _ (enough : m * 3 ≤ length before) where
-      pub answered : (says : Answer (Option ℕ)) (left : List ℕ) → Placed m (product m cells) before says left → Said says left
+      pub answered : (says : Answer (Option ℕ)) (left : List ℕ) → says ≡ gives (leastDegree m (product m cells)) → left ≡ overwritten (fitPositions m (leastFit m (product m cells))) before
+          → Said says left
       unfolding degreeSays positionsAfter
-      answered says left p =
+      answered says left said written =
           let e = none-refused m cells (length before) t enough in (
-            p .0 ∙ ap (λ (q : Option Refusal). givenUnless q (leastDegree m (product m cells))) (sym e),
-            p .1 ∙ ap (λ (q : Option Refusal). writtenUnless q (fitPositions m (leastFit m (product m cells))) before) (sym e),
+            said ∙ ap (λ (q : Option Refusal). givenUnless q (leastDegree m (product m cells))) (sym e),
+            written ∙ ap (λ (q : Option Refusal). writtenUnless q (fitPositions m (leastFit m (product m cells))) before) (sym e),
           )
 
       -- More than 27 elements fit at none of the degrees.
@@ -86,7 +86,8 @@ module _ (m : ℕ) (cells before : List ℕ) where
           let e : leastFit m s ≡ none =
           no-fit m s (λ d f hd F. let a = embedding-order m s (transformationOrder d) (degreeProduct d) f F in let b = order-most d hd in let z : ⊥ = omega arith in z) in
           answered (gives none) before
-          (ap (λ (o : Option Fit). gives (Option·map (λ (x : Fit). x .degree) o)) (sym e), ap (λ (o : Option Fit). overwritten (fitPositions m o) before) (sym e))
+          (ap (λ (o : Option Fit). gives (Option·map (λ (x : Fit). x .degree) o)) (sym e))
+          (ap (λ (o : Option Fit). overwritten (fitPositions m o) before) (sym e))
 
 -- ---- no byte changes
 

@@ -9,9 +9,9 @@ ghost use lib.ListN.{length};
 ghost use Rattle.semigroups.specs.Lists.{at};
 ghost use Rattle.semigroups.specs.Tables.{product, Element, Accepted};
 ghost use Rattle.semigroups.specs.TablesLaws.{IsList};
-ghost use Rattle.semigroups.specs.Calls.{gives, overwritten};
+ghost use Rattle.semigroups.specs.Calls.{gives, overwritten, mapUnless};
 ghost use Rattle.semigroups.specs.Transformations.{transformationOrder, transformation};
-ghost use Rattle.planning.specs.Degrees.{firstAt, leastFit, leastDegree, landings, fitPositions};
+ghost use Rattle.planning.specs.Degrees.{firstAt, leastFit, leastDegree, leastEmbedding, landings, fitPositions};
 ghost use Rattle.planning.specs.Answers.{degreeAnswerSays};
 ghost use Rattle.planning.specs.Calls.{degreeSays, positionsAfter};
 use search::Kind;
@@ -56,11 +56,12 @@ fn write_positions(image: &[u8], m: usize, degree: usize, positions: &mut [u8])
 
 // ---- the least degree
 
-// Whether the table of all transformations of `degree` points holds an embedding; the first one is left in `image`. The tables are accepted
-// and the buffers have the right length, so no question is asked.
+// Whether the table of all transformations of `degree` points holds an embedding; the first one is left in `image`, which keeps its bytes if there is
+// none. The tables are accepted and the buffers have the right length, so no question is asked.
 fn fits(cells: &[u8], m: usize, degree: usize, image: &mut [u8]) -> bool
     requires { ⌜ Accepted m (now cells) ⌝ ∗ ⌜ m ≤ 27 ⌝ ∗ ⌜ Element 3 degree ⌝ ∗ ⌜ length (now image) ≡ m ⌝ }
     ensures first { λ r. ⌜ cond r (some (now (image .exit))) none ≡ firstAt m (product m (now (cells .entry))) degree ⌝ }
+    ensures image { λ _. ⌜ now (image .exit) ≡ mapUnless none (firstAt m (product m (now (cells .entry))) degree) (now (image .entry)) ⌝ }
 {
     let mut target = [0u8; 729];
     let filled = transformations::fill(degree, &mut target);
@@ -89,10 +90,11 @@ pub enum DegreeAnswer {
     Refused(No),
 }
 
-// Tries the degrees from 1 upward and writes the positions at the first that fits.
+// Tries the degrees from 1 upward, leaves the first embedding of the first that fits in `image` and writes its positions; where none fits, no byte changes.
 fn place(cells: &[u8], m: usize, image: &mut [u8], positions: &mut [u8]) -> DegreeAnswer
     requires { ⌜ Accepted m (now cells) ⌝ ∗ ⌜ m ≤ 27 ⌝ ∗ ⌜ length (now image) ≡ m ⌝ ∗ ⌜ m * 3 ≤ length (now positions) ⌝ }
     ensures answer { λ r. ⌜ degreeAnswerSays r ≡ gives (leastDegree m (product m (now (cells .entry)))) ⌝ }
+    ensures image { λ _. ⌜ now (image .exit) ≡ mapUnless none (leastEmbedding m (product m (now (cells .entry)))) (now (image .entry)) ⌝ }
     ensures positions { λ _. ⌜ now (positions .exit) ≡ overwritten (fitPositions m (leastFit m (product m (now (cells .entry))))) (now (positions .entry)) ⌝ }
 {
     let mut degree: usize = 1;

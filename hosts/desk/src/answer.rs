@@ -75,6 +75,26 @@ pub struct Refusal {
     pub more: usize,
     pub expected: String,
     pub to_do: String,
+    /// Where links do not fit together, which changes of one cell make it a linking table.
+    pub repair: Option<Repair>,
+}
+
+/// The changes of one cell that make a table a linking table.
+#[derive(Clone, Debug, PartialEq, Eq, Serialize)]
+pub struct Repair {
+    pub says: String,
+    pub changes: Vec<Change>,
+    /// Whether every change was tried.
+    pub complete: bool,
+}
+
+/// A change of a cell, whose row and column in the sheet are counted from 1.
+#[derive(Clone, Debug, PartialEq, Eq, Serialize)]
+pub struct Change {
+    pub row: usize,
+    pub column: usize,
+    pub there: u8,
+    pub instead: u8,
 }
 
 /// A fault and its place.
@@ -99,8 +119,12 @@ pub struct Cells {
 #[derive(Clone, Debug, Serialize)]
 #[serde(rename_all = "snake_case")]
 pub enum Found {
-    /// The image of each cue of the show, in turn; the trials where they were counted.
-    Map { images: Vec<u8>, trials: Option<u32> },
+    /// The image of each cue of the show, in turn; the trials where they were counted; whether the rig's table is read column first.
+    Map { images: Vec<u8>, trials: Option<u32>, mirrored: bool },
+    /// The earliest maps, and whether they are all.
+    Maps { images: Vec<Vec<u8>>, complete: bool },
+    /// How many places of the rig the show fits in, up to a number, and in how many ways in each.
+    Ways { places: usize, in_each: usize, more: bool },
     /// The classes: the places of their sheets, counted from 1, and their number of cues.
     Classes(Vec<Class>),
     /// A part of a table: the cues that it has there, and its own table.
@@ -111,6 +135,87 @@ pub enum Found {
     Positions { degree: usize, positions: Vec<Vec<u8>> },
     /// What came of each sheet that was to be mended.
     Mended(Vec<Mending>),
+    /// Why the show does not fit.
+    Misfit(Misfit),
+    /// What cues settle on when they are repeated.
+    Settles(Vec<Settling>),
+    /// Cues from which all others are linked.
+    Building { cues: Vec<u8> },
+    /// What came of each rig.
+    Rigs(Vec<Rig>),
+}
+
+/// What came of a rig.
+#[derive(Clone, Debug, Serialize)]
+pub struct Rig {
+    /// The place of its sheet, counted from 1.
+    pub sheet: usize,
+    pub outcome: RigOutcome,
+    /// In how many places the show fits, or `more` than that; nothing where it does not, or there was no time to count.
+    pub copies: Option<usize>,
+    pub more: bool,
+    /// Where the show does not fit, whether it does with the rig's table read column first; nothing where there was no time to tell.
+    pub mirrored: Option<bool>,
+    pub milliseconds: u128,
+}
+
+#[derive(Clone, Copy, Debug, PartialEq, Eq, Serialize)]
+#[serde(rename_all = "snake_case")]
+pub enum RigOutcome {
+    Fits,
+    None,
+    Stopped,
+    Refused,
+}
+
+/// What a cue settles on when it is repeated.
+#[derive(Clone, Debug, Serialize)]
+pub struct Settling {
+    pub cue: usize,
+    /// The one of its repeats that repeating does not change.
+    pub settles_on: usize,
+    /// After how many times it does so first.
+    pub times: usize,
+    /// From this number of times on repeats come again, after so many more.
+    pub index: usize,
+    pub period: usize,
+}
+
+/// Why a show does not fit, as far as was looked.
+#[derive(Clone, Debug, Serialize)]
+pub struct Misfit {
+    /// The sentences that tell it.
+    pub says: Vec<String>,
+    /// A part of the show that has no place on the rig.
+    pub smallest: Option<Misfitting>,
+    /// The largest part found that has a place; nothing where none was looked for.
+    pub largest: Option<Fitting>,
+    /// How many parts made by one, two and three cues were searched.
+    pub looked: [usize; 3],
+    /// Whether every such part was, or all that can be smaller than the one that was found.
+    pub complete: bool,
+}
+
+/// A part of a show that has no place on the rig.
+#[derive(Clone, Debug, Serialize)]
+pub struct Misfitting {
+    /// The cues that make it.
+    pub cues: Vec<u8>,
+    /// Its cues in the show.
+    pub elements: Vec<u8>,
+}
+
+/// A part of a show that has a place on the rig.
+#[derive(Clone, Debug, Serialize)]
+pub struct Fitting {
+    /// The building cues of the show, and those of them that are left out.
+    pub generators: Vec<u8>,
+    pub without: Vec<u8>,
+    /// Its cues in the show, and the partner of each.
+    pub elements: Vec<u8>,
+    pub images: Vec<u8>,
+    /// Whether every part that leaves out one, two or three building cues was looked at.
+    pub complete: bool,
 }
 
 #[derive(Clone, Debug, Serialize)]
@@ -177,6 +282,18 @@ impl Sheet {
     /// The name of a cue.
     pub fn name(&self, cue: usize) -> Option<&str> {
         self.names.get(cue - 1).map(String::as_str)
+    }
+
+    /// The cue that a number or a name stands for. A number is no name.
+    pub fn cue(&self, text: &str) -> Option<usize> {
+        let text = text.trim();
+        match text.parse() {
+            Ok(number) => Some(number).filter(|number| (1..=self.order.unwrap_or(0)).contains(number)),
+            Err(_) => {
+                let mut named = (1..=self.order.unwrap_or(0)).filter(|&cue| self.name(cue) == Some(text));
+                named.next().filter(|_| named.next().is_none())
+            }
+        }
     }
 
     /// A cue by number, and by name where it has one.

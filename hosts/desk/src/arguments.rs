@@ -71,6 +71,9 @@ pub enum Command {
     /// Finds which cue of the rig each cue of the show becomes
     #[command(after_help = MOVE_EXAMPLE)]
     Move(MoveArguments),
+    /// Tells why a show does not fit: the smallest part that has no place, and the largest that can be moved
+    #[command(after_help = WHY_EXAMPLE)]
+    Why(WhyArguments),
     /// Says of each sheet whether it is a linking table, or what is wrong with it and where
     #[command(after_help = CHECK_EXAMPLE)]
     Check(CheckArguments),
@@ -86,6 +89,15 @@ pub enum Command {
     /// Tells how few rest positions can carry a table, and where each cue then lands
     #[command(after_help = POSITIONS_EXAMPLE)]
     Positions(PositionsArguments),
+    /// Tells which of many rigs take a show
+    #[command(after_help = RIGS_EXAMPLE)]
+    Rigs(RigsArguments),
+    /// Tells which cue a repeated cue settles on, after how many times, and in what rhythm
+    #[command(after_help = SETTLES_EXAMPLE)]
+    Settles(SettlesArguments),
+    /// Finds a short list of building cues, from which all others are linked
+    #[command(after_help = CUES_EXAMPLE)]
+    Cues(CuesArguments),
     /// Writes a sheet as clean CSV beside the original, for other programs
     #[command(after_help = MEND_EXAMPLE)]
     Mend(MendArguments),
@@ -114,6 +126,31 @@ pub struct MoveArguments {
     /// Gives up after this time, such as 10s, 2m or 500ms
     #[arg(long, value_name = "TIME", value_parser = duration)]
     pub timeout: Option<Duration>,
+    /// Reads the rig's table column first, as some firms give it
+    #[arg(long, conflicts_with = "csv")]
+    pub mirror: bool,
+    /// Finds the way after the earliest, or the one that so many come before
+    #[arg(long, value_name = "NUMBER", num_args = 0..=1, require_equals = true, default_missing_value = "1", conflicts_with_all = ["csv", "limit"])]
+    pub next: Option<u32>,
+    /// Finds all ways, at most so many; 20 where no number is given
+    #[arg(
+        long,
+        value_name = "NUMBER",
+        num_args = 0..=1,
+        require_equals = true,
+        default_missing_value = "20",
+        conflicts_with_all = ["csv", "limit", "next", "html", "output"]
+    )]
+    pub all: Option<u32>,
+    /// Counts the ways
+    #[arg(long, conflicts_with_all = ["csv", "limit", "next", "all", "html", "output"])]
+    pub count: bool,
+    /// Writes the partners as a sheet, in CSV: number, name, the partner's number and name
+    #[arg(long, short, value_name = "FILE", conflicts_with = "csv")]
+    pub output: Option<PathBuf>,
+    /// Makes the page of --html a list of partners to print, with boxes to tick
+    #[arg(long, requires = "html")]
+    pub partners: bool,
     #[command(flatten)]
     pub page: Page,
 }
@@ -126,6 +163,26 @@ pub struct Tables {
     pub paths: Vec<PathBuf>,
 }
 
+const WHY_EXAMPLE: &str = "\
+Example:
+  $ tickdrizzle why examples/none
+  The show does not fit: there is no way to give its 2 cues partners among the rig's 4.
+  Each smaller part that one, two or three cues make has a place (2 parts); the whole show has none.
+  Without cue 1, 1 of 2 cues can be moved.
+  More cannot, where one, two or three of its building cues (1, 2) are left out.
+  What is said of parts is certain; what to leave out is a suggestion.
+  The partners of what can be moved:
+    2  ->  1";
+
+#[derive(Debug, Args)]
+pub struct WhyArguments {
+    #[command(flatten)]
+    pub tables: Tables,
+    /// How long each search may take, such as 1m; 10s where no time is given
+    #[arg(long, value_name = "TIME", value_parser = duration)]
+    pub timeout: Option<Duration>,
+}
+
 const CHECK_EXAMPLE: &str = "\
 Example:
   $ tickdrizzle check examples/found/source.csv
@@ -136,6 +193,9 @@ pub struct CheckArguments {
     /// Sheets, or a folder with the show as source and the rig as target
     #[arg(value_name = "SHEET or FOLDER", required = true)]
     pub paths: Vec<PathBuf>,
+    /// The cues that the sheet is built from, with commas between: fewer links are looked at then, and the answer is the same
+    #[arg(long, value_name = "NUMBERS", value_delimiter = ',', value_parser = cue)]
+    pub cues: Vec<usize>,
 }
 
 const CLASSES_EXAMPLE: &str = "\
@@ -153,6 +213,9 @@ pub struct ClassesArguments {
     /// A folder, whose sheets are taken in the order of their names, or sheets in any order
     #[arg(value_name = "FOLDER or SHEETS", required = true)]
     pub paths: Vec<PathBuf>,
+    /// Counts a table and its mirrored one, read column first, as the same
+    #[arg(long, conflicts_with = "csv")]
+    pub mirror: bool,
     /// Prints what the program classes prints, to the byte; takes only what that takes: 01.csv, 02.csv and so on, up to 50.csv
     #[arg(long, conflicts_with_all = ["html", "json"])]
     pub csv: bool,
@@ -211,6 +274,63 @@ Example:
 
 #[derive(Debug, Args)]
 pub struct PositionsArguments {
+    /// A sheet, or a folder whose show is meant
+    #[arg(value_name = "SHEET or FOLDER")]
+    pub path: PathBuf,
+}
+
+const RIGS_EXAMPLE: &str = "\
+Example:
+  $ tickdrizzle rigs examples/found/source.csv examples/found/target.csv examples/none/source.csv
+  1 of 2 rigs takes the show of 2 cues.
+    examples/found/target.csv  fits in 1 place (4 cues, 0 ms)
+    examples/none/source.csv   does not fit, nor read column first (2 cues, 0 ms)";
+
+#[derive(Debug, Args)]
+pub struct RigsArguments {
+    /// The show's sheet, or a folder whose show is meant
+    #[arg(value_name = "SHOW")]
+    pub show: PathBuf,
+    /// The rigs' sheets, or folders, whose sheets are taken in the order of their names
+    #[arg(value_name = "RIG", required = true)]
+    pub rigs: Vec<PathBuf>,
+    /// How long the searches on one rig may take, such as 1m; 10s where no time is given
+    #[arg(long, value_name = "TIME", value_parser = duration)]
+    pub timeout: Option<Duration>,
+    /// Prints a record for each rig, as CSV
+    #[arg(long, conflicts_with_all = ["html", "json"])]
+    pub csv: bool,
+    #[command(flatten)]
+    pub page: Page,
+}
+
+const SETTLES_EXAMPLE: &str = "\
+Example:
+  $ tickdrizzle settles examples/found/source.csv
+  What each of the 2 cues settles on when it is repeated:
+    1  is settled: repeating it changes nothing
+    2  settles on 1 after 2 times and again every 2 times; this rhythm begins with time 1";
+
+#[derive(Debug, Args)]
+pub struct SettlesArguments {
+    /// A sheet, or a folder whose show is meant
+    #[arg(value_name = "SHEET or FOLDER")]
+    pub path: PathBuf,
+    /// The cues, by number or by name; all where none is given
+    #[arg(value_name = "CUE")]
+    pub cues: Vec<String>,
+}
+
+const CUES_EXAMPLE: &str = "\
+Example:
+  $ tickdrizzle cues examples/found/target.csv
+  2 cues build all 4; none of them can be left out, but a shorter list of others may do:
+    1
+    3
+  For the shorter check: --cues 1,3";
+
+#[derive(Debug, Args)]
+pub struct CuesArguments {
     /// A sheet, or a folder whose show is meant
     #[arg(value_name = "SHEET or FOLDER")]
     pub path: PathBuf,

@@ -2,13 +2,16 @@
 
 mod answer;
 mod arguments;
+mod building;
 mod commands;
 mod input;
 mod names;
 mod output;
+mod parts;
 mod patience;
 mod progress;
 mod reader;
+mod repair;
 mod sheet;
 mod signals;
 mod status;
@@ -46,7 +49,8 @@ fn completions(shell: clap_complete::Shell) -> Status {
 fn finish(done: &Done, arguments: &Arguments) -> Status {
     let (answer, options) = (&done.answer, &arguments.options);
     let is_csv = matches!(&arguments.command, Command::Move(arguments) if arguments.csv)
-        || matches!(&arguments.command, Command::Classes(arguments) if arguments.csv);
+        || matches!(&arguments.command, Command::Classes(arguments) if arguments.csv)
+        || matches!(&arguments.command, Command::Rigs(arguments) if arguments.csv);
     let failed = matches!(answer.status, Status::Failed | Status::Usage);
     let mut errors = String::new();
     let text = match &done.standard {

@@ -1,9 +1,9 @@
 //! Work that people wait for no longer than they like.
 
 use std::num::ParseFloatError;
-use std::sync::mpsc;
+use std::sync::mpsc::{self, RecvTimeoutError};
 use std::thread;
-use std::time::Duration;
+use std::time::{Duration, Instant};
 
 /// Does the work in a thread of its own; nothing where it takes longer. The thread then ends with the program.
 pub fn within<T: Send + 'static>(limit: Option<Duration>, work: impl FnOnce() -> T + Send + 'static) -> Option<T> {
@@ -11,6 +11,34 @@ pub fn within<T: Send + 'static>(limit: Option<Duration>, work: impl FnOnce() ->
     let (done, told) = mpsc::channel();
     thread::spawn(move || done.send(work()));
     told.recv_timeout(limit).ok()
+}
+
+/// Does work that tells one thing after another, in a thread of its own: what was told within the limit, and whether the work had ended by
+/// then. Telling says whether somebody still listens.
+pub fn told_within<T: Send + 'static>(
+    limit: Option<Duration>,
+    work: impl FnOnce(&dyn Fn(T) -> bool) + Send + 'static,
+) -> (Vec<T>, bool) {
+    let (teller, told) = mpsc::channel();
+    let begun = Instant::now();
+    thread::spawn(move || {
+        work(&|thing| teller.send(Some(thing)).is_ok());
+        let _ = teller.send(None);
+    });
+    let mut things = Vec::new();
+    loop {
+        let next = match limit.map(|limit| limit.checked_sub(begun.elapsed())) {
+            None => told.recv().map_err(|_| RecvTimeoutError::Disconnected),
+            Some(Some(left)) => told.recv_timeout(left),
+            Some(None) => Err(RecvTimeoutError::Timeout),
+        };
+        match next {
+            Ok(Some(thing)) => things.push(thing),
+            Ok(None) => return (things, true),
+            Err(RecvTimeoutError::Timeout) => return (things, false),
+            Err(RecvTimeoutError::Disconnected) => panic!("the work has failed"),
+        }
+    }
 }
 
 /// A time as people write it: `10s`, `2m`, `1.5h`, `500ms`, or seconds without a unit.
@@ -42,6 +70,17 @@ mod tests {
         for text in ["", "s", "10d", "-1s", "1e400", "nan"] {
             assert!(duration(text).is_err(), "{text}");
         }
+    }
+
+    #[test]
+    fn what_was_told_in_time() {
+        assert_eq!(told_within(None, |tell| assert!(tell(1) && tell(2))), (vec![1, 2], true));
+        let slow = |tell: &dyn Fn(i32) -> bool| {
+            tell(1);
+            thread::sleep(Duration::from_secs(2));
+            tell(2);
+        };
+        assert_eq!(told_within(Some(Duration::from_secs(1)), slow), (vec![1], false));
     }
 
     #[test]

@@ -6,6 +6,7 @@ use crate::names;
 use crate::reader::grid::MOST_KEPT;
 use crate::reader::table::{self, place, Reading};
 use crate::reader::Unread;
+use crate::repair;
 use crate::status::Failure;
 use crate::words::{count, path_shown, row_and_column, shown, typed};
 use std::path::{Path, PathBuf};
@@ -21,12 +22,20 @@ pub struct Opened {
     pub hints: Vec<String>,
 }
 
+/// How the library makes a table of a text, or refuses it.
+pub type Loading<'a> = &'a dyn Fn(&[u8]) -> Result<Table, tickdrizzle::Refusal>;
+
 /// Reads a sheet and the name sheet beside it.
 pub fn open(source: &Source, role: Role, strict: bool) -> Result<Opened, Failure> {
+    open_by(&Table::load, source, role, strict)
+}
+
+/// Reads a sheet, as a table in this way, and the name sheet beside it.
+pub fn open_by(load: Loading, source: &Source, role: Role, strict: bool) -> Result<Opened, Failure> {
     let bytes = source.bytes()?;
-    let Some(file) = &source.file else { return Ok(opened(source, &bytes, role, strict, Vec::new())) };
+    let Some(file) = &source.file else { return Ok(opened_by(load, source, &bytes, role, strict, Vec::new())) };
     let beside = names::beside(file, strict)?;
-    let mut opened = opened(source, &bytes, role, strict, beside.names);
+    let mut opened = opened_by(load, source, &bytes, role, strict, beside.names);
     opened.hints.extend(names::hint(beside.sheet.as_ref(), &opened.about));
     opened.hints.extend(outdated(file, &bytes));
     opened.about.name_sheet = beside.sheet;
@@ -35,14 +44,29 @@ pub fn open(source: &Source, role: Role, strict: bool) -> Result<Opened, Failure
 
 /// Reads a sheet by itself, from bytes, with the names of its cues.
 pub fn opened(source: &Source, bytes: &[u8], role: Role, strict: bool, names: Vec<String>) -> Opened {
+    opened_by(&Table::load, source, bytes, role, strict, names)
+}
+
+/// Reads a sheet by itself, as a table in this way.
+pub fn opened_by(load: Loading, source: &Source, bytes: &[u8], role: Role, strict: bool, names: Vec<String>) -> Opened {
     let mut about = Sheet { path: path_shown(&source.given), role, names, ..Sheet::default() };
+    // What the library takes as it is needs no reading.
+    let as_it_is = Some(bytes).filter(|_| source.sheet.is_none()).and_then(|bytes| load(bytes).ok());
+    let table = as_it_is.or_else(|| read(load, source, bytes, strict, &mut about));
+    about.order = table.as_ref().map(Table::order);
+    about.table = table.as_ref().map(rows);
+    Opened { about, table, hints: Vec::new() }
+}
+
+/// Reads cells and loads the table that they hold; tells what was mended, or why there is none.
+fn read(load: Loading, source: &Source, bytes: &[u8], strict: bool, about: &mut Sheet) -> Option<Table> {
     let reading = if strict { table::strict(bytes) } else { table::read(bytes, source.sheet.as_deref()) };
-    let table = match reading {
+    match reading {
         Ok(reading) => {
             about.mended.clone_from(&reading.mended);
-            let loaded = Table::load(&reading.text);
+            let loaded = load(&reading.text);
             if let Err(refusal) = &loaded {
-                about.refusal = Some(explain(&reading, refusal.question, &source.given, &about));
+                about.refusal = Some(explain(&reading, refusal.question, &source.given, about));
                 let ((top, left), rows) = reading.shown();
                 about.cells = Some(Cells { row: top + 1, column: left + 1, rows });
             }
@@ -52,10 +76,7 @@ pub fn opened(source: &Source, bytes: &[u8], role: Role, strict: bool, names: Ve
             about.refusal = Some(unreadable(unread, bytes, strict));
             None
         }
-    };
-    about.order = table.as_ref().map(Table::order);
-    about.table = table.as_ref().map(rows);
-    Opened { about, table, hints: Vec::new() }
+    }
 }
 
 /// A file that has no cells to ask about, or cells with two readings. The library's question is named where the file is text, and
@@ -69,6 +90,7 @@ fn unreadable(unread: Unread, bytes: &[u8], strict: bool) -> Refusal {
         more: 0,
         expected: unread.expected,
         to_do: unread.to_do,
+        repair: None,
     }
 }
 
@@ -102,10 +124,23 @@ pub fn explain(reading: &Reading, question: Question, path: &Path, about: &Sheet
         Question::Square => square(reading),
         Question::CellRange { cell } => cell_range(reading, cell),
         Question::Associativity { i, j, k } => associativity(reading, [i, j, k], about),
+        Question::Generator => one_fault(
+            "--cues".into(),
+            String::new(),
+            &format!("cues of this table, 1 to {}", reading.height),
+            "choose cues that the table has",
+        ),
+        Question::Generation => one_fault(
+            "--cues".into(),
+            String::new(),
+            "cues from which all others are linked",
+            &format!("add cues to the list; this finds one: tickdrizzle cues {}", typed(path)),
+        ),
         other => one_fault("the whole sheet".into(), other.to_string(), "", ""),
     };
     refusal.question = Some(question.number() as usize);
-    if reading.strict && table::read(&reading.text, None).is_ok_and(|reading| Table::load(&reading.text).is_ok()) {
+    let is_mended = || table::read(&reading.text, None).is_ok_and(|reading| Table::load(&reading.text).is_ok());
+    if reading.strict && Table::load(&reading.text).is_err() && is_mended() {
         refusal.to_do = format!("leave out --strict, or run: tickdrizzle mend {}", typed(path));
     }
     refusal
@@ -119,7 +154,7 @@ fn one_fault(place: String, there: String, expected: &str, to_do: &str) -> Refus
 pub fn several(mut faults: Vec<Fault>, expected: &str, to_do: &str) -> Refusal {
     let more = faults.len().saturating_sub(MOST_FAULTS);
     faults.truncate(MOST_FAULTS);
-    Refusal { question: None, faults, more, expected: expected.into(), to_do: to_do.into() }
+    Refusal { question: None, faults, more, expected: expected.into(), to_do: to_do.into(), repair: None }
 }
 
 /// Whether a sheet of this size is a table with too many cues, or has cells that are not kept.
@@ -242,7 +277,9 @@ fn associativity(reading: &Reading, [i, j, k]: [usize; 3], about: &Sheet) -> Ref
         there: format!("{i}·{j} = {ij}, {ij}·{k} = {left}; {j}·{k} = {jk}, {i}·{jk} = {right}"),
     };
     let expected = format!("the same cue both ways: ({i}·{j})·{k} = {i}·({j}·{k})");
-    several(vec![fault], &expected, &format!("one of these cells is wrong: {}", told.join("; ")))
+    let to_do = format!("one of these cells is wrong: {}", told.join("; "));
+    let repair = repair::of(&cells[..order * order], order, &looked_up, (reading.top, reading.left));
+    Refusal { repair: Some(repair), ..several(vec![fault], &expected, &to_do) }
 }
 
 /// The cells of a sheet that loads.

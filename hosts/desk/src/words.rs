@@ -3,6 +3,7 @@
 use crate::reader::grid::letters;
 use std::fmt::Write;
 use std::path::Path;
+use std::time::{SystemTime, UNIX_EPOCH};
 
 /// A longer text is shown cut.
 const LONGEST_SHOWN: usize = 40;
@@ -15,6 +16,39 @@ pub fn row_and_column(row: usize, column: usize) -> String {
 /// A number of things.
 pub fn count(number: usize, thing: &str) -> String {
     format!("{number} {thing}{}", if number == 1 { "" } else { "s" })
+}
+
+/// Things one after another, with "and" before the last.
+pub fn listed(things: &[String]) -> String {
+    match things {
+        [] => String::new(),
+        [one] => one.clone(),
+        [front @ .., last] => format!("{} and {last}", front.join(", ")),
+    }
+}
+
+/// The day, as year, month and day, by universal time; `SOURCE_DATE_EPOCH` stands for another time, in seconds.
+pub fn today() -> String {
+    let now = SystemTime::now().duration_since(UNIX_EPOCH).map_or(0, |time| time.as_secs());
+    let given = std::env::var("SOURCE_DATE_EPOCH").ok().and_then(|seconds| seconds.parse().ok());
+    date(given.unwrap_or(now) / (24 * 60 * 60))
+}
+
+/// The date so many days after the first of January 1970.
+fn date(mut days: u64) -> String {
+    let is_leap = |year: u64| year % 4 == 0 && (year % 100 != 0 || year % 400 == 0);
+    let mut year = 1970;
+    while days >= 365 + u64::from(is_leap(year)) {
+        days -= 365 + u64::from(is_leap(year));
+        year += 1;
+    }
+    let mut month = 0;
+    let lengths = [31, 28 + u64::from(is_leap(year)), 31, 30, 31, 30, 31, 31, 30, 31, 30, 31];
+    while days >= lengths[month] {
+        days -= lengths[month];
+        month += 1;
+    }
+    format!("{year}-{:02}-{:02}", month + 1, days + 1)
 }
 
 /// A text between quote marks, cut where it is long, with characters that would not show or would move others written by number.
@@ -78,6 +112,13 @@ pub fn error_words(error: &std::io::Error) -> String {
 #[cfg(test)]
 mod tests {
     use super::*;
+
+    #[test]
+    fn days_as_dates() {
+        let told = [0, 58, 59, 789, 790, 19_782, 20_773].map(date);
+        let dates = ["1970-01-01", "1970-02-28", "1970-03-01", "1972-02-29", "1972-03-01", "2024-02-29", "2026-11-16"];
+        assert_eq!(told, dates);
+    }
 
     #[test]
     fn what_does_not_show_is_written_by_number() {

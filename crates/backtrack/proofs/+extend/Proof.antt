@@ -153,7 +153,7 @@ extend-no-map-requires t c κs = search needs
 extend-returns-2 : (t : ℕ) → extend-lts.Need-returns-2 (calls t) (extend-at t) extend.Post extend-Inv-loop extend-μ-loop
 extend-returns-2 t c =
     let y = c .before .before .before .pay in
-    c .no-map .ensures ∙ stop (turn t (c .before .before .before .before .before)) (c .before .before .before .before .if3 .taken) (unpaid (y .result .enough) (y .result .left) _ (y .ensures) (c .before .if4 .taken))
+    c .no-map .ensures ∙ stop (turn t (c .before .before .before .before .before)) (c .before .before .before .before .if3 .taken) (unpaid (y .result .enough) (y .result .left) _ (y .ensures .0) (c .before .if4 .taken))
 
 extend-passes-with-requires : (t : ℕ) → extend-lts.Need-passes-with-requires (calls t) (extend-at t) extend.Post extend-Inv-loop extend-μ-loop
 extend-passes-with-requires t c κs =
@@ -193,7 +193,7 @@ extend-extend-requires t c κs =
     let z = start t k in
     let T = turn t k in
     let y = w .before .before .before .before .before .before .before .before .before .before .before .pay in
-    let p = paid (y .result .enough) (y .result .left) _ (y .ensures) (w .before .before .before .before .before .before .before .before .before .if4 .left) in
+    let p = paid (y .result .enough) (y .result .left) _ (y .ensures .0) (w .before .before .before .before .before .before .before .before .before .if4 .left) in
     let o = w .before .before .before .before .before .before .before .before .before .before .before .before .if3 .taken in
     let room = T .room in
     let v = tested t w in
@@ -208,7 +208,7 @@ extend-returns-3 t c =
     let z = start t k in
     let T = turn t k in
     let y = w .before .before .before .before .before .before .before .before .before .before .before .pay in
-    let p = paid (y .result .enough) (y .result .left) _ (y .ensures) (w .before .before .before .before .before .before .before .before .before .if4 .left) in
+    let p = paid (y .result .enough) (y .result .left) _ (y .ensures .0) (w .before .before .before .before .before .before .before .before .before .if4 .left) in
     let o = w .before .before .before .before .before .before .before .before .before .before .before .before .if3 .taken in
     let i = c .before .extend in
     i .ensures ∙ halt T o (y .result .left) p (w .before .place .result) (w .test .result .partial) (w .test .result .ok) (tested t w) (c .before .before .if6 .taken) (ap (λ (r : Outcome). r .stopped) (sym (i .ensures)) ∙ c .if7 .taken)
@@ -220,7 +220,7 @@ extend-returns-4 t c =
     let z = start t k in
     let T = turn t k in
     let y = w .before .before .before .before .before .before .before .before .before .before .before .pay in
-    let p = paid (y .result .enough) (y .result .left) _ (y .ensures) (w .before .before .before .before .before .before .before .before .before .if4 .left) in
+    let p = paid (y .result .enough) (y .result .left) _ (y .ensures .0) (w .before .before .before .before .before .before .before .before .before .if4 .left) in
     let o = w .before .before .before .before .before .before .before .before .before .before .before .before .if3 .taken in
     let i = c .before .before .extend in
     i .ensures ∙ found T o (y .result .left) p (w .before .place .result) (w .test .result .partial) (w .test .result .ok) (tested t w) (c .before .before .before .if6 .taken) (ap (λ (r : Outcome). r .ok) (sym (i .ensures)) ∙ c .if8 .taken)
@@ -246,12 +246,12 @@ extend-loop-again t c =
           let test = w .12 .ensures in
           let v : Verdict _ _ _ _ (w .11 .result) (w .12 .result .partial) (w .12 .result .ok) = record { longer = more .0; one-more = more .2; says = test .0; same-images = test .1 .1 .0; same-length = test .1 .1 .1 } in
           let r = w .14 in
-          fail T (w .0 .taken) (w .1 .result .left) (paid (w .1 .result .enough) (w .1 .result .left) _ (w .1 .ensures) (w .3 .left)) (w .11 .result) (w .12 .result .partial) (w .12 .result .ok) v (w .13 .taken) (ap (λ (q : Outcome). q .stopped) (sym (r .ensures)) ∙ w .15 .left) (ap (λ (q : Outcome). q .ok) (sym (r .ensures)) ∙ w .16 .left)
+          fail T (w .0 .taken) (w .1 .result .left) (paid (w .1 .result .enough) (w .1 .result .left) _ (w .1 .ensures .0) (w .3 .left)) (w .11 .result) (w .12 .result .partial) (w .12 .result .ok) v (w .13 .taken) (ap (λ (q : Outcome). q .stopped) (sym (r .ensures)) ∙ w .15 .left) (ap (λ (q : Outcome). q .ok) (sym (r .ensures)) ∙ w .16 .left)
           ∙ rw (w .17, ap (λ (q : Outcome). q .left) (r .ensures)))
           (⊎-elim
-          (λ w. refuse T (w .0 .taken) (w .1 .result .left) (paid (w .1 .result .enough) (w .1 .result .left) _ (w .1 .ensures) (w .3 .left)) (ap (passes _ _) (sym (w .11 .ensures .1 .0 .0)) ∙ sym (w .12 .ensures .0) ∙ w .13 .left) ∙ rw (w .14))
+          (λ w. refuse T (w .0 .taken) (w .1 .result .left) (paid (w .1 .result .enough) (w .1 .result .left) _ (w .1 .ensures .0) (w .3 .left)) (ap (passes _ _) (sym (w .11 .ensures .1 .0 .0)) ∙ sym (w .12 .ensures .0) ∙ w .13 .left) ∙ rw (w .14))
           (⊎-elim
-          (λ w. refuse T (w .0 .taken) (w .1 .result .left) (paid (w .1 .result .enough) (w .1 .result .left) _ (w .1 .ensures) (w .3 .left)) (sym (w .9 .ensures) ∙ w .10 .left) ∙ rw (w .11))
+          (λ w. refuse T (w .0 .taken) (w .1 .result .left) (paid (w .1 .result .enough) (w .1 .result .left) _ (w .1 .ensures .0) (w .3 .left)) (sym (w .9 .ensures) ∙ w .10 .left) ∙ rw (w .11))
           (λ w. skip T (w .0 .left) ∙ rw (w .1))))
           (c .if3 .came),
     )

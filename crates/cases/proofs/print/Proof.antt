@@ -1,4 +1,4 @@
--- `print` prints the part of its buffer that holds the line. Assumes nothing.
+-- `print` prints the part of its buffer that holds the line, and returns how long it is. Assumes nothing.
 use mathlib.Core.Path.{sym}
 use lib.Seq.{length-take-le}
 use Rattle.judging.proofs.Digits.{line-within}

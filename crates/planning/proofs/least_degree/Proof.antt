@@ -72,7 +72,7 @@ returns-4 : tie.Need-returns-4
 returns-4 c =
     let p = c .before .before .before in
     let room = p .before .before .before .before in
-    answered _ _ _ (table-passes (room .before)) (room .if1 .left) _ _ (p .place .ensures)
+    answered _ _ _ (table-passes (room .before)) (room .if1 .left) _ _ (p .place .ensures .0) (p .place .ensures .1 .1)
 
 pub least-degree-spec : {M : Type 1} → statement M
 least-degree-spec =

@@ -34,7 +34,7 @@ pub fn run(arguments: &ClassesArguments, work: &mut Work) -> Result<(), Failure>
         let sheet = opened(&source, &bytes, Role::Table, strict, Vec::new());
         work.take(&sheet);
         if let Some(table) = sheet.table {
-            add(&mut classes, table, work.answer.sheets.len());
+            add(&mut classes, table, work.answer.sheets.len(), arguments.mirror);
         }
     }
     if work.answer.sheets.is_empty() {
@@ -44,15 +44,21 @@ pub fn run(arguments: &ClassesArguments, work: &mut Work) -> Result<(), Failure>
         );
     } else {
         work.answer.says = sentence(classes.len(), work.answer.sheets.len());
+        if arguments.mirror {
+            work.answer.says += " A table and its mirrored one count as the same.";
+        }
     }
     let class = |members: Members| Class { order: members.table.order(), sheets: members.sheets };
     work.answer.result = Some(Found::Classes(classes.into_iter().map(class).collect()));
     Ok(())
 }
 
-/// Puts a sheet into its class, or into a new one.
-fn add(classes: &mut Vec<Members>, table: Table, place: usize) {
-    let same = |members: &&mut Members| members.table.isomorphisms(&table).next().is_some();
+/// Puts a sheet into its class, or into a new one; a class may have mirrored tables too.
+fn add(classes: &mut Vec<Members>, table: Table, place: usize, mirror: bool) {
+    let same = |members: &&mut Members| {
+        members.table.isomorphisms(&table).next().is_some()
+            || mirror && members.table.reversed_isomorphisms(&table).next().is_some()
+    };
     match classes.iter_mut().find(same) {
         Some(members) => members.sheets.push(place),
         None => classes.push(Members { table, sheets: vec![place] }),
@@ -64,30 +70,38 @@ fn sentence(classes: usize, sheets: usize) -> String {
     format!("{classes} in {}.", count(sheets, "sheet"))
 }
 
-/// The sheets that were given, or those of a folder; tells which files of a folder are left out.
+/// The sheets that were given, or those of a folder.
 fn sources(paths: &[PathBuf], csv: bool, work: &mut Work) -> Result<Vec<Source>, Failure> {
     let [folder] = paths else { return input::each_file(paths) };
     if !folder.is_dir() {
         return input::each_file(paths);
     }
-    let sheets = input::sheets(folder);
-    let (taken, left): (Vec<PathBuf>, Vec<PathBuf>) = if csv {
-        let numbered = numbered(folder);
-        let left = sheets.into_iter().filter(|path| !numbered.contains(path)).collect();
-        (numbered, left)
-    } else {
-        sheets.into_iter().partition(|path| !is_answer(path) && !is_copy(path))
-    };
-    if !left.is_empty() {
-        let why = if csv {
-            "01.csv, 02.csv and so on are read, up to 50.csv and the first gap"
-        } else {
-            "answers of this program and mended copies"
-        };
-        let names: Vec<_> = left.iter().map(|path| name_of(path)).collect();
-        work.answer.hints.push(format!("Left out: {} ({why}).", names.join(", ")));
+    if !csv {
+        return Ok(in_folder(folder, work));
     }
-    Ok(taken.iter().map(|path| Source::new(path)).collect())
+    let numbered = numbered(folder);
+    let left = input::sheets(folder).into_iter().filter(|path| !numbered.contains(path)).collect();
+    left_out(left, "01.csv, 02.csv and so on are read, up to 50.csv and the first gap", work);
+    Ok(numbered.iter().map(|path| Source::new(path)).collect())
+}
+
+/// The sheets of a folder.
+pub fn in_folder(folder: &Path, work: &mut Work) -> Vec<Source> {
+    let sheets = input::sheets(folder).into_iter();
+    let (taken, left): (Vec<PathBuf>, Vec<PathBuf>) = sheets.partition(|path| !is_answer(path) && !is_copy(path));
+    left_out(left, "answers of this program and mended copies", work);
+    taken.iter().map(|path| Source::new(path)).collect()
+}
+
+/// Tells which files of a folder are left out.
+fn left_out(left: Vec<PathBuf>, why: &str, work: &mut Work) {
+    if !left.is_empty() {
+        let names: Vec<_> = left.iter().map(|path| name_of(path)).collect();
+        let hint = format!("Left out: {} ({why}).", names.join(", "));
+        if !work.answer.hints.contains(&hint) {
+            work.answer.hints.push(hint);
+        }
+    }
 }
 
 /// The files that the program classes reads: 01.csv, 02.csv and so on, until one cannot be opened.

@@ -12,7 +12,7 @@ use crate::words::count;
 use tickdrizzle::{Copies, Table};
 
 /// The library counts so far.
-const MOST_COPIES: usize = 65_535;
+pub const MOST_COPIES: usize = 65_535;
 
 pub fn run(arguments: &CopiesArguments, work: &mut Work) -> Result<(), Failure> {
     let mut tables = Vec::new();

@@ -3,10 +3,14 @@
 mod check;
 mod classes;
 mod copies;
+mod cues;
 mod cut;
 mod mend;
 mod moving;
 mod positions;
+mod rigs;
+mod settles;
+mod why;
 
 use crate::answer::Answer;
 use crate::arguments::{Command, Options, Page};
@@ -25,6 +29,8 @@ pub struct Work<'a> {
     pub inputs: Vec<PathBuf>,
     pub outputs: Vec<Output>,
     pub html: Option<PathBuf>,
+    /// How the page is made.
+    pub view: fn(&Answer) -> String,
     pub force: bool,
 }
 
@@ -41,6 +47,9 @@ pub fn run(command: &Command, options: &Options) -> Done {
         Command::Move(arguments) => {
             let paths = &arguments.tables.paths;
             answered("move", options, paths, Some(&arguments.page), |work| moving::run(arguments, work))
+        }
+        Command::Why(arguments) => {
+            answered("why", options, &arguments.tables.paths, None, |work| why::run(arguments, work))
         }
         Command::Check(arguments) => {
             answered("check", options, &arguments.paths, None, |work| check::run(arguments, work))
@@ -60,6 +69,18 @@ pub fn run(command: &Command, options: &Options) -> Done {
             let path = std::slice::from_ref(&arguments.path);
             answered("positions", options, path, None, |work| positions::run(arguments, work))
         }
+        Command::Rigs(arguments) => {
+            let paths = [std::slice::from_ref(&arguments.show), &arguments.rigs].concat();
+            answered("rigs", options, &paths, Some(&arguments.page), |work| rigs::run(arguments, work))
+        }
+        Command::Settles(arguments) => {
+            let path = std::slice::from_ref(&arguments.path);
+            answered("settles", options, path, None, |work| settles::run(arguments, work))
+        }
+        Command::Cues(arguments) => {
+            let path = std::slice::from_ref(&arguments.path);
+            answered("cues", options, path, None, |work| cues::run(arguments, work))
+        }
         Command::Mend(arguments) => {
             answered("mend", options, &arguments.paths, None, |work| mend::run(arguments, work))
         }
@@ -78,18 +99,19 @@ fn answered(
     let mut at_work = Work {
         options,
         answer: Answer::new(command),
-        inputs: input::inputs(paths, command == "classes"),
+        inputs: input::inputs(paths, matches!(command, "classes" | "rigs")),
         outputs: Vec::new(),
         html: page.and_then(|page| page.html.clone()),
+        view: page::page,
         force: page.is_some_and(|page| page.force),
     };
     let done = work(&mut at_work);
-    let Work { mut answer, inputs, mut outputs, html, force, .. } = at_work;
+    let Work { mut answer, inputs, mut outputs, html, view, force, .. } = at_work;
     if let Err(failure) = done {
         answer = answer.failed(failure);
     }
     if let Some(path) = html.filter(|_| answer.status != Status::Usage) {
-        outputs.push(Output::new(&path, page::page(&answer)));
+        outputs.push(Output::new(&path, view(&answer)));
     }
     match output::write(&outputs, &inputs, force) {
         Ok(written) => answer.written.extend(written),

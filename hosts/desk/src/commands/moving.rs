@@ -1,19 +1,97 @@
-//! The first embedding of the show's table in the rig's.
+//! Embeddings of the show's table in the rig's: the earliest, the next ones, all, or how many.
 
-use super::Work;
+use super::{why, Work};
 use crate::answer::{Found, Role};
 use crate::arguments::MoveArguments;
+use crate::building::generators;
 use crate::input;
-use crate::patience::within;
+use crate::output::is_standard;
+use crate::patience::{told_within, within};
 use crate::progress::Progress;
 use crate::sheet::{open, opened};
 use crate::status::{Failure, Status};
-use crate::words::count;
+use crate::views::partners;
+use crate::words::{count, path_shown};
 use std::time::Duration;
-use tickdrizzle::{LimitedSearch, Table};
+use tickdrizzle::{Copies, LimitedSearch, Maps, Table};
 
 /// How long a hint may take.
 const HINT_TIME: Duration = Duration::from_secs(1);
+
+/// The tables between which maps are looked for.
+#[derive(Clone)]
+pub struct Search {
+    source: Table,
+    /// The rig's table, or the turned one where a part of a mirrored rig is looked for.
+    target: Table,
+    /// Whether reversed isomorphisms are looked for.
+    reversed: bool,
+    /// How the rig's table is read, where it is not as usual.
+    how: &'static str,
+}
+
+impl Search {
+    pub fn plain(source: &Table, target: &Table) -> Search {
+        Search { source: source.clone(), target: target.clone(), reversed: false, how: "" }
+    }
+
+    /// Maps to the rig's table read column first. The library has reversed isomorphisms; a part is looked for in the turned table.
+    pub fn mirrored(source: &Table, target: &Table) -> Search {
+        let reversed = source.order() == target.order();
+        let target = if reversed { target.clone() } else { turned(target) };
+        Search { source: source.clone(), target, reversed, how: ", with the rig's table read column first" }
+    }
+
+    fn maps(&self) -> Maps<'_> {
+        if self.reversed {
+            self.source.reversed_isomorphisms(&self.target)
+        } else {
+            self.source.embeddings(&self.target)
+        }
+    }
+
+    fn limited(&self, limit: u32) -> (LimitedSearch, Option<Vec<u8>>) {
+        if self.reversed {
+            self.source.reversed_isomorphism_within(&self.target, limit)
+        } else {
+            self.source.embedding_within(&self.target, limit)
+        }
+    }
+
+    /// That the show fits.
+    pub fn fits(&self) -> String {
+        let (cues, go) = (self.source.order(), if self.source.order() == 1 { "goes" } else { "go" });
+        let (order, how) = (self.target.order(), self.how);
+        format!("The show fits: its {} {go} to {cues} of the rig's {order}{how}.", count(cues, "cue"))
+    }
+
+    /// That the show does not fit.
+    pub fn does_not_fit(&self) -> String {
+        let (cues, order, how) = (count(self.source.order(), "cue"), self.target.order(), self.how);
+        format!("The show does not fit: there is no way to give its {cues} partners among the rig's {order}{how}.")
+    }
+
+    /// Whether there is a map.
+    pub fn finds(&self) -> bool {
+        self.maps().next().is_some()
+    }
+
+    /// At most so many maps, earliest first, and whether there was time for them.
+    fn first(&self, number: usize, limit: Option<Duration>) -> (Vec<Vec<u8>>, bool) {
+        let search = self.clone();
+        told_within(limit, move |tell| {
+            let _ = search.maps().take(number).all(tell);
+        })
+    }
+}
+
+/// The table with rows for columns.
+pub fn turned(table: &Table) -> Table {
+    let order = table.order();
+    let cells = (0..order * order).map(|place| table.cells()[place % order * order + place / order]).collect();
+    let building = generators(table.cells(), order);
+    Table::generated(cells, order, &building).expect("a turned table is one, built from the same cues")
+}
 
 /// What came of a search; the trials where they were counted.
 enum Outcome {
@@ -23,7 +101,14 @@ enum Outcome {
 }
 
 pub fn run(arguments: &MoveArguments, work: &mut Work) -> Result<(), Failure> {
+    let standard = |path: &Option<std::path::PathBuf>| path.as_deref().is_some_and(is_standard);
+    if standard(&arguments.output) && standard(&work.html) {
+        return Err(Failure::usage("standard output (-) takes the partners or the page, not both"));
+    }
     work.page_is_allowed()?;
+    if arguments.partners {
+        work.view = partners::page;
+    }
     let strict = work.options.strict || arguments.csv;
     let paths = &arguments.tables.paths;
     let sources = if arguments.csv { input::strict_pair(paths)? } else { input::pair(paths)? };
@@ -38,33 +123,147 @@ pub fn run(arguments: &MoveArguments, work: &mut Work) -> Result<(), Failure> {
         tables.extend(sheet.table);
     }
     let [source, target] = &tables[..] else { return Ok(()) };
-    let outcome = search(source, target, arguments, work.options.quiet);
-    let (status, says) = (status(&outcome), sentence(source, target, &outcome));
-    work.say(says, status);
-    if let Outcome::Found { images, trials } = outcome {
-        work.answer.result = Some(Found::Map { images, trials });
+    let search = if arguments.mirror { Search::mirrored(source, target) } else { Search::plain(source, target) };
+    let line = Progress::start("looking for partners", work.options.quiet);
+    match (arguments.all, arguments.next) {
+        _ if arguments.count => ways(&search, arguments, work),
+        (Some(number), _) => all(&search, number as usize, arguments, work),
+        (None, Some(number)) => next(&search, number as usize, arguments, work),
+        (None, None) => one(&search, arguments, work),
+    }
+    drop(line);
+    if arguments.mirror && !search.reversed {
+        let how = "The orders differ: the rig's table was turned, rows for columns, and searched as usual.";
+        work.answer.hints.push(how.into());
     }
     if !arguments.csv {
-        work.answer.hints.extend(hint(&sources, source, target, status));
+        work.answer.hints.extend(hint(&sources, source, target, work.answer.status, arguments.mirror));
+    }
+    if let Some(path) = &arguments.output {
+        match &work.answer.result {
+            Some(Found::Map { .. }) => work.put(path, partners::sheet(&work.answer).into_bytes()),
+            _ => work.answer.hints.push(format!("{} was not written: there are no partners.", path_shown(path))),
+        }
     }
     Ok(())
 }
 
-fn search(source: &Table, target: &Table, arguments: &MoveArguments, quiet: bool) -> Outcome {
-    let _line = Progress::start("looking for partners", quiet);
+/// The earliest map, or why there is none.
+fn one(search: &Search, arguments: &MoveArguments, work: &mut Work) {
+    let outcome = earliest(search, arguments);
+    work.say(sentence(search, &outcome), status(&outcome));
+    match outcome {
+        Outcome::Found { images, trials } => {
+            work.answer.result = Some(Found::Map { images, trials, mirrored: arguments.mirror });
+        }
+        Outcome::None { .. } if !arguments.csv => {
+            let rig = if search.reversed { turned(&search.target) } else { search.target.clone() };
+            let mut misfit = why::smallest(&work.answer.sheets[0], &search.source, &rig, HINT_TIME);
+            let is_larger = search.source.order() > rig.order();
+            misfit.says.truncate(usize::from(misfit.smallest.is_some() || is_larger));
+            if misfit.smallest.is_none() && !misfit.complete {
+                let far =
+                    format!("Within {HINT_TIME:?} no part without a place was found: tickdrizzle why looks longer.");
+                work.answer.hints.push(far);
+            }
+            work.answer.result = Some(Found::Misfit(misfit));
+        }
+        _ => {}
+    }
+}
+
+fn earliest(search: &Search, arguments: &MoveArguments) -> Outcome {
     if let Some(limit) = arguments.limit {
-        return match source.embedding_within(target, limit) {
+        return match search.limited(limit) {
             (LimitedSearch::Found { trials }, Some(images)) => Outcome::Found { images, trials: Some(trials) },
             (LimitedSearch::None { trials }, _) => Outcome::None { trials: Some(trials) },
             _ => Outcome::Stopped { enough: format!("{} {}", tried(limit), if limit == 1 { "is" } else { "are" }) },
         };
     }
-    let tables = (source.clone(), target.clone());
-    match within(arguments.timeout, move || tables.0.embeddings(&tables.1).next()) {
-        Some(Some(images)) => Outcome::Found { images, trials: None },
-        Some(None) => Outcome::None { trials: None },
+    let (mut maps, in_time) = search.first(1, arguments.timeout);
+    match maps.pop() {
+        Some(images) => Outcome::Found { images, trials: None },
+        None if in_time => Outcome::None { trials: None },
         None => Outcome::Stopped { enough: format!("{:?} is", arguments.timeout.unwrap_or_default()) },
     }
+}
+
+/// The map that so many come before.
+fn next(search: &Search, before: usize, arguments: &MoveArguments, work: &mut Work) {
+    let (mut maps, in_time) = search.first(before + 1, arguments.timeout);
+    let found = maps.len();
+    if found == before + 1 {
+        let come = if before == 1 { "comes" } else { "come" };
+        let says = format!("{} This is way {found}: {before} {come} before it.", search.fits());
+        work.say(says, Status::Found);
+        let images = maps.pop().expect("it is there");
+        work.answer.result = Some(Found::Map { images, trials: None, mirrored: arguments.mirror });
+    } else if in_time {
+        work.say(
+            format!("There is no such way: the show fits in {}{}.", count(found, "way"), search.how),
+            Status::None,
+        );
+    } else {
+        work.say(stopped(arguments), Status::Stopped);
+    }
+}
+
+/// At most so many maps.
+fn all(search: &Search, most: usize, arguments: &MoveArguments, work: &mut Work) {
+    let (mut maps, in_time) = search.first(most + 1, arguments.timeout);
+    let more = maps.len() > most;
+    maps.truncate(most);
+    if maps.is_empty() && !more {
+        let outcome = if in_time { search.does_not_fit() } else { stopped(arguments) };
+        work.say(outcome, if in_time { Status::None } else { Status::Stopped });
+        return;
+    }
+    let number = count(maps.len(), "way");
+    let (says, status) = match (more, in_time) {
+        (true, _) => (format!("The show fits in more than {number}{}. The earliest:", search.how), Status::Found),
+        (false, true) => (format!("The show fits in {number}{}:", search.how), Status::Found),
+        (false, false) => {
+            let time = arguments.timeout.unwrap_or_default();
+            (format!("Stopped: in {time:?} {number} were found, and there may be more:"), Status::Stopped)
+        }
+    };
+    work.say(says, status);
+    work.answer.result = Some(Found::Maps { images: maps, complete: in_time && !more });
+}
+
+/// How many maps there are: for each copy of the show as many as it has isomorphisms onto itself.
+fn ways(search: &Search, arguments: &MoveArguments, work: &mut Work) {
+    let lent = search.clone();
+    let counted = within(arguments.timeout, move || {
+        if lent.reversed {
+            let ways = lent.maps().count();
+            return (Copies::Number(usize::from(ways > 0)), ways);
+        }
+        match lent.source.copies(&lent.target) {
+            Copies::Number(0) => (Copies::Number(0), 0),
+            copies => (copies, lent.source.isomorphisms(&lent.source).count()),
+        }
+    });
+    let (says, status) = match counted {
+        None => (stopped(arguments), Status::Stopped),
+        Some((Copies::Number(0), _)) => (search.does_not_fit(), Status::None),
+        Some((copies, in_each)) => {
+            let (places, more) = match copies {
+                Copies::Number(places) => (places, false),
+                Copies::More => (super::copies::MOST_COPIES, true),
+            };
+            work.answer.result = Some(Found::Ways { places, in_each, more });
+            let than = if more { "more than " } else { "" };
+            let (ways, places) = (count(places * in_each, "way"), count(places, "place"));
+            let says = format!(
+                "The show fits in {than}{ways}{}: {than}{places} of the rig, {} in each.",
+                search.how,
+                count(in_each, "way")
+            );
+            (says, Status::Found)
+        }
+    };
+    work.say(says, status);
 }
 
 fn status(outcome: &Outcome) -> Status {
@@ -75,18 +274,11 @@ fn status(outcome: &Outcome) -> Status {
     }
 }
 
-fn sentence(source: &Table, target: &Table, outcome: &Outcome) -> String {
-    let (cues, order) = (count(source.order(), "cue"), target.order());
+fn sentence(search: &Search, outcome: &Outcome) -> String {
     let counted = |trials: &Option<u32>| trials.map_or(String::new(), |trials| format!(" {}.", tried(trials)));
     match outcome {
-        Outcome::Found { trials, .. } => {
-            let go = if source.order() == 1 { "goes" } else { "go" };
-            format!("The show fits: its {cues} {go} to {} of the rig's {order}.{}", source.order(), counted(trials))
-        }
-        Outcome::None { trials } => format!(
-            "The show does not fit: there is no way to give its {cues} partners among the rig's {order}.{}",
-            counted(trials)
-        ),
+        Outcome::Found { trials, .. } => search.fits() + &counted(trials),
+        Outcome::None { trials } => search.does_not_fit() + &counted(trials),
         Outcome::Stopped { enough } => {
             let option = if enough.contains("trial") { "--limit" } else { "--timeout" };
             format!("Stopped: {enough} not enough to tell. Give a larger {option}, or none.")
@@ -94,20 +286,38 @@ fn sentence(source: &Table, target: &Table, outcome: &Outcome) -> String {
     }
 }
 
+fn stopped(arguments: &MoveArguments) -> String {
+    format!(
+        "Stopped: {:?} is not enough to tell. Give a larger --timeout, or none.",
+        arguments.timeout.unwrap_or_default()
+    )
+}
+
 fn tried(trials: u32) -> String {
     count(trials as usize, "trial")
 }
 
-/// What may have been meant: two different files, or the two the other way round.
-fn hint(sources: &[input::Source; 2], source: &Table, target: &Table, status: Status) -> Option<String> {
+/// What may have been meant: two different files, the other way to read the rig, or the two tables the other way round.
+fn hint(
+    sources: &[input::Source; 2],
+    source: &Table,
+    target: &Table,
+    status: Status,
+    is_mirrored: bool,
+) -> Option<String> {
     if input::is_same(&sources[0], &sources[1]) {
         return Some("The show and the rig are the same file.".into());
     }
-    if status != Status::None || source.order() <= target.order() {
+    if status != Status::None {
         return None;
     }
-    let tables = (source.clone(), target.clone());
-    let fits = within(Some(HINT_TIME), move || tables.1.embeddings(&tables.0).next().is_some());
-    fits.filter(|&fits| fits)
-        .map(|_| "The rig's table fits in the show's: perhaps the two are the wrong way round.".into())
+    let (search, says) = if source.order() > target.order() {
+        let says = "The rig's table fits in the show's: perhaps the two are the wrong way round.";
+        (Search::plain(target, source), says)
+    } else if is_mirrored {
+        (Search::plain(source, target), "The rig's table read row first fits: leave out --mirror.")
+    } else {
+        (Search::mirrored(source, target), "The rig's table read column first fits: see --mirror.")
+    };
+    within(Some(HINT_TIME), move || search.finds()).filter(|&fits| fits).map(|_| says.into())
 }

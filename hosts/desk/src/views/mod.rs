@@ -1,6 +1,7 @@
 //! Views of an answer: words, records of the proved programs, JSON, pages.
 
 pub mod page;
+pub mod partners;
 pub mod records;
 pub mod text;
 

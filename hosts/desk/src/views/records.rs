@@ -1,12 +1,14 @@
-//! What the programs recue and classes print.
+//! What the programs recue and classes print, and records of rigs.
 
-use crate::answer::{Answer, Class, Found};
+use crate::answer::{Answer, Class, Found, Rig, RigOutcome};
+use crate::reader::table::field;
 use crate::status::Status;
 
 /// The records of an answer.
 pub fn records(answer: &Answer) -> String {
     match &answer.result {
         Some(Found::Classes(classes)) => classes_records(answer, classes),
+        Some(Found::Rigs(rigs)) => rigs_records(answer, rigs),
         _ => move_records(answer),
     }
 }
@@ -45,6 +47,26 @@ fn classes_records(answer: &Answer, classes: &[Class]) -> String {
     }
     for class in classes {
         text += &format!("total,{},{}\r\n", class.sheets[0], class.sheets.len());
+    }
+    text
+}
+
+/// A heading, then a record for each rig: its path, what came of it, its cues, the places, whether it fits mirrored, the time.
+fn rigs_records(answer: &Answer, rigs: &[Rig]) -> String {
+    let mut text = String::from("rig,outcome,cues,places,mirrored,milliseconds\r\n");
+    for rig in rigs {
+        let sheet = &answer.sheets[rig.sheet - 1];
+        let outcome = match rig.outcome {
+            RigOutcome::Fits => "fits",
+            RigOutcome::None => "none",
+            RigOutcome::Stopped => "stopped",
+            RigOutcome::Refused => "refused",
+        };
+        let number = |number: Option<usize>| number.map_or(String::new(), |number| number.to_string());
+        let places = if rig.more { format!(">{}", number(rig.copies)) } else { number(rig.copies) };
+        let mirrored = rig.mirrored.map_or("", |fits| if fits { "fits" } else { "none" });
+        let (path, cues) = (field(&sheet.path), number(sheet.order));
+        text += &format!("{path},{outcome},{cues},{places},{mirrored},{}\r\n", rig.milliseconds);
     }
     text
 }

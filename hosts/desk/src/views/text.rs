@@ -1,6 +1,8 @@
 //! An answer in words.
 
-use crate::answer::{Answer, Class, Found, Mending, MendingState, Refusal, Role, Sheet};
+use crate::answer::{
+    Answer, Class, Found, Mending, MendingState, Misfit, Refusal, Rig, RigOutcome, Role, Settling, Sheet,
+};
 use crate::status::Status;
 use crate::words::count;
 
@@ -16,7 +18,13 @@ pub struct Manner {
 pub fn text(answer: &Answer, manner: Manner) -> String {
     match (&answer.result, answer.command) {
         (Some(Found::Mended(mendings)), _) => mendings.iter().map(|mending| mended(mending, manner)).collect(),
-        (_, "check") => answer.sheets.iter().map(|sheet| checked(sheet, manner)).collect(),
+        (result, "check") => {
+            let built = match result {
+                Some(Found::Building { cues }) => format!(", built from {}", numbers(cues)),
+                _ => String::new(),
+            };
+            answer.sheets.iter().map(|sheet| checked(sheet, &built, manner)).collect()
+        }
         _ if matches!(answer.status, Status::Failed | Status::Usage) => String::new(),
         _ => answered(answer, manner),
     }
@@ -29,12 +37,24 @@ fn answered(answer: &Answer, manner: Manner) -> String {
     }
     text += &match &answer.result {
         Some(Found::Map { images, .. }) => map(answer, images),
+        Some(Found::Maps { images, .. }) => {
+            let way = |(place, images): (usize, &Vec<u8>)| format!("Way {}:\n{}", place + 1, map(answer, images));
+            images.iter().enumerate().map(way).collect()
+        }
         Some(Found::Classes(classes)) => classes_in_words(answer, classes),
         Some(Found::Part { elements, .. }) => part(answer, elements),
         Some(Found::Positions { positions, .. }) => landings(answer, positions),
+        Some(Found::Misfit(misfit)) => misfit_in_words(answer, misfit),
+        Some(Found::Rigs(rigs)) => rigs_in_words(answer, rigs),
+        Some(Found::Settles(settlings)) => settlings_in_words(answer, settlings),
+        Some(Found::Building { cues }) => {
+            let label = |&cue: &u8| format!("  {}\n", answer.sheets[0].label(cue.into()));
+            cues.iter().map(label).collect::<String>() + &format!("For the shorter check: --cues {}\n", numbers(cues))
+        }
         _ => String::new(),
     };
-    for sheet in &answer.sheets {
+    let in_lines = matches!(answer.result, Some(Found::Rigs(_)));
+    for sheet in answer.sheets.iter().filter(|_| !in_lines) {
         text += &refusals(sheet, manner);
     }
     for path in &answer.written {
@@ -74,12 +94,13 @@ pub fn refused(path: &str, refusal: &Refusal, manner: Manner) -> String {
 }
 
 fn explained(refusal: &Refusal) -> String {
-    let first = &refusal.faults[0];
+    let (first, nothing) = (&refusal.faults[0], String::new());
     let lines = [
         ("where:   ", &first.place),
         ("there:   ", &first.there),
         ("expected:", &refusal.expected),
         ("to do:   ", &refusal.to_do),
+        ("perhaps: ", refusal.repair.as_ref().map_or(&nothing, |repair| &repair.says)),
     ];
     let told = lines.iter().filter(|(_, text)| !text.is_empty());
     let mut text: String = told.map(|(title, text)| format!("  {title}  {text}\n")).collect();
@@ -95,9 +116,27 @@ fn explained(refusal: &Refusal) -> String {
 }
 
 fn map(answer: &Answer, images: &[u8]) -> String {
-    let (source, target) = (&answer.sheets[0], &answer.sheets[1]);
-    let line = |(label, &image): (&String, &u8)| format!("  {label}  ->  {}\n", target.label(image.into()));
-    source.labels().iter().zip(images).map(line).collect()
+    let cues: Vec<u8> = (1..=u8::try_from(images.len()).expect("orders are at most 120")).collect();
+    partners(answer, &cues, images)
+}
+
+/// Cues of the show and their partners, a line each.
+fn partners(answer: &Answer, cues: &[u8], images: &[u8]) -> String {
+    let (show, rig) = (&answer.sheets[0], &answer.sheets[1]);
+    let labels: Vec<_> = cues.iter().map(|&cue| show.label(cue.into())).collect();
+    let width = labels.iter().map(String::len).max().unwrap_or(0);
+    let line = |(label, &image): (&String, &u8)| format!("  {label:width$}  ->  {}\n", rig.label(image.into()));
+    labels.iter().zip(images).map(line).collect()
+}
+
+/// Why the show does not fit, and the largest part that can be moved.
+fn misfit_in_words(answer: &Answer, misfit: &Misfit) -> String {
+    let mut text: String = misfit.says.iter().map(|sentence| format!("{sentence}\n")).collect();
+    if let Some(largest) = &misfit.largest {
+        text += "The partners of what can be moved:\n";
+        text += &partners(answer, &largest.elements, &largest.images);
+    }
+    text
 }
 
 fn classes_in_words(answer: &Answer, classes: &[Class]) -> String {
@@ -124,12 +163,71 @@ fn landings(answer: &Answer, positions: &[Vec<u8>]) -> String {
     answer.sheets[0].labels().iter().zip(positions).map(line).collect()
 }
 
+/// What came of each rig, a line each.
+fn rigs_in_words(answer: &Answer, rigs: &[Rig]) -> String {
+    let path = |rig: &Rig| &answer.sheets[rig.sheet - 1].path;
+    let width = rigs.iter().map(|rig| path(rig).chars().count()).max().unwrap_or(0);
+    let line = |rig: &Rig| {
+        let sheet = &answer.sheets[rig.sheet - 1];
+        let cues = sheet.order.map_or(String::new(), |order| format!("{}, ", count(order, "cue")));
+        format!("  {:width$}  {} ({cues}{} ms)\n", sheet.path, rig_in_words(sheet, rig), rig.milliseconds)
+    };
+    rigs.iter().map(line).collect()
+}
+
+/// What came of a rig.
+pub fn rig_in_words(sheet: &Sheet, rig: &Rig) -> String {
+    match (rig.outcome, rig.copies, &sheet.refusal) {
+        (RigOutcome::Fits, Some(number), _) => {
+            format!("fits in {}{}", if rig.more { "more than " } else { "" }, count(number, "place"))
+        }
+        (RigOutcome::Fits, None, _) => "fits; there was no time to count the places".into(),
+        (RigOutcome::None, _, _) => match rig.mirrored {
+            Some(true) => "does not fit; read column first it does".into(),
+            Some(false) => "does not fit, nor read column first".into(),
+            None => "does not fit; there was no time to read it column first".into(),
+        },
+        (RigOutcome::Stopped, _, _) => "there was no time to tell".into(),
+        (RigOutcome::Refused, _, refusal) => {
+            let fault = refusal.as_ref().map_or(String::new(), |refusal| {
+                let number = refusal.question.map_or(String::new(), |number| format!(" (question {number})"));
+                format!("{number}: {}: {}", refusal.faults[0].place, refusal.faults[0].there)
+            });
+            format!("refused{fault}")
+        }
+    }
+}
+
+/// Cues with commas between, as `--cues` takes them.
+fn numbers(cues: &[u8]) -> String {
+    cues.iter().map(u8::to_string).collect::<Vec<_>>().join(",")
+}
+
+/// What cues settle on: the cue, after how many times, in what rhythm.
+fn settlings_in_words(answer: &Answer, settlings: &[Settling]) -> String {
+    let sheet = &answer.sheets[0];
+    let labels: Vec<_> = settlings.iter().map(|settling| sheet.label(settling.cue)).collect();
+    let width = labels.iter().map(String::len).max().unwrap_or(0);
+    let line = |(label, settling): (&String, &Settling)| {
+        let (on, times) = (sheet.label(settling.settles_on), count(settling.times, "time"));
+        let how = match (settling.index, settling.period) {
+            (1, 1) => "is settled: repeating it changes nothing".into(),
+            (_, 1) => format!("settles on {on} after {times} and stays there"),
+            (index, period) => {
+                format!("settles on {on} after {times} and again every {period} times; this rhythm begins with time {index}")
+            }
+        };
+        format!("  {label:width$}  {how}\n")
+    };
+    labels.iter().zip(settlings).map(line).collect()
+}
+
 /// What a sheet is.
-fn checked(sheet: &Sheet, manner: Manner) -> String {
+fn checked(sheet: &Sheet, built: &str, manner: Manner) -> String {
     let what = match (sheet.role, sheet.order) {
         _ if sheet.refusal.is_some() => String::new(),
         (Role::Names, _) => format!("{}: a name sheet of {}.", sheet.path, count(sheet.names.len(), "cue")),
-        (_, order) => format!("{}: a linking table of {}.", sheet.path, count(order.unwrap_or(0), "cue")),
+        (_, order) => format!("{}: a linking table of {}{built}.", sheet.path, count(order.unwrap_or(0), "cue")),
     };
     let what = if what.is_empty() { what } else { painted(&what, Status::Found, manner) + "\n" };
     notes(sheet, manner) + &what + &refusals(sheet, manner)

@@ -64,10 +64,12 @@ fn what_may_have_been_meant() {
     assert_eq!(run_in(&here, &["move", "one.csv", "./one.csv"]), answer(same, 0));
     put(&here, "two.csv", "1,1,4,4\r\n1,2,3,4\r\n1,3,2,4\r\n1,4,1,4\r\n");
     let turned = "The show does not fit: there is no way to give its 4 cues partners among the rig's 2.\n\
+                  Cues 1 and 2 already have no place on this rig.\n\
                   Note: The rig's table fits in the show's: perhaps the two are the wrong way round.\n";
     assert_eq!(run_in(&here, &["move", "two.csv", "one.csv"]), answer(turned, 1));
     put(&here, "three.csv", "1,1,1\r\n2,2,2\r\n3,3,3\r\n");
-    let none = "The show does not fit: there is no way to give its 3 cues partners among the rig's 2.\n";
+    let none = "The show does not fit: there is no way to give its 3 cues partners among the rig's 2.\n\
+                Cues 1 and 2 already have no place on this rig.\n";
     assert_eq!(run_in(&here, &["move", "three.csv", "one.csv"]), answer(none, 1));
 }
 

@@ -39,7 +39,7 @@ fn every_answer_as_json() {
                     "name_sheet": {"path": "examples/named/target.names.csv", "mended": [], "refusal": null}
                 }
             ],
-            "result": {"map": {"images": [2, 3], "trials": null}},
+            "result": {"map": {"images": [2, 3], "trials": null, "mirrored": false}},
             "hints": [],
             "written": []
         })
@@ -55,7 +55,8 @@ fn every_answer_as_json() {
             "faults": [{"where": "row 1, column 2 (B1)", "cells": [[1, 2]], "there": "\"3\""}],
             "more": 0,
             "expected": "a cue of this table, 1 to 2",
-            "to_do": "correct the cell"
+            "to_do": "correct the cell",
+            "repair": null
         })
     );
     assert_eq!(refused["sheets"][1]["cells"]["rows"][0], json!(["1", "3"]));

@@ -41,3 +41,46 @@ pub fn table(random: &mut Random) -> Vec<Vec<u8>> {
     }
     table
 }
+
+/// A linking table of 2 cues to this many: the maps of a few points into themselves that some random ones make, in a random order.
+pub fn of_maps(random: &mut Random, most: usize) -> Vec<Vec<u8>> {
+    loop {
+        let points = 2 + random.below(3);
+        let mut maps: Vec<Vec<usize>> = Vec::new();
+        for _ in 0..=random.below(3) {
+            let map: Vec<usize> = (0..points).map(|_| random.below(points)).collect();
+            if !maps.contains(&map) {
+                maps.push(map);
+            }
+        }
+        let then = |one: &[usize], other: &[usize]| one.iter().map(|&point| other[point]).collect::<Vec<_>>();
+        let mut place = 0;
+        while place < maps.len() && maps.len() <= most {
+            for other in 0..=place {
+                for map in [then(&maps[place], &maps[other]), then(&maps[other], &maps[place])] {
+                    if !maps.contains(&map) {
+                        maps.push(map);
+                    }
+                }
+            }
+            place += 1;
+        }
+        if (2..=most).contains(&maps.len()) {
+            for place in (1..maps.len()).rev() {
+                maps.swap(place, random.below(place + 1));
+            }
+            let number =
+                |map: &Vec<usize>| u8::try_from(maps.iter().position(|other| other == map).expect("it is there") + 1);
+            let row = |one: &Vec<usize>| {
+                maps.iter().map(|other| number(&then(one, other)).expect("orders are small")).collect()
+            };
+            return maps.iter().map(row).collect();
+        }
+    }
+}
+
+/// The sheet of a table.
+pub fn sheet(table: &[Vec<u8>]) -> String {
+    let row = |row: &Vec<u8>| row.iter().map(u8::to_string).collect::<Vec<_>>().join(",") + "\r\n";
+    table.iter().map(row).collect()
+}

@@ -206,7 +206,8 @@ fn by_3() {
 fn by_4() {
     let there = "1·1 = 2, 2·2 = 1; 1·2 = 1, 1·1 = 2";
     let expected = "the same cue both ways: (1·1)·2 = 1·(1·2)";
-    let to_do = "one of these cells is wrong: row 1, column 1 (A1); row 2, column 2 (B2); row 1, column 2 (B1)";
+    let to_do = "one of these cells is wrong: row 1, column 1 (A1); row 2, column 2 (B2); row 1, column 2 (B1)\n  \
+                 perhaps:   not clear: each of 2 changes of one cell, in 2 of these cells, makes it a linking table";
     refused("4", "2,1\r\n1,1\r\n", 4, ["cues 1, 1, 2", there, expected, to_do]);
 }
 

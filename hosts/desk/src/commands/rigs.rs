@@ -1,0 +1,169 @@
+//! Which rigs take a show: each is read and searched by itself, on all cores.
+
+use super::classes::in_folder;
+use super::moving::Search;
+use super::{copies, Work};
+use crate::answer::{Fault, Found, Rig, RigOutcome, Role, Sheet};
+use crate::arguments::RigsArguments;
+use crate::building;
+use crate::input::{self, Source};
+use crate::patience::told_within;
+use crate::progress::Progress;
+use crate::sheet::{open, opened_by, several};
+use crate::status::{Failure, Status};
+use crate::words::{count, path_shown};
+use std::sync::atomic::{AtomicUsize, Ordering};
+use std::sync::Mutex;
+use std::thread;
+use std::time::{Duration, Instant};
+use tickdrizzle::{Copies, Table};
+
+/// How long the searches on one rig may take where no time is given.
+const PATIENCE: Duration = Duration::from_secs(10);
+
+/// What the searches on a rig tell, one after another.
+enum Told {
+    Fits(bool),
+    Copies(Copies),
+    Mirrored(bool),
+}
+
+pub fn run(arguments: &RigsArguments, work: &mut Work) -> Result<(), Failure> {
+    work.page_is_allowed()?;
+    let source = input::single(&arguments.show)?;
+    let sheet = open(&source, Role::Show, work.options.strict)?;
+    work.take(&sheet);
+    let rigs = sources(arguments, &source, work);
+    let Some(show) = sheet.table else { return Ok(()) };
+    let limit = arguments.timeout.unwrap_or(PATIENCE);
+    let line = Progress::counting("looking at rigs", rigs.len(), work.options.quiet);
+    let searched = on_all_cores(&rigs, |rig| {
+        let searched = search(&show, rig, work.options.strict, limit);
+        line.step();
+        searched
+    });
+    drop(line);
+    let mut results = Vec::new();
+    for (about, mut rig) in searched {
+        work.answer.sheets.push(about);
+        rig.sheet = work.answer.sheets.len();
+        results.push(rig);
+    }
+    let (says, status) = summary(&show, &results, limit);
+    work.say(says, status);
+    work.answer.result = Some(Found::Rigs(results));
+    Ok(())
+}
+
+/// The sheets of the rigs; of a folder all, in the order of their names, but not the show.
+fn sources(arguments: &RigsArguments, show: &Source, work: &mut Work) -> Vec<Source> {
+    let mut sources = Vec::new();
+    for path in &arguments.rigs {
+        if path.is_dir() {
+            sources.extend(in_folder(path, work));
+        } else {
+            sources.push(Source::new(path));
+        }
+    }
+    let all = sources.len();
+    sources.retain(|rig| !input::is_same(rig, show));
+    if sources.len() < all {
+        work.answer.hints.push(format!("Left out: {} (the show itself).", path_shown(&show.given)));
+    }
+    sources
+}
+
+/// Does something with each of some things, on all cores; the results in their order.
+fn on_all_cores<T: Sync, R: Send>(things: &[T], work: impl Fn(&T) -> R + Sync) -> Vec<R> {
+    let cores = thread::available_parallelism().map_or(1, usize::from).min(things.len());
+    let next = AtomicUsize::new(0);
+    let results = Mutex::new(Vec::new());
+    thread::scope(|scope| {
+        for _ in 0..cores {
+            scope.spawn(|| {
+                while let Some((place, thing)) =
+                    Some(next.fetch_add(1, Ordering::Relaxed)).and_then(|place| Some((place, things.get(place)?)))
+                {
+                    let result = work(thing);
+                    results.lock().expect("no thread has failed").push((place, result));
+                }
+            });
+        }
+    });
+    let mut results = results.into_inner().expect("no thread has failed");
+    results.sort_by_key(|(place, _)| *place);
+    results.into_iter().map(|(_, result)| result).collect()
+}
+
+/// Reads a rig and searches it: whether the show fits, then how often, or whether it fits mirrored.
+fn search(show: &Table, source: &Source, strict: bool, limit: Duration) -> (Sheet, Rig) {
+    let begun = Instant::now();
+    let (mut about, table) = match source.bytes() {
+        Ok(bytes) => {
+            let opened = opened_by(&building::load, source, &bytes, Role::Rig, strict, Vec::new());
+            (opened.about, opened.table)
+        }
+        Err(failure) => (unread(source, failure), None),
+    };
+    // A thousand tables would make the answer long.
+    (about.table, about.cells) = (None, None);
+    let mut rig =
+        Rig { sheet: 0, outcome: RigOutcome::Refused, copies: None, more: false, mirrored: None, milliseconds: 0 };
+    if let Some(table) = table {
+        rig.outcome = RigOutcome::Stopped;
+        let lent = (show.clone(), table);
+        let (told, _) = told_within(Some(limit), move |tell| searches(&lent.0, &lent.1, tell));
+        for thing in told {
+            match thing {
+                Told::Fits(fits) => rig.outcome = if fits { RigOutcome::Fits } else { RigOutcome::None },
+                Told::Copies(Copies::Number(number)) => rig.copies = Some(number),
+                Told::Copies(Copies::More) => (rig.copies, rig.more) = (Some(copies::MOST_COPIES), true),
+                Told::Mirrored(fits) => rig.mirrored = Some(fits),
+            }
+        }
+    }
+    rig.milliseconds = begun.elapsed().as_millis();
+    (about, rig)
+}
+
+fn searches(show: &Table, rig: &Table, tell: &dyn Fn(Told) -> bool) {
+    let fits = Search::plain(show, rig).finds();
+    tell(Told::Fits(fits));
+    tell(if fits { Told::Copies(show.copies(rig)) } else { Told::Mirrored(Search::mirrored(show, rig).finds()) });
+}
+
+/// A sheet that could not be read.
+fn unread(source: &Source, failure: Failure) -> Sheet {
+    let path = path_shown(&source.given);
+    let there = failure.message.strip_prefix(&format!("{path}: ")).unwrap_or(&failure.message).to_owned();
+    let fault = Fault { place: "the whole file".into(), cells: Vec::new(), there };
+    let refusal = several(vec![fault], "a file that can be read", "check that this is the right file");
+    Sheet { path, role: Role::Rig, refusal: Some(refusal), ..Sheet::default() }
+}
+
+/// How many rigs take the show. Where any does, that is found; else a search that was stopped or a refused sheet decides.
+fn summary(show: &Table, rigs: &[Rig], limit: Duration) -> (String, Status) {
+    let number = |outcome: RigOutcome| rigs.iter().filter(|rig| rig.outcome == outcome).count();
+    let [fit, refused, stopped] = [RigOutcome::Fits, RigOutcome::Refused, RigOutcome::Stopped].map(number);
+    let mirrored = rigs.iter().filter(|rig| rig.mirrored == Some(true)).count();
+    let (rigs, cues) = (count(rigs.len(), "rig"), count(show.order(), "cue"));
+    let take = if fit == 1 { "takes" } else { "take" };
+    let mut says = format!("{fit} of {rigs} {take} the show of {cues}");
+    let others = [
+        (mirrored, format!("{mirrored} would, read column first")),
+        (stopped, format!("{stopped} could not be told within {limit:?}")),
+        (refused, format!("{refused} refused")),
+    ];
+    for (number, words) in others {
+        if number > 0 {
+            says += &format!("; {words}");
+        }
+    }
+    let status = match (fit, stopped, refused) {
+        (1.., _, _) => Status::Found,
+        (0, 1.., _) => Status::Stopped,
+        (0, 0, 1..) => Status::Refused,
+        _ => Status::None,
+    };
+    (says + ".", status)
+}
