@@ -165,7 +165,7 @@ fn whole(tight: bool, limit: u32, image: [u8; 120]) -> Outcome
     }
 }
 
-// Takes one trial off those left, if there is one; where there is none, none is left afterwards.
+// Returns whether one more trial is within those left, and how many are left after it; if none is left, none is left after it either.
 fn pay(left: u32) -> Paid
     ensures answer { λ r. ⌜ cond (r .enough) (remaining (r .left) none) exhausted ≡ within left (work none 1) ⌝ }
     ensures left { λ r. ⌜ r .left ≡ left - 1 ⌝ }

@@ -1,5 +1,5 @@
--- Pairs in their order and the bytes of their marks: a pair and the one behind it, where a byte of marks begins, and that marks go by the pairs of
--- elements alone. Assumes nothing.
+-- Pairs in their order and the bytes of their marks: a pair and the one that follows it, where a byte of marks begins, and that marks depend only on the
+-- pairs of elements. Assumes nothing.
 use mathlib.Core.Path.{_≡_, refl, sym, ap, ap₂, _∙_, subst}
 use mathlib.Core.Bool.{Bool, cond}
 use mathlib.Core.List.{List, map}

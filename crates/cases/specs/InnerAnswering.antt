@@ -8,7 +8,7 @@ use Rattle.semigroups.specs.Invariants.{IndexPeriod, sameIndexPeriod, Profile, 
 use Rattle.plain.specs.InnerSaid.{refusalSaid}
 use Rattle.plain.specs.declared.Said.{Said}
 
--- 0 with the number given; or the number of the question and what is said with it.
+-- 0 with the number given; or the number of the question and the values that it carries.
 abbrev pub answerSaid : Answer ℕ → Said
 answerSaid (gives k) = record { number = 0; first = k; second = 0; third = 0 }
 answerSaid (refused r) = refusalSaid r

@@ -25,7 +25,7 @@ mat5Cells = 1 ∷ 1 ∷ 1 ∷ 1 ∷ 1 ∷ 1 ∷ 2 ∷ 3 ∷ 2 ∷ 3 ∷ 1 ∷ 1 
 abbrev pub embeddedCall : ℕ → Called Sought
 embeddedCall size = call embeddings first (lend swapCells 2 twoCells 4 (0 ∷ 0 ∷ []) (take size (replicate 3 255)))
 
--- What is said, the map buffer, and the scratch buffer with the bytes behind it.
+-- The tally after the comparison of the answer, the map buffer, and the scratch buffer with the bytes after it.
 abbrev pub embeddedTally : ℕ → ℕ → List ℕ → List ℕ → Tally → Tally
 embeddedTally size said bytes scratch t =
     let c = embeddedCall size in

@@ -33,7 +33,7 @@ use plain::failed;
 use search::Kind;
 use tables::Numbered;
 
-// Order 120 is accepted, 121 is refused.
+// Order 120 is accepted, 121 is refused. Returns the tally.
 pub fn orders() -> Tally
     ensures answer { λ r. ⌜ r ≡ agreed 3 (counted empty (sameSaid (saidOf (tableRefusal 120 (replicate 14400 1))) (saidOf none))) ⌝ }
 {
@@ -43,14 +43,14 @@ pub fn orders() -> Tally
     judged(&more, 121, failed(1, 0), accepted)
 }
 
-// Whether two buffers hold the same bytes.
+// Returns whether two buffers hold the same bytes.
 fn same_bytes(a: &[u8], b: &[u8]) -> bool
     ensures answer { λ r. ⌜ r ≡ sameList (now (a .entry)) (now (b .entry)) ⌝ }
 {
     check::same(a, b)
 }
 
-// The question that fails and what is said with it, or 0 with the number.
+// Returns the answer as numbers: the question that fails and what it carries, or 0 with the number.
 fn numbered_said(answer: Numbered) -> Said
     ensures answer { λ r. ⌜ r ≡ answerSaid (numberedSays answer) ⌝ }
 {
@@ -62,7 +62,7 @@ fn numbered_said(answer: Numbered) -> Said
 
 // ---- degrees
 
-// A degree and a buffer of 20 cells: what is said, and the buffer afterwards.
+// Asks for a table of degree d with a buffer of 20 cells, and compares the answer and the buffer after the call. Returns the tally.
 fn degree(d: usize, said: Said, after: [u8; 20], tally: Tally) -> Tally
     ensures answer { λ r. ⌜ r ≡ counted (counted tally (sameSaid (answerSaid (transformationSays d 20)) said)) (sameList (transformationCellsAfter d (replicate 20 7)) after) ⌝ }
 {
@@ -72,7 +72,7 @@ fn degree(d: usize, said: Said, after: [u8; 20], tally: Tally) -> Tally
     counted(answered, same_bytes(&cells, &after))
 }
 
-// Degrees 1 and 2 are made; degree 3 has more cells than the buffer, and degree 4 is refused.
+// Degrees 1 and 2 are made; degree 3 has more cells than the buffer, and degree 4 is refused. Returns the tally.
 pub fn degrees() -> Tally
     ensures answer { λ r. ⌜ r ≡ agreed 8 empty ⌝ }
 {
@@ -85,7 +85,7 @@ pub fn degrees() -> Tally
     degree(4, failed(8, 0), left, three)
 }
 
-// The table of all transformations of three points has order 27, and holds mat5.
+// The table of all transformations of three points has order 27, and mat5 embeds in it. Returns the tally.
 pub fn large_target() -> Tally
     ensures answer { λ r. ⌜ r ≡ agreed (suc (walkCalls false mat5Cells 5 (transformationCells 3) 27 (replicate 5 0))) empty ⌝ }
 {
@@ -97,7 +97,8 @@ pub fn large_target() -> Tally
 
 // ---- buffers and fields
 
-// The first embedding of swap in two with a scratch buffer of `size` bytes: what is said, and both buffers afterwards.
+// Asks for the first embedding of swap in two with a scratch buffer of `size` bytes, and compares the answer and both buffers after the call. Returns the
+// tally.
 fn embedded(size: usize, said: usize, map: [u8; 2], scratch: [u8; 3], tally: Tally) -> Tally
     requires { ⌜ size ≤ 3 ⌝ }
     ensures answer { λ r. ⌜ r ≡ embeddedTally size said map scratch tally ⌝ }
@@ -118,7 +119,7 @@ fn embedded(size: usize, said: usize, map: [u8; 2], scratch: [u8; 3], tally: Tal
     counted(mapped, same_bytes(&marks, &scratch))
 }
 
-// One byte of scratch is enough for 2 x 4 pairs, and one byte less is not: nothing is changed then.
+// One byte of scratch is enough for 2 x 4 pairs, and one byte less is not: nothing is changed then. Returns the tally.
 pub fn scratch() -> Tally
     ensures answer { λ r. ⌜ r ≡ agreed 6 empty ⌝ }
 {
@@ -126,7 +127,7 @@ pub fn scratch() -> Tally
     embedded(1, 100, [2, 3], [75, 255, 255], short)
 }
 
-// A text of one field: what is said, and the cell that is written, if one is.
+// Loads a text of one field, and compares the answer and the cell that is written, if one is. Returns the tally.
 fn field(text: &[u8], said: Said, cell: u8, tally: Tally) -> Tally
     ensures answer { λ r. ⌜ r ≡ counted (counted tally (sameSaid (answerSaid (loadAnswer (now (text .entry)) (7 ∷ 7 ∷ []))) said)) (sameList (loadedCells (now (text .entry)) (7 ∷ 7 ∷ [])) (cell ∷ 7 ∷ [])) ⌝ }
 {
@@ -136,7 +137,7 @@ fn field(text: &[u8], said: Said, cell: u8, tally: Tally) -> Tally
     counted(answered, same_bytes(&cells, &[cell, 7]))
 }
 
-// A field of 120 is accepted; 121 gives 25, 0 and 0001 give 24.
+// A field of 120 is accepted; 121 gives 25, 0 and 0001 give 24. Returns the tally.
 pub fn fields() -> Tally
     ensures answer { λ r. ⌜ r ≡ agreed 8 empty ⌝ }
 {

@@ -49,7 +49,7 @@ pub const TWO: [u8; 16] = [1, 1, 4, 4, 1, 2, 3, 4, 1, 3, 2, 4, 1, 4, 1, 4];
 
 // ---- tables
 
-// Cases 1 to 3.
+// Compares cases 1 to 3 and returns the tally.
 pub fn tables() -> Tally
     ensures answer { λ r. ⌜ r ≡ agreed 6 empty ⌝ }
 {
@@ -66,7 +66,7 @@ pub fn tables() -> Tally
 
 // ---- elements
 
-// Whether the index, the period and the idempotent power of an element are these.
+// Returns whether the index, the period and the idempotent power of an element are these.
 fn same_powers(a: IndexPeriodAnswer, b: IndexPeriod) -> bool
     ensures answer { λ r. ⌜ r ≡ sameGivenPowers (indexPeriodSays a) (indexPeriodValue b) ⌝ }
 {
@@ -76,7 +76,7 @@ fn same_powers(a: IndexPeriodAnswer, b: IndexPeriod) -> bool
     ((v.index == b.index) & (v.period == b.period)) & (v.idempotent == b.idempotent)
 }
 
-// Whether the profile of an element is this one, its idempotent power included.
+// Returns whether the profile of an element is this one, its idempotent power included.
 fn same_profile(a: ProfileAnswer, b: ElementProfile) -> bool
     ensures answer { λ r. ⌜ r ≡ sameGivenProfile (profileSays a) (profileValue b) ⌝ }
 {
@@ -90,7 +90,7 @@ fn same_profile(a: ProfileAnswer, b: ElementProfile) -> bool
         & (v.powers.idempotent == b.powers.idempotent)
 }
 
-// Cases 4 and 5.
+// Compares cases 4 and 5 and returns the tally.
 pub fn elements() -> Tally
     ensures answer { λ r. ⌜ r ≡ agreed 2 empty ⌝ }
 {
@@ -122,7 +122,7 @@ pub fn elements() -> Tally
 
 // ---- maps
 
-// Cases 6 to 13.
+// Compares cases 6 to 13 and returns the tally.
 pub fn maps() -> Tally
     ensures answer { λ r. ⌜ r ≡ agreed 30 empty ⌝ }
 {

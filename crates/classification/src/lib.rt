@@ -76,7 +76,7 @@ fn isomorphic(source: &[u8], m: usize, target: &[u8], n: usize) -> bool
     )
 }
 
-// Returns whether a file with these bytes is accepted and holds a table that is isomorphic to this one of order n. A table of another order is not searched.
+// Returns whether a file with these bytes is accepted and holds a table that is isomorphic to this one of order n. A table of another order is not compared.
 fn holds_like(text: &[u8], n: usize, cells: &[u8]) -> bool
     requires { ⌜ Accepted n (now cells) ⌝ }
     ensures answer { λ r. ⌜ r ≡ classes.holdsLike (now (text .entry)) n (now (cells .entry)) ⌝ }
@@ -337,7 +337,7 @@ impl Classifier {
         self.noted(n, i)
     }
 
-    // Loads a new file into `cells` and returns the classifier that compares it, or that notes its refusal.
+    // Loads a new file into `cells`. Returns the classifier that compares its table, or that has noted its refusal.
     fn begun(self, text: &[u8], cells: &mut [u8]) -> Classifier
         requires { ⌜ (self .count < 50) × (length (now cells) ≡ room) ⌝ }
         ensures answer { λ r. ⌜ progressOf r (now (cells .exit)) ≡ progress.begun (notesIn self) (now (text .entry)) (fileRefusal (now (text .entry)) room) ⌝ }

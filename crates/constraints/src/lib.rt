@@ -24,7 +24,7 @@ fn allowed(constraint: u8, y: usize) -> bool
     constraint as usize == y
 }
 
-// Notes at this place that the value y is required, too.
+// Notes that the value y is also required at this place.
 fn note(constraints: &mut [u8; PLACES], place: usize, y: usize)
     requires { ⌜ (place ≤ 120) × (y ≤ 120) ⌝ }
     ensures constraints { λ _. ⌜ now (constraints .exit) ≡ askedAt (now (constraints .entry)) place y ⌝ }

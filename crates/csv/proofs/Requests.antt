@@ -1,5 +1,5 @@
--- RULES 19.2 and 19.6 hold. Shown here: what becomes of a text that only its last line break makes too long, which numbers never come, and the
--- field behind a last comma. Assumes nothing.
+-- RULES 19.2 and 19.6 hold. Shown here: what becomes of a text that only its last line break makes too long, which numbers never come, and the field after a
+-- last comma. Assumes nothing.
 use mathlib.Core.Path.{_≡_, refl, sym, ap, _∙_}
 use mathlib.Core.Bool.{Bool, true, false, cond, and-false}
 use mathlib.Core.List.{List, [], _∷_, _++_, map, flatten, append-assoc, append-nil}

@@ -94,6 +94,7 @@ pub enum GeneratorsFault {
 }
 
 impl GeneratorsFault {
+    // Returns its number and values; it names no side.
     pub fn refusal(self) -> Refusal
         ensures answer { λ r. ⌜ r ≡ refusalNumbers (generatorsFaultRefusal self) ⌝ }
     {

@@ -8,6 +8,7 @@ use plain::failed;
 use tables::No;
 use tables::Verdict;
 
+// Returns a "no" as numbers.
 pub fn said_of_no(no: No) -> Said
     ensures answer { λ r. ⌜ r ≡ refusalSaid (noRefusal no) ⌝ }
 {
@@ -20,6 +21,7 @@ pub fn said_of_no(no: No) -> Said
     }
 }
 
+// Returns a verdict as numbers: 0 for an accepted table.
 pub fn said_of(verdict: Verdict) -> Said
     ensures answer { λ r. ⌜ r ≡ saidOf (verdictRefusal verdict) ⌝ }
 {
@@ -29,6 +31,7 @@ pub fn said_of(verdict: Verdict) -> Said
     }
 }
 
+// Returns whether the number and all three values are equal.
 pub fn same_said(a: Said, b: Said) -> bool
     ensures answer { λ r. ⌜ r ≡ sameSaid a b ⌝ }
 {

@@ -12,6 +12,7 @@ pub struct Tally {
     pub differing: u64,
 }
 
+// Returns the tally before anything is compared.
 pub fn start() -> Tally
     ensures answer { λ r. ⌜ r ≡ empty ⌝ }
 {

@@ -1,4 +1,4 @@
--- Writing the pieces of a line, one behind the other. Assumes nothing.
+-- Writing the pieces of a line, one after the other. Assumes nothing.
 use mathlib.Core.Path.{_≡_, ap, _∙_}
 use mathlib.Core.List.{List, [], _∷_, _++_, flatMap, append-assoc, append-nil}
 use Prim.Native.Nat.{ℕ, suc, _+_, _-_, _≤_, _<_}

@@ -1,4 +1,4 @@
--- The steps of one call of the search by rows: what is left at x is what is found behind x, or what is left at x + 1. Assumes nothing.
+-- The steps of one call of the search with rows: what is left at x is what is found after x is placed, or what is left at x + 1. Assumes nothing.
 use mathlib.Core.Path.{_≡_, refl, sym, ap, ap₂, _∙_, subst}
 use mathlib.Core.Bool.{Bool, true, false, _&&_, not, cond}
 use mathlib.Core.Option.{Option, none, some}

@@ -40,6 +40,6 @@ recueOutput source target = rowsText (recueRecords source target)
 
 -- ---- what is claimed
 
--- One byte more than a text may have is read of each file; no later byte makes a difference.
+-- Only one byte more than a text may have is read of each file: no later byte makes a difference.
 abbrev pub FirstBytesDecide : Type 0
 FirstBytesDecide = (source target : List ℕ) → recueOutput (take 57721 source) (take 57721 target) ≡ recueOutput source target

@@ -47,7 +47,7 @@ module _ (m : ℕ) (s : Product) where
 unfoldable pub position : ℕ → List ℕ → ℕ → ℕ → ℕ
 position d f i x = at (transformation d (at f i)) x
 
--- For each of m elements in turn its d landing positions.
+-- The d landing positions of each of m elements in turn.
 unfoldable pub landings : ℕ → ℕ → List ℕ → List ℕ
 landings m d f = grid m d (position d f)
 
@@ -58,7 +58,7 @@ fitPositions m (some x) = landings m (x .degree) (x .embedding)
 
 -- ---- the questions
 
--- About a table and the length of a position buffer: the table's four; then 80, has the buffer at least m × 3 bytes, whatever the degree?
+-- The questions about a table and the length of a position buffer: the table's four; then 80, has the buffer at least m × 3 bytes, whatever the degree?
 abbrev pub degreeQuestions : ℕ → List ℕ → ℕ → List Question
 degreeQuestions m cells size = tableQuestions m cells ++ ask 80 (leb (m * 3) size) ∷ []
 

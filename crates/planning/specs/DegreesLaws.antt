@@ -16,7 +16,7 @@ use Rattle.planning.specs.Degrees.{degreeProduct, leastDegree, Fit, leas
 
 -- ---- the questions
 
--- What passes them: an accepted table, and a buffer with room for three positions of each element.
+-- What passes the questions: an accepted table, and a buffer with room for three positions of each element.
 pub record DegreePasses (m : ℕ) (cells : List ℕ) (size : ℕ) : Type 0 where
   pub table : Accepted m cells
   pub room : m * 3 ≤ size

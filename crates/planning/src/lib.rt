@@ -1,6 +1,6 @@
-// The fewest rest positions of a table: the least degree from 1 to 3 whose table of all transformations holds an embedding, and the landing positions of
-// each element under the first one. The tables come from `transformations` and the embeddings from `search`, by their stated answers alone. Anything may
-// be handed over; the first "no" is the answer, and the buffer then keeps its bytes.
+// The fewest rest positions of a table: the least degree from 1 to 3 whose table of all transformations holds an embedding, and the landing positions of each
+// element under the first one. The tables come from `transformations` and the embeddings from `search`; only their contracts are used. Table and buffer may
+// have any content; the first "no" is the answer, and the buffer then keeps its bytes.
 ghost use mathlib.Core.Path.{_≡_};
 ghost use mathlib.Core.Bool.{cond};
 ghost use mathlib.Core.Option.{none, some};
@@ -21,7 +21,7 @@ use tables::Verdict;
 
 // ---- landing positions
 
-// Where transformation number k of `degree` points takes point x. The numbers less one, in base `degree`, have the points' images less one as digits.
+// Returns where transformation number k of `degree` points takes point x. The digits of k - 1 in base `degree` are the images of the points, each less one.
 fn landing(degree: usize, k: usize, x: usize) -> usize
     requires { ⌜ Element 3 degree ⌝ ∗ ⌜ Element (transformationOrder degree) k ⌝ ∗ ⌜ Element degree x ⌝ }
     ensures answer { λ r. ⌜ r ≡ at (transformation degree k) x ⌝ }
@@ -35,7 +35,7 @@ fn landing(degree: usize, k: usize, x: usize) -> usize
     rest % degree + 1
 }
 
-// Writes for each of m elements in turn the landing positions of its image.
+// Writes the landing positions of the image of each of m elements in turn.
 fn write_positions(image: &[u8], m: usize, degree: usize, positions: &mut [u8])
     requires { ⌜ m ≤ 120 ⌝ ∗ ⌜ Element 3 degree ⌝ ∗ ⌜ IsList m (transformationOrder degree) (now image) ⌝ ∗ ⌜ m * 3 ≤ length (now positions) ⌝ }
     ensures positions { λ _. ⌜ now (positions .exit) ≡ overwritten (landings m degree (now (image .entry))) (now (positions .entry)) ⌝ }
@@ -56,8 +56,8 @@ fn write_positions(image: &[u8], m: usize, degree: usize, positions: &mut [u8])
 
 // ---- the least degree
 
-// Whether the table of all transformations of `degree` points holds an embedding; the first one is left in `image`, which keeps its bytes if there is
-// none. The tables are accepted and the buffers have the right length, so no question is asked.
+// Returns whether the table of all transformations of `degree` points holds an embedding. The first one is written to `image`, which keeps its bytes if there
+// is none. The tables are accepted and the buffers have the right length, so no question is asked.
 fn fits(cells: &[u8], m: usize, degree: usize, image: &mut [u8]) -> bool
     requires { ⌜ Accepted m (now cells) ⌝ ∗ ⌜ m ≤ 27 ⌝ ∗ ⌜ Element 3 degree ⌝ ∗ ⌜ length (now image) ≡ m ⌝ }
     ensures first { λ r. ⌜ cond r (some (now (image .exit))) none ≡ firstAt m (product m (now (cells .entry))) degree ⌝ }
@@ -83,14 +83,15 @@ fn fits(cells: &[u8], m: usize, degree: usize, image: &mut [u8]) -> bool
 }
 
 pub enum DegreeAnswer {
-    // The positions are written: the degree.
+    // The degree; its positions are written.
     Degree(usize),
     // None of the degrees 1 to 3.
     Nothing,
     Refused(No),
 }
 
-// Tries the degrees from 1 upward, leaves the first embedding of the first that fits in `image` and writes its positions; where none fits, no byte changes.
+// Tries the degrees from 1 upward. At the first that fits it writes the first embedding to `image` and its positions to `positions`, and returns the degree;
+// if none fits, no byte changes.
 fn place(cells: &[u8], m: usize, image: &mut [u8], positions: &mut [u8]) -> DegreeAnswer
     requires { ⌜ Accepted m (now cells) ⌝ ∗ ⌜ m ≤ 27 ⌝ ∗ ⌜ length (now image) ≡ m ⌝ ∗ ⌜ m * 3 ≤ length (now positions) ⌝ }
     ensures answer { λ r. ⌜ degreeAnswerSays r ≡ gives (leastDegree m (product m (now (cells .entry)))) ⌝ }
@@ -108,8 +109,8 @@ fn place(cells: &[u8], m: usize, image: &mut [u8], positions: &mut [u8]) -> Degr
     DegreeAnswer::Nothing
 }
 
-// The least degree from 1 to 3 whose table of all transformations holds an embedding of the table; or none of these; or the earliest question that fails.
-// The landing positions of each element in turn under the first embedding are written to the start of `positions`.
+// Answers the least degree from 1 to 3 whose table of all transformations holds an embedding of the table; or none of these; or the earliest question that
+// fails. The landing positions of each element in turn under the first embedding are written to the start of `positions`.
 pub fn least_degree(cells: &[u8], m: usize, positions: &mut [u8]) -> DegreeAnswer
     ensures answer { λ r. ⌜ degreeAnswerSays r ≡ degreeSays m (now (cells .entry)) (length (now (positions .entry))) ⌝ }
     ensures positions { λ _. ⌜ now (positions .exit) ≡ positionsAfter m (now (cells .entry)) (now (positions .entry)) ⌝ }

@@ -118,7 +118,7 @@ fn find_marked(
     true
 }
 
-// Searches the marks in scratch as `find_marked` does, within a limit of trials.
+// Searches the marks in scratch as `find_marked` does, within a limit of trials, and writes the map to `map`. Returns what the search comes to.
 fn find_marked_within(
     next: bool,
     limit: u32,
@@ -184,7 +184,7 @@ fn mark(onto: bool, source: &[u8], m: usize, target: &[u8], n: usize, scratch: &
     }
 }
 
-// Searches for embeddings, or with `onto` for isomorphisms.
+// Marks the candidates in scratch and searches for embeddings, or with `onto` for isomorphisms. Returns what the search comes to.
 fn search_straight(
     onto: bool,
     next: bool,
@@ -223,7 +223,7 @@ fn search_straight(
     }
 }
 
-// Searches for reversed isomorphisms. The target with rows and columns exchanged is written to `room`.
+// Searches for reversed isomorphisms and returns what the search comes to. The target with rows and columns exchanged is written to `room`.
 fn search_turned(
     next: bool,
     limit: Limit,
@@ -246,7 +246,8 @@ fn search_turned(
     search_straight(true, next, limit, source, m, &room[..size], n, map, scratch)
 }
 
-// Searches for reversed isomorphisms. Small tables take a small array, because clearing the large one would take longer than the search.
+// Searches for reversed isomorphisms and returns what the search comes to. Small tables take a small array, because clearing the large one would take longer
+// than the search.
 fn search_reversed(
     next: bool,
     limit: Limit,
@@ -269,7 +270,7 @@ fn search_reversed(
     search_turned(next, limit, source, m, target, n, map, scratch, &mut all)
 }
 
-// Searches for maps of the kind.
+// Searches for maps of the kind and returns what the search comes to.
 fn search_kind(
     kind: Kind,
     next: bool,
@@ -339,7 +340,7 @@ enum Questions {
     Failed(SearchFault),
 }
 
-// Asks the questions about the two tables and about the lengths of the two buffers.
+// Asks the questions about the two tables and about the lengths of the two buffers. Returns the first that fails.
 fn ask(source: &[u8], m: usize, target: &[u8], n: usize, images: usize, marks: usize) -> Questions
     ensures answer { λ r. ⌜ questionsRefusal r ≡ searchRefusal m (now (source .entry)) n (now (target .entry)) images marks ⌝ }
 {
@@ -356,7 +357,8 @@ fn ask(source: &[u8], m: usize, target: &[u8], n: usize, images: usize, marks: u
     Questions::Passed
 }
 
-// Asks the questions, then searches for the first map, or with `next` for the next one.
+// Asks the questions, then searches for the first map, or with `next` for the next one, and writes it to `map`. Returns found, or nothing, or the earliest
+// question that fails.
 pub fn search(
     kind: Kind,
     next: bool,
@@ -495,7 +497,7 @@ fn find_among(
     }
 }
 
-// Asks the questions of a search, then the one about the length of the pairs.
+// Asks the questions of a search, then the one about the length of the pairs. Returns the first that fails.
 fn ask_among(
     source: &[u8],
     m: usize,
@@ -517,7 +519,8 @@ fn ask_among(
     Questions::Passed
 }
 
-// Asks the questions, then searches for the first allowed embedding, or with `next` for the next one.
+// Asks the questions, then searches for the first allowed embedding, or with `next` for the next one, and writes it to `map`. Returns found, or nothing, or
+// the earliest question that fails.
 fn search_among(
     next: bool,
     source: &[u8],

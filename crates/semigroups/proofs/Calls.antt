@@ -1,4 +1,4 @@
--- What a call says and leaves behind its questions, from its refusal. Assumes nothing.
+-- What a call says and leaves once its questions are asked, from its refusal. Assumes nothing.
 use mathlib.Core.Path.{_≡_, refl, sym, ap}
 use mathlib.Core.Logic.{_⊎_, inl, inr, _↔_}
 use mathlib.Core.List.{List}

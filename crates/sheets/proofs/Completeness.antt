@@ -1,6 +1,4 @@
--- A text that passes 40 is accepted. The idea: behind a field the reading stands in one of three states that no later
--- byte tells apart.
--- Assumes nothing.
+-- A text that passes 40 is accepted. The idea: after a field the reading stands in one of three states that no later byte tells apart. Assumes nothing.
 use mathlib.Core.Path.{_≡_, refl, ap, sym, subst, _∙_}
 use mathlib.Core.Bool.{Bool, true, false, cond}
 use mathlib.Core.List.{List, [], _∷_, _++_, flatMap}

@@ -1,5 +1,5 @@
--- Reading record by record a text that passes 40: what is left to read decides. The idea: behind each record stands nothing, or a sheet again.
--- Assumes nothing.
+-- Reading record by record a text that passes 40: what is left to read decides. The idea: after each record there is nothing, or a sheet again. Assumes
+-- nothing.
 use mathlib.Core.Path.{_≡_, refl, ap, sym, subst, _∙_}
 use mathlib.Core.Bool.{Bool, true, false, cond, true≢false}
 use mathlib.Core.List.{List, [], _∷_, _++_, map, flatten, append-assoc}

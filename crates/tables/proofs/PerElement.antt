@@ -1,4 +1,4 @@
--- Arrays that hold a value for each element and zeros behind: filled place by place, and raised by one at a place. Assumes nothing.
+-- Arrays that hold a value for each element, followed by zeros: they are filled place by place, and raised by one at a place. Assumes nothing.
 use mathlib.Core.Path.{_≡_, refl, sym, ap, ap₂, _∙_}
 use mathlib.Core.Logic.{⊎-elim}
 use mathlib.Core.List.{List, [], _∷_, _++_, map, append-assoc}

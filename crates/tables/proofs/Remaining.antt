@@ -1,5 +1,5 @@
--- What is left of a search through all lists of some entries from 1 to n, tried entry by entry as nested loops do: at the next entry x behind the
--- beginning p, with d entries after it, and then `rest`. A loop's invariant says that the answer equals what is left. Assumes nothing.
+-- What is left of a search through all lists of some entries from 1 to n, tried entry by entry as nested loops do: at the next entry x after the beginning p,
+-- with d entries after it, and then `rest`. A loop's invariant says that the answer equals what is left. Assumes nothing.
 use mathlib.Core.Path.{_≡_, refl, sym, ap, _∙_}
 use mathlib.Core.Bool.{Bool, true, false, cond}
 use mathlib.Core.List.{List, [], _∷_, _++_}

@@ -72,6 +72,7 @@ pub enum Place {
 // ---- refusals as numbers
 
 impl Side {
+    // Returns the side as a number: 1 for the source, 2 for the target.
     pub fn number(self) -> usize
         ensures answer { λ r. ⌜ r ≡ sideNumber self ⌝ }
     {
@@ -223,7 +224,8 @@ fn associative(cells: &[u8], n: usize) -> Verdict
     verdict
 }
 
-// Asks question 4: does (i·j)·k = i·(j·k) hold for every triple? Where few generators show that it does, not every triple is looked at.
+// Asks question 4: does (i·j)·k = i·(j·k) hold for every triple? Returns the first triple that fails, if one does. Where few generators show that the table
+// is associative, not every triple is looked at.
 fn associativity(cells: &[u8], n: usize) -> Verdict
     requires { ⌜ Filled n (now cells) ⌝ }
     ensures answer { λ r. ⌜ verdictRefusal r ≡ Option·map (λ l. no 4 l) (badTriple n (product n (now (cells .entry)))) ⌝ }

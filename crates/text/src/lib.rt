@@ -30,7 +30,7 @@ enum Judged {
     Failed(No),
 }
 
-// Asks question 21: is every byte a digit, a comma, or part of a CR LF pair?
+// Asks question 21: is every byte a digit, a comma, or part of a CR LF pair? Returns whether it passes, or the first byte that fails.
 fn judge_bytes(text: &[u8]) -> Judged
     ensures answer { λ r. ⌜ judgedRefusal r ≡ bytesRefusal (now (text .entry)) ⌝ }
 {
@@ -96,7 +96,7 @@ fn read_number(text: &[u8], at: usize, end: usize) -> usize
     v
 }
 
-// Asks questions 24, 23 and 25 about the field of digits from `at` to `end`. An empty field passes 24.
+// Asks questions 24, 23 and 25 about the field of digits from `at` to `end`. Returns the first that fails. An empty field passes 24.
 fn judge_field(text: &[u8], at: usize, end: usize) -> Judged
     requires inside { ⌜ at ≤ length (now text) ⌝ }
     requires whole { ⌜ end ≡ fieldEnd (now text) at ⌝ }
@@ -173,7 +173,7 @@ fn columns(text: &[u8]) -> usize
     n
 }
 
-// Asks questions 24, 23 and 25 about each field; then, if they pass, 26: are there n records, each with n fields?
+// Asks questions 24, 23 and 25 about each field; then, if they pass, 26: are there n records, each with n fields? Returns the first that fails.
 fn judge_fields(text: &[u8], n: usize) -> Judged
     requires some { ⌜ 1 ≤ length (now text) ⌝ }
     requires bytes { ⌜ bytesRefusal (now text) ≡ none ⌝ }

@@ -762,18 +762,21 @@ const PRODUCTS: [u8; 729] = [
     27,
 ];
 
+// Returns the cells of the table of degree 1.
 pub fn degree_1() -> [u8; 1]
     ensures composed { λ r. ⌜ r ≡ transformationCells 1 ⌝ }
 {
     [1]
 }
 
+// Returns the cells of the table of degree 2.
 pub fn degree_2() -> [u8; 16]
     ensures composed { λ r. ⌜ r ≡ transformationCells 2 ⌝ }
 {
     [1, 1, 4, 4, 1, 2, 3, 4, 1, 3, 2, 4, 1, 4, 1, 4]
 }
 
+// Returns the cells of the table of degree 3.
 pub fn degree_3() -> [u8; 729]
     ensures composed { λ r. ⌜ r ≡ transformationCells 3 ⌝ }
 {

@@ -1,4 +1,4 @@
--- `index_period_keys` meets its contract: two parts, one behind the other. Assumes nothing.
+-- `index_period_keys` meets its contract: two parts are appended, one after the other. Assumes nothing.
 use Prim.Native.Nat.{ℕ, _+_, _*_}
 use native.Mathlib.Omega.{arith}
 use borrow.Author.Needs.{needs}

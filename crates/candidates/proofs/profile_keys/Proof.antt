@@ -1,4 +1,4 @@
--- `profile_keys` meets its contract: the counts behind the key of the index-period, one after the other. Assumes nothing.
+-- `profile_keys` meets its contract: the counts are appended to the key of the index-period, one after the other. Assumes nothing.
 use Prim.Native.Nat.{ℕ}
 use borrow.Author.Needs.{needs}
 use denote.Ref.{now}

@@ -1,4 +1,4 @@
--- `put_fields` writes the word and the two numbers, each number behind a comma. Assumes nothing.
+-- `put_fields` writes the word and the two numbers, each number after a comma. Assumes nothing.
 use native.Mathlib.Omega.{arith}
 use denote.Ref.{now}
 use Rattle.classification.proofs.Text.{fields-length, fields-written}

@@ -1,5 +1,4 @@
--- `after_field` takes the step behind a field.
--- Assumes nothing.
+-- `after_field` takes the step after a field. Assumes nothing.
 use borrow.Author.Needs.{needs}
 use Rattle.sheets.proofs.Steps.{number-comma, number-other, name-cr, name-other}
 use Rattle.names.proofs.after_field.Statement.{statement}

@@ -1,5 +1,4 @@
--- `bare_step` takes the step behind a byte of a field with no quote marks.
--- Assumes nothing.
+-- `bare_step` takes the step after a byte of a field with no quote marks. Assumes nothing.
 use mathlib.Core.Path.{sym, _∙_}
 use borrow.Author.Needs.{needs}
 use Rattle.sheets.proofs.Steps.{bare-data, bare-other}

@@ -1,5 +1,4 @@
--- `cr_step` takes the step behind CR.
--- Assumes nothing.
+-- `cr_step` takes the step after CR. Assumes nothing.
 use Rattle.sheets.proofs.Steps.{cr-lf, cr-other}
 use Rattle.names.proofs.cr_step.Statement.{statement}
 use Rattle.names.proofs.cr_step.Tie as tie

@@ -1,5 +1,5 @@
--- `read_quoted` reads a field behind its opening quote mark. The loop's invariant: the bytes gathered, and those that are left of the field, are its value.
--- Assumes nothing.
+-- `read_quoted` reads a field from after its opening quote mark. The loop's invariant: the bytes gathered, and those that are left of the field, are its
+-- value. Assumes nothing.
 use Prim.Native.Nat.{_-_}
 use native.Mathlib.Omega.{arith}
 use lib.ListN.{length}

@@ -1,5 +1,4 @@
--- `shut_step` takes the step behind a quote mark that closes a field or is the first of two.
--- Assumes nothing.
+-- `shut_step` takes the step after a quote mark that closes a field or is the first of two. Assumes nothing.
 use mathlib.Core.Path.{_∙_}
 use borrow.Author.Needs.{needs}
 use Rattle.sheets.proofs.Steps.{shut-quote, shut-other}

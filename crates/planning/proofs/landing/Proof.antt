@@ -1,4 +1,4 @@
--- `landing` meets its contract. The invariant: the points from the last down to the one behind `point` are dropped from the number. Assumes nothing.
+-- `landing` meets its contract. The invariant: the points from the last down to the one after `point` are dropped from the number. Assumes nothing.
 use Prim.Native.Nat.{_-_, _<_}
 use native.Mathlib.Nat.{mod-lt}
 use native.Mathlib.Omega.{arith}

@@ -1,4 +1,4 @@
--- `search` meets its contract: a failed question changes no byte; behind the questions stands the map asked for. Assumes nothing.
+-- `search` meets its contract: a failed question changes no byte; once every question has passed, the call finds the map asked for. Assumes nothing.
 use mathlib.Core.Path.{_≡_, sym, ap, _∙_}
 use mathlib.Core.Option.{none}
 use Rattle.search.specs.Answers.{kindOf, questionsRefusal}

@@ -1,5 +1,4 @@
--- `digits_end` answers the place behind the digits. The loop's invariant: the digits from `at` on end where those from i on end.
--- Assumes nothing.
+-- `digits_end` returns the place after the digits. The loop's invariant: the digits from `at` on end where those from i on end. Assumes nothing.
 use mathlib.Core.Path.{_≡_, ap}
 use Prim.Native.Nat.{_+_, _-_, _≤_}
 use native.Mathlib.Omega.{arith}

@@ -1,5 +1,4 @@
--- `next_field` answers the field at a place: the text ends behind it, or a comma stands there, or a line break.
--- Assumes nothing.
+-- `next_field` returns the field at a place: the text ends after it, or a comma stands there, or a line break. Assumes nothing.
 use mathlib.Core.Path.{_≡_}
 use mathlib.Core.Bool.{Bool}
 use mathlib.Core.List.{List}

@@ -1,5 +1,5 @@
--- `put_row` writes a row: its first field, then a comma and a field for each column behind it, then the line break. The loop's invariant: the
--- fields before column j are written. Assumes nothing.
+-- `put_row` writes a row: its first field, then a comma and a field for each further column, then the line break. The loop's invariant: the fields before
+-- column j are written. Assumes nothing.
 use mathlib.Core.Path.{_∙_}
 use mathlib.Core.List.{List}
 use Prim.Native.Nat.{ℕ, _+_, _-_, _≤_}

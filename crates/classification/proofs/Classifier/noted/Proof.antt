@@ -1,4 +1,4 @@
--- `noted` writes the order and the number behind the others. Assumes nothing.
+-- `noted` writes the order and the number after the others. Assumes nothing.
 use mathlib.Core.Path.{_≡_, ap}
 use mathlib.Core.List.{List}
 use native.Mathlib.Omega.{arith}

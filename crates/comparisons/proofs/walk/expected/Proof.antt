@@ -1,4 +1,5 @@
--- `expected` meets its contract: the second search looks behind the bytes of the buffer, or behind zeros for the first map. Assumes nothing.
+-- `expected` meets its contract: the second search looks for a map later than the bytes of the buffer, or later than zeros for the first map. Assumes
+-- nothing.
 use mathlib.Core.Path.{_≡_, sym, ap, _∙_}
 use mathlib.Core.Logic.{⊎-elim}
 use mathlib.Core.Bool.{Bool, cond}

@@ -1,4 +1,4 @@
--- `put_line` writes the pieces of the line, one behind the other. Assumes nothing.
+-- `put_line` writes the pieces of the line, one after the other. Assumes nothing.
 use native.Mathlib.Omega.{arith}
 use Rattle.csv.proofs.Decimals.{numeral-short}
 use Rattle.judging.proofs.Digits.{line-written}

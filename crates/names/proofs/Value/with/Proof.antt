@@ -1,5 +1,4 @@
--- `Value::with` puts a byte behind those held, and leaves the place.
--- Assumes nothing.
+-- `Value::with` appends a byte to those held, and leaves the place. Assumes nothing.
 use mathlib.Core.Path.{refl}
 use borrow.Author.Needs.{needs}
 use Rattle.names.proofs.Values.{holds-full, holds-more}
