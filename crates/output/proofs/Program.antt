@@ -21,7 +21,8 @@ use Rattle.files.specs.Files.{fileRefusal, room}
 use Rattle.files.specs.Answers.{fileAnswer}
 use Rattle.files.proofs.Files.{Holds, refused-file}
 use Rattle.files.proofs.Length.{Cut, whole, too-much, cut}
-use Rattle.output.specs.Program.{answerRecords, recueRecords, recueOutput, FirstBytesDecide}
+use Rattle.output.specs.Program.{answerRecords, recueRecords, recueOutput}
+use Rattle.output.specs.ProgramLaws.{FirstBytesDecide}
 use Rattle.output.specs.Examples.{sourceFile, targetFile, recuePrinted, RecueExample}
 
 -- ---- which file speaks

@@ -1,3 +1,4 @@
 pub mod Records
 pub mod Program
+pub mod ProgramLaws
 pub mod Examples

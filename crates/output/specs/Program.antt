@@ -1,10 +1,8 @@
 -- The whole output of the program, from the bytes of its two files (RULES 21). A file that can't be opened counts as empty.
 -- Assumes nothing.
-use mathlib.Core.Path.{_≡_}
 use mathlib.Core.List.{List}
 use mathlib.Core.Option.{Option, none, some}
 use Prim.Native.Nat.{ℕ}
-use lib.ListN.{take}
 use Rattle.semigroups.specs.Tables.{product}
 use Rattle.semigroups.specs.Questions.{Refusal}
 use Rattle.semigroups.specs.Maps.{embeddings, maps, first, earliest}
@@ -37,9 +35,3 @@ recueRecords source target =
 -- The whole output of the program, as text.
 unfoldable pub recueOutput : List ℕ → List ℕ → List ℕ
 recueOutput source target = rowsText (recueRecords source target)
-
--- ---- what is claimed
-
--- Only one byte more than a text may have is read of each file: no later byte makes a difference.
-abbrev pub FirstBytesDecide : Type 0
-FirstBytesDecide = (source target : List ℕ) → recueOutput (take 57721 source) (take 57721 target) ≡ recueOutput source target

@@ -9,7 +9,8 @@ use lib.ListN.{length}
 use Rattle.semigroups.specs.Tables.{Product, Element}
 use Rattle.semigroups.specs.Calls.{Answer, gives, overwritten, mapUnless}
 use Rattle.semigroups.proofs.Completions.{firstFrom, first-start, first-skip, first-hit, first-end}
-use Rattle.planning.specs.Degrees.{Fit, fit, firstAt, leastFit, leastDegree, leastEmbedding, landings, fitPositions}
+use Rattle.planning.specs.Degrees.{Fit, fit, firstAt, leastFit, leastDegree, landings, fitPositions}
+use Rattle.planning.specs.InnerDegrees.{leastEmbedding}
 
 -- What is told of a degree: its first embedding, or none.
 module _ (told : Bool) (f : List ℕ) (o : Option (List ℕ)) (e : cond told (some f) none ≡ o) where

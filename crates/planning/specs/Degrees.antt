@@ -37,10 +37,6 @@ module _ (m : ℕ) (s : Product) where
   unfoldable pub leastDegree : Option ℕ
   leastDegree = Option·map (λ (x : Fit). x .degree) leastFit
 
-  -- The first embedding at that degree.
-  unfoldable pub leastEmbedding : Option (List ℕ)
-  leastEmbedding = Option·map (λ (x : Fit). x .embedding) leastFit
-
 -- ---- landing positions
 
 -- Where element i takes point x under the embedding f in the table of degree d.

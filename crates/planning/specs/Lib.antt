@@ -1,5 +1,6 @@
 pub mod Degrees
 pub mod DegreesLaws
+pub mod InnerDegrees
 pub mod Examples
 pub mod Answers
 pub mod Calls

@@ -1,0 +1,10 @@
+-- What is claimed of the program `recue` beyond its output. Assumes nothing.
+use mathlib.Core.Path.{_≡_}
+use mathlib.Core.List.{List}
+use Prim.Native.Nat.{ℕ}
+use lib.ListN.{take}
+use Rattle.output.specs.Program.{recueOutput}
+
+-- Only one byte more than a text may have is read of each file: no later byte makes a difference (RULES 21.2).
+abbrev pub FirstBytesDecide : Type 0
+FirstBytesDecide = (source target : List ℕ) → recueOutput (take 57721 source) (take 57721 target) ≡ recueOutput source target
