@@ -78,6 +78,7 @@ struct Compared {
 }
 
 // One call on a map buffer of m bytes, the start of `before`, and a scratch buffer longer than needed.
+// Both sides equal one definition, so no contract can tell whether they are compared at all; the program compares the maps that 01 prints with constants too.
 fn step(
     isomorphisms: bool,
     next: bool,

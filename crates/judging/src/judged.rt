@@ -13,6 +13,7 @@ use plain::Said;
 use plain::judge;
 
 // The four questions, compared with the second search: they agree for every table.
+// Both sides equal one definition, so no contract can tell whether they are compared at all; `judged` compares with constants too.
 pub fn compared(cells: &[u8], n: usize, tally: Tally) -> Tally
     ensures same { λ r. ⌜ r ≡ counted tally true ⌝ }
 {
