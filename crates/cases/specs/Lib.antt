@@ -1,2 +1,3 @@
 pub mod InnerAnswering
 pub mod InnerEmbedded
+pub mod InnerPrinted

@@ -44,7 +44,7 @@ pub fn orders() -> Tally
 }
 
 // Returns whether two buffers hold the same bytes.
-fn same_bytes(a: &[u8], b: &[u8]) -> bool
+pub fn same_bytes(a: &[u8], b: &[u8]) -> bool
     ensures answer { λ r. ⌜ r ≡ sameList (now (a .entry)) (now (b .entry)) ⌝ }
 {
     check::same(a, b)

@@ -1,6 +1,7 @@
 // Runs the cases of RULES 23.4, which are not proved one by one, and the thirteen worked ones again, through the compiled functions of the library against
 // a second search that is written separately. Each group prints how many answers agree and how many differ.
 mod limits;
+mod printed;
 mod worked;
 
 ghost use mathlib.Core.Path.{_≡_};
@@ -27,6 +28,14 @@ fn main() {
     print(b"worked cases 1 to 3", worked::tables());
     print(b"worked cases 4 and 5", worked::elements());
     print(b"worked cases 6 to 13", worked::maps());
+    print(
+        b"worked cases 6 to 9 and 13, as printed",
+        printed::embeddings(),
+    );
+    print(
+        b"worked cases 10 to 12, as printed",
+        printed::isomorphisms(),
+    );
     print(b"every table of order 1", small::all_tables(1));
     print(b"every table of order 2", small::all_tables(2));
     print(b"every table of order 3", small::all_tables(3));

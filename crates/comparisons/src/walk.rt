@@ -79,6 +79,8 @@ struct Compared {
 }
 
 // Makes one call on a map buffer of m bytes, the start of `before`, and a scratch buffer that is longer than needed. Returns how it compares.
+// Both sides equal one definition, so no contract can tell whether they are compared at all; the program `cases` compares the maps that RULES 23.2 prints
+// with constants too.
 fn step(
     isomorphisms: bool,
     next: bool,

@@ -13,6 +13,7 @@ use plain::Said;
 use plain::judge;
 
 // Compares the answer to the four questions with that of the second search, and counts the comparison. The two agree for every table. Returns the tally.
+// Both sides equal one definition, so no contract can tell whether they are compared at all; `judged` compares with constants too.
 pub fn compared(cells: &[u8], n: usize, tally: Tally) -> Tally
     ensures same { λ r. ⌜ r ≡ counted tally true ⌝ }
 {
