@@ -20,6 +20,9 @@ pub struct Answer {
     /// The sheets that were read, in the order of the command line.
     pub sheets: Vec<Sheet>,
     pub result: Option<Found>,
+    /// The operator's choice of partners, where there is one.
+    #[serde(flatten)]
+    pub chosen: Option<Chosen>,
     pub hints: Vec<String>,
     /// The files that were written.
     pub written: Vec<String>,
@@ -115,6 +118,29 @@ pub struct Cells {
     pub rows: Vec<Vec<String>>,
 }
 
+/// A cue of the show and a partner on the rig.
+#[derive(Clone, Copy, Debug, PartialEq, Eq, Serialize)]
+pub struct Pair(pub usize, pub usize);
+
+impl std::fmt::Display for Pair {
+    fn fmt(&self, formatter: &mut std::fmt::Formatter) -> std::fmt::Result {
+        write!(formatter, "{}={}", self.0, self.1)
+    }
+}
+
+/// The operator's choice of partners.
+#[derive(Clone, Debug, Serialize)]
+pub struct Chosen {
+    /// The pairs that a map was to have, and those that it was not to have.
+    pub pins: Vec<Pair>,
+    pub not: Vec<Pair>,
+    /// Of the pairs with equal names those that are kept, and those that no map has together with the kept ones before them.
+    pub kept: Vec<Pair>,
+    pub lost: Vec<Pair>,
+    /// Those for which there was no time.
+    pub untried: Vec<Pair>,
+}
+
 /// What was found, by command.
 #[derive(Clone, Debug, Serialize)]
 #[serde(rename_all = "snake_case")]
@@ -125,6 +151,8 @@ pub enum Found {
     Maps { images: Vec<Vec<u8>>, complete: bool },
     /// How many places of the rig the show fits in, up to a number, and in how many ways in each.
     Ways { places: usize, in_each: usize, more: bool },
+    /// How many maps the operator's choice leaves, up to a number.
+    Counted { number: usize, more: bool },
     /// The classes: the places of their sheets, counted from 1, and their number of cues.
     Classes(Vec<Class>),
     /// A part of a table: the cues that it has there, and its own table.
@@ -259,6 +287,7 @@ impl Answer {
             says: String::new(),
             sheets: Vec::new(),
             result: None,
+            chosen: None,
             hints: Vec::new(),
             written: Vec::new(),
         }
@@ -284,15 +313,20 @@ impl Sheet {
         self.names.get(cue - 1).map(String::as_str)
     }
 
-    /// The cue that a number or a name stands for. A number is no name.
+    /// The cues that a number or a name stands for: several where a name does. A number is no name.
+    pub fn cues(&self, text: &str) -> Vec<usize> {
+        let (text, all) = (text.trim(), 1..=self.order.unwrap_or(0));
+        match text.parse::<usize>() {
+            Ok(number) => all.filter(|&cue| cue == number).collect(),
+            Err(_) => all.filter(|&cue| self.name(cue).map(str::trim) == Some(text)).collect(),
+        }
+    }
+
+    /// The one cue that a number or a name stands for.
     pub fn cue(&self, text: &str) -> Option<usize> {
-        let text = text.trim();
-        match text.parse() {
-            Ok(number) => Some(number).filter(|number| (1..=self.order.unwrap_or(0)).contains(number)),
-            Err(_) => {
-                let mut named = (1..=self.order.unwrap_or(0)).filter(|&cue| self.name(cue) == Some(text));
-                named.next().filter(|_| named.next().is_none())
-            }
+        match self.cues(text)[..] {
+            [cue] => Some(cue),
+            _ => None,
         }
     }
 

@@ -129,6 +129,15 @@ pub struct MoveArguments {
     /// Reads the rig's table column first, as some firms give it
     #[arg(long, conflicts_with = "csv")]
     pub mirror: bool,
+    /// Gives a cue of the show this partner, each by number or name; may be given again
+    #[arg(long, value_name = "CUE=PARTNER", value_parser = pair, conflicts_with_all = ["csv", "limit"])]
+    pub pin: Vec<String>,
+    /// Keeps a cue of the show from this partner, each by number or name; may be given again
+    #[arg(long, value_name = "CUE=PARTNER", value_parser = pair, conflicts_with_all = ["csv", "limit"])]
+    pub not: Vec<String>,
+    /// Pins cues whose names are equal on both sheets, one after another as long as the show fits
+    #[arg(long, conflicts_with_all = ["csv", "limit"])]
+    pub prefer_names: bool,
     /// Finds the way after the earliest, or the one that so many come before
     #[arg(long, value_name = "NUMBER", num_args = 0..=1, require_equals = true, default_missing_value = "1", conflicts_with_all = ["csv", "limit"])]
     pub next: Option<u32>,
@@ -244,6 +253,12 @@ pub struct CutArguments {
     pub output: Option<PathBuf>,
     #[command(flatten)]
     pub page: Page,
+}
+
+/// Two cues with = between, whose numbers or names the sheets tell.
+fn pair(text: &str) -> Result<String, String> {
+    let is_pair = text.contains('=');
+    is_pair.then(|| text.into()).ok_or_else(|| "give a cue of the show, = and a cue of the rig, such as 4=34".into())
 }
 
 /// The number of a cue, with or without blanks around it.

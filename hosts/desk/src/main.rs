@@ -9,6 +9,7 @@ mod names;
 mod output;
 mod parts;
 mod patience;
+mod pins;
 mod progress;
 mod reader;
 mod repair;

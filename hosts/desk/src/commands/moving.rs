@@ -1,22 +1,29 @@
-//! Embeddings of the show's table in the rig's: the earliest, the next ones, all, or how many.
+//! Embeddings of the show's table in the rig's, among partners that the operator may choose: the earliest, the next ones, all, or how
+//! many.
 
+use super::copies::MOST_COPIES;
 use super::{why, Work};
-use crate::answer::{Found, Role};
+use crate::answer::{Chosen, Found, Pair, Role};
 use crate::arguments::MoveArguments;
 use crate::building::generators;
 use crate::input;
 use crate::output::is_standard;
 use crate::patience::{told_within, within};
+use crate::pins::{about_names, equal_names, Pins};
 use crate::progress::Progress;
 use crate::sheet::{open, opened};
 use crate::status::{Failure, Status};
 use crate::views::partners;
-use crate::words::{count, path_shown};
-use std::time::Duration;
+use crate::words::{count, listed, path_shown};
+use std::cell::OnceCell;
+use std::time::{Duration, Instant};
 use tickdrizzle::{Copies, LimitedSearch, Maps, Table};
 
 /// How long a hint may take.
 const HINT_TIME: Duration = Duration::from_secs(1);
+
+/// How long it may take to choose names where no time is given.
+const NAMES_TIME: Duration = Duration::from_secs(10);
 
 /// The tables between which maps are looked for.
 #[derive(Clone)]
@@ -26,28 +33,121 @@ pub struct Search {
     target: Table,
     /// Whether reversed isomorphisms are looked for.
     reversed: bool,
+    /// What the maps must and must not have.
+    pins: Pins,
     /// How the rig's table is read, where it is not as usual.
-    how: &'static str,
+    reading: Option<&'static str>,
+    /// How much time it took to choose names.
+    used: Duration,
+    /// Whether there is a map without the pins; nothing where there was no time to tell.
+    without: OnceCell<Option<bool>>,
 }
 
 impl Search {
     pub fn plain(source: &Table, target: &Table) -> Search {
-        Search { source: source.clone(), target: target.clone(), reversed: false, how: "" }
+        Search {
+            source: source.clone(),
+            target: target.clone(),
+            reversed: false,
+            pins: Pins::default(),
+            reading: None,
+            used: Duration::ZERO,
+            without: OnceCell::new(),
+        }
     }
 
     /// Maps to the rig's table read column first. The library has reversed isomorphisms; a part is looked for in the turned table.
     pub fn mirrored(source: &Table, target: &Table) -> Search {
         let reversed = source.order() == target.order();
-        let target = if reversed { target.clone() } else { turned(target) };
-        Search { source: source.clone(), target, reversed, how: ", with the rig's table read column first" }
+        let search = if reversed { Search::plain(source, target) } else { Search::plain(source, &turned(target)) };
+        Search { reversed, reading: Some("the rig's table read column first"), ..search }
+    }
+
+    /// Maps that keep the pins. The library takes pins for embeddings alone; a reversed isomorphism is one into the turned table.
+    fn pinned(self, pins: Pins) -> Search {
+        let target = if self.reversed { turned(&self.target) } else { self.target };
+        Search { target, reversed: false, pins, ..self }
+    }
+
+    /// Maps that also keep the pairs with equal names, one after another as long as there is a map; which of them are kept, which are
+    /// lost, and for which there was no time.
+    fn preferring(self, pairs: &[Pair], limit: Option<Duration>) -> (Search, [Vec<Pair>; 3]) {
+        if pairs.is_empty() {
+            return (self, Default::default());
+        }
+        let (begun, lent) = (Instant::now(), (self.clone(), pairs.to_vec()));
+        let limit = limit.map_or(NAMES_TIME, |limit| limit / 2);
+        let (told, in_time) = told_within(Some(limit), move |tell| lent.0.keep(&lent.1, tell));
+        let those = |is_kept: bool| -> Vec<Pair> {
+            pairs.iter().zip(&told).filter(|(_, &told)| told == is_kept).map(|(&pair, _)| pair).collect()
+        };
+        let (kept, lost) = (those(true), those(false));
+        let untried = if in_time { Vec::new() } else { pairs[told.len()..].to_vec() };
+        let mut search = Search { used: begun.elapsed(), ..self };
+        search.pins.names.clone_from(&kept);
+        (search, [kept, lost, untried])
+    }
+
+    /// Tells of each pair whether a map has it together with the kept ones before it; nothing where there is no map at all.
+    fn keep(mut self, pairs: &[Pair], tell: &dyn Fn(bool) -> bool) {
+        let Some(mut images) = self.earliest() else { return };
+        for &pair in pairs {
+            self.pins.names.push(pair);
+            // A map that has the pair already stays the earliest.
+            let has_pair = usize::from(images[pair.0 - 1]) == pair.1;
+            let found = if has_pair { Some(images.clone()) } else { self.earliest() };
+            if !tell(found.is_some()) {
+                return;
+            }
+            match found {
+                Some(found) => images = found,
+                None => drop(self.pins.names.pop()),
+            }
+        }
+    }
+
+    /// The earliest map.
+    fn earliest(&self) -> Option<Vec<u8>> {
+        self.maps().next()
     }
 
     fn maps(&self) -> Maps<'_> {
         if self.reversed {
             self.source.reversed_isomorphisms(&self.target)
-        } else {
+        } else if self.pins.is_empty() {
             self.source.embeddings(&self.target)
+        } else {
+            self.source.embeddings_among(&self.target, |cue, partner| self.pins.allow(Pair(cue, partner)))
         }
+    }
+
+    /// What is not as usual, after a comma.
+    fn how(&self) -> String {
+        let names = self.pins.names.len();
+        let names = (names > 0).then(|| format!("{} kept", count(names, "name")));
+        let parts = [self.reading.map(String::from), self.pins.called().map(String::from), names];
+        let parts: Vec<_> = parts.into_iter().flatten().collect();
+        if parts.is_empty() {
+            String::new()
+        } else {
+            format!(", with {}", listed(&parts))
+        }
+    }
+
+    /// What is left of the time.
+    fn left(&self, limit: Option<Duration>) -> Option<Duration> {
+        limit.map(|limit| limit.saturating_sub(self.used))
+    }
+
+    /// Whether there is a map without the pins; nothing where there was no time to tell.
+    fn fits_without(&self) -> Option<bool> {
+        let search = Search { pins: Pins::default(), ..self.clone() };
+        *self.without.get_or_init(|| within(Some(HINT_TIME), move || search.finds()))
+    }
+
+    /// Whether there may be a map without the pins.
+    fn pins_matter(&self) -> bool {
+        !self.pins.is_empty() && self.fits_without() != Some(false)
     }
 
     fn limited(&self, limit: u32) -> (LimitedSearch, Option<Vec<u8>>) {
@@ -61,25 +161,35 @@ impl Search {
     /// That the show fits.
     pub fn fits(&self) -> String {
         let (cues, go) = (self.source.order(), if self.source.order() == 1 { "goes" } else { "go" });
-        let (order, how) = (self.target.order(), self.how);
+        let (order, how) = (self.target.order(), self.how());
         format!("The show fits: its {} {go} to {cues} of the rig's {order}{how}.", count(cues, "cue"))
     }
 
-    /// That the show does not fit.
+    /// That the show does not fit, and whether it would without the pins.
     pub fn does_not_fit(&self) -> String {
-        let (cues, order, how) = (count(self.source.order(), "cue"), self.target.order(), self.how);
-        format!("The show does not fit: there is no way to give its {cues} partners among the rig's {order}{how}.")
+        let (cues, order) = (count(self.source.order(), "cue"), self.target.order());
+        let reading = self.reading.map_or(String::new(), |reading| format!(", with {reading}"));
+        let none =
+            format!("The show does not fit: there is no way to give its {cues} partners among the rig's {order}");
+        let Some(pins) = self.pins.called() else { return format!("{none}{reading}.") };
+        match self.fits_without() {
+            Some(false) => format!("{none}{reading}, with or without {pins}."),
+            Some(true) => format!("With {pins} the show does not fit; without them it does{reading}."),
+            None => {
+                format!("With {pins} the show does not fit{reading}; whether it does without them was not found within {HINT_TIME:?}.")
+            }
+        }
     }
 
     /// Whether there is a map.
     pub fn finds(&self) -> bool {
-        self.maps().next().is_some()
+        self.earliest().is_some()
     }
 
     /// At most so many maps, earliest first, and whether there was time for them.
     fn first(&self, number: usize, limit: Option<Duration>) -> (Vec<Vec<u8>>, bool) {
         let search = self.clone();
-        told_within(limit, move |tell| {
+        told_within(self.left(limit), move |tell| {
             let _ = search.maps().take(number).all(tell);
         })
     }
@@ -125,6 +235,7 @@ pub fn run(arguments: &MoveArguments, work: &mut Work) -> Result<(), Failure> {
     let [source, target] = &tables[..] else { return Ok(()) };
     let search = if arguments.mirror { Search::mirrored(source, target) } else { Search::plain(source, target) };
     let line = Progress::start("looking for partners", work.options.quiet);
+    let search = choose(search, arguments, work)?;
     match (arguments.all, arguments.next) {
         _ if arguments.count => ways(&search, arguments, work),
         (Some(number), _) => all(&search, number as usize, arguments, work),
@@ -133,11 +244,13 @@ pub fn run(arguments: &MoveArguments, work: &mut Work) -> Result<(), Failure> {
     }
     drop(line);
     if arguments.mirror && !search.reversed {
-        let how = "The orders differ: the rig's table was turned, rows for columns, and searched as usual.";
-        work.answer.hints.push(how.into());
+        let why = if source.order() == target.order() { "Partners are chosen" } else { "The orders differ" };
+        let how = format!("{why}: the rig's table was turned, rows for columns, and searched as usual.");
+        work.answer.hints.push(how);
     }
     if !arguments.csv {
-        work.answer.hints.extend(hint(&sources, source, target, work.answer.status, arguments.mirror));
+        let is_misfit = work.answer.status == Status::None && !search.pins_matter();
+        work.answer.hints.extend(hint(&sources, source, target, is_misfit, arguments.mirror));
     }
     if let Some(path) = &arguments.output {
         match &work.answer.result {
@@ -148,6 +261,23 @@ pub fn run(arguments: &MoveArguments, work: &mut Work) -> Result<(), Failure> {
     Ok(())
 }
 
+/// The search among the partners that the operator chooses, which are told.
+fn choose(search: Search, arguments: &MoveArguments, work: &mut Work) -> Result<Search, Failure> {
+    if arguments.pin.is_empty() && arguments.not.is_empty() && !arguments.prefer_names {
+        return Ok(search);
+    }
+    let [show, rig] = &work.answer.sheets[..] else { unreachable!("both sheets were read") };
+    let pins = Pins::new(&arguments.pin, &arguments.not, show, rig)?;
+    let (pairs, several) = if arguments.prefer_names { equal_names(show, rig) } else { Default::default() };
+    if arguments.prefer_names {
+        work.answer.hints.extend(about_names(&pairs, &several));
+    }
+    let (given, not) = (pins.pins.clone(), pins.not.clone());
+    let (search, [kept, lost, untried]) = search.pinned(pins).preferring(&pairs, arguments.timeout);
+    work.answer.chosen = Some(Chosen { pins: given, not, kept, lost, untried });
+    Ok(search)
+}
+
 /// The earliest map, or why there is none.
 fn one(search: &Search, arguments: &MoveArguments, work: &mut Work) {
     let outcome = earliest(search, arguments);
@@ -156,7 +286,7 @@ fn one(search: &Search, arguments: &MoveArguments, work: &mut Work) {
         Outcome::Found { images, trials } => {
             work.answer.result = Some(Found::Map { images, trials, mirrored: arguments.mirror });
         }
-        Outcome::None { .. } if !arguments.csv => {
+        Outcome::None { .. } if !arguments.csv && !search.pins_matter() => {
             let rig = if search.reversed { turned(&search.target) } else { search.target.clone() };
             let mut misfit = why::smallest(&work.answer.sheets[0], &search.source, &rig, HINT_TIME);
             let is_larger = search.source.order() > rig.order();
@@ -198,9 +328,11 @@ fn next(search: &Search, before: usize, arguments: &MoveArguments, work: &mut Wo
         work.say(says, Status::Found);
         let images = maps.pop().expect("it is there");
         work.answer.result = Some(Found::Map { images, trials: None, mirrored: arguments.mirror });
+    } else if in_time && found == 0 {
+        work.say(search.does_not_fit(), Status::None);
     } else if in_time {
         work.say(
-            format!("There is no such way: the show fits in {}{}.", count(found, "way"), search.how),
+            format!("There is no such way: the show fits in {}{}.", count(found, "way"), search.how()),
             Status::None,
         );
     } else {
@@ -220,8 +352,8 @@ fn all(search: &Search, most: usize, arguments: &MoveArguments, work: &mut Work)
     }
     let number = count(maps.len(), "way");
     let (says, status) = match (more, in_time) {
-        (true, _) => (format!("The show fits in more than {number}{}. The earliest:", search.how), Status::Found),
-        (false, true) => (format!("The show fits in {number}{}:", search.how), Status::Found),
+        (true, _) => (format!("The show fits in more than {number}{}. The earliest:", search.how()), Status::Found),
+        (false, true) => (format!("The show fits in {number}{}:", search.how()), Status::Found),
         (false, false) => {
             let time = arguments.timeout.unwrap_or_default();
             (format!("Stopped: in {time:?} {number} were found, and there may be more:"), Status::Stopped)
@@ -233,8 +365,11 @@ fn all(search: &Search, most: usize, arguments: &MoveArguments, work: &mut Work)
 
 /// How many maps there are: for each copy of the show as many as it has isomorphisms onto itself.
 fn ways(search: &Search, arguments: &MoveArguments, work: &mut Work) {
+    if !search.pins.is_empty() {
+        return counted(search, arguments, work);
+    }
     let lent = search.clone();
-    let counted = within(arguments.timeout, move || {
+    let counted = within(search.left(arguments.timeout), move || {
         if lent.reversed {
             let ways = lent.maps().count();
             return (Copies::Number(usize::from(ways > 0)), ways);
@@ -250,17 +385,34 @@ fn ways(search: &Search, arguments: &MoveArguments, work: &mut Work) {
         Some((copies, in_each)) => {
             let (places, more) = match copies {
                 Copies::Number(places) => (places, false),
-                Copies::More => (super::copies::MOST_COPIES, true),
+                Copies::More => (MOST_COPIES, true),
             };
             work.answer.result = Some(Found::Ways { places, in_each, more });
             let than = if more { "more than " } else { "" };
             let (ways, places) = (count(places * in_each, "way"), count(places, "place"));
             let says = format!(
                 "The show fits in {than}{ways}{}: {than}{places} of the rig, {} in each.",
-                search.how,
+                search.how(),
                 count(in_each, "way")
             );
             (says, Status::Found)
+        }
+    };
+    work.say(says, status);
+}
+
+/// How many maps there are among chosen partners. Each is walked: of the maps onto one copy only some may be allowed.
+fn counted(search: &Search, arguments: &MoveArguments, work: &mut Work) {
+    let lent = search.clone();
+    let walked = within(search.left(arguments.timeout), move || lent.maps().take(MOST_COPIES + 1).count());
+    let (says, status) = match walked {
+        None => (stopped(arguments), Status::Stopped),
+        Some(0) => (search.does_not_fit(), Status::None),
+        Some(number) => {
+            let (number, more) = (number.min(MOST_COPIES), number > MOST_COPIES);
+            work.answer.result = Some(Found::Counted { number, more });
+            let than = if more { "more than " } else { "" };
+            (format!("The show fits in {than}{}{}.", count(number, "way"), search.how()), Status::Found)
         }
     };
     work.say(says, status);
@@ -302,13 +454,13 @@ fn hint(
     sources: &[input::Source; 2],
     source: &Table,
     target: &Table,
-    status: Status,
+    is_misfit: bool,
     is_mirrored: bool,
 ) -> Option<String> {
     if input::is_same(&sources[0], &sources[1]) {
         return Some("The show and the rig are the same file.".into());
     }
-    if status != Status::None {
+    if !is_misfit {
         return None;
     }
     let (search, says) = if source.order() > target.order() {

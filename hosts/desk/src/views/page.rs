@@ -5,7 +5,7 @@ use crate::answer::{Answer, Cells, Class, Found, Misfit, Refusal, Rig, RigOutcom
 use crate::output::MARK;
 use crate::reader::grid::letters;
 use crate::status::Status;
-use crate::views::text::{refused, rig_in_words, Manner};
+use crate::views::text::{chosen, refused, rig_in_words, Manner};
 use crate::words::count;
 use std::fmt::Write;
 
@@ -28,12 +28,11 @@ pub fn page(answer: &Answer) -> String {
         "rigs" => "Which rigs take the show",
         _ => "Moving the show",
     };
-    let mut body = match &answer.result {
-        Some(Found::Misfit(misfit)) => {
-            misfit.says.iter().map(|sentence| format!("<p>{}</p>\n", escaped(sentence))).collect()
-        }
-        _ => String::new(),
-    };
+    let mut sentences = chosen(answer);
+    if let Some(Found::Misfit(misfit)) = &answer.result {
+        sentences.extend(misfit.says.iter().cloned());
+    }
+    let mut body: String = sentences.iter().map(|sentence| format!("<p>{}</p>\n", escaped(sentence))).collect();
     body += &notes(answer);
     body += &match &answer.result {
         Some(Found::Map { images, .. }) => partners("Partners", images, &answer.sheets[0], &answer.sheets[1]),

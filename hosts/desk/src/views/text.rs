@@ -1,7 +1,7 @@
 //! An answer in words.
 
 use crate::answer::{
-    Answer, Class, Found, Mending, MendingState, Misfit, Refusal, Rig, RigOutcome, Role, Settling, Sheet,
+    Answer, Class, Found, Mending, MendingState, Misfit, Pair, Refusal, Rig, RigOutcome, Role, Settling, Sheet,
 };
 use crate::status::Status;
 use crate::words::count;
@@ -35,6 +35,7 @@ fn answered(answer: &Answer, manner: Manner) -> String {
     if !answer.says.is_empty() {
         text += &format!("{}\n", painted(&answer.says, answer.status, manner));
     }
+    text += &chosen(answer).iter().map(|sentence| format!("{sentence}\n")).collect::<String>();
     text += &match &answer.result {
         Some(Found::Map { images, .. }) => map(answer, images),
         Some(Found::Maps { images, .. }) => {
@@ -113,6 +114,26 @@ fn explained(refusal: &Refusal) -> String {
         text += &format!("  {}  {line}\n", if place == 0 { "also:    " } else { "         " });
     }
     text
+}
+
+/// What the operator's choice of partners was, and what came of it.
+pub fn chosen(answer: &Answer) -> Vec<String> {
+    let (Some(chosen), [show, rig]) = (&answer.chosen, &answer.sheets[..]) else { return Vec::new() };
+    let told = |title: &str, pairs: &[Pair]| {
+        let pair = |pair: &Pair| format!("{} -> {}", show.label(pair.0), rig.label(pair.1));
+        let told = pairs.iter().map(pair).collect::<Vec<_>>().join("; ");
+        (!pairs.is_empty()).then(|| format!("{title}: {told}"))
+    };
+    let (kept, equal) = (chosen.kept.len(), chosen.kept.len() + chosen.lost.len() + chosen.untried.len());
+    let names = format!("Equal names: {kept} of {equal} kept");
+    let sentences = [
+        told("Pinned", &chosen.pins),
+        told("Excluded", &chosen.not),
+        (equal > 0).then_some(names),
+        told("Not kept", &chosen.lost),
+        told("No time to try", &chosen.untried),
+    ];
+    sentences.into_iter().flatten().collect()
 }
 
 fn map(answer: &Answer, images: &[u8]) -> String {

@@ -9,6 +9,7 @@ mod folders;
 mod formats;
 mod options;
 mod outputs;
+mod pins;
 mod plain;
 mod random;
 mod reasons;
