@@ -1,6 +1,6 @@
 //! Partners that the operator chooses: pins, exclusions, equal names.
 
-use crate::plain::{keeps, Table};
+use crate::plain::{maps, Table};
 use crate::random::{of_maps, sheet, Random};
 use crate::run::{answer, failure, folder, graph, put, root, run, run_in};
 use serde_json::{json, Value};
@@ -180,25 +180,11 @@ fn pins_on_a_page() {
     );
 }
 
-/// The maps of a small show to a rig that keep every product, have the pins and none of the other pairs, earliest first: all lists
-/// of images are tried, in their order.
-fn allowed(show: &Table, rig: &Table, pins: &[[u8; 2]], not: &[[u8; 2]]) -> Vec<Vec<u8>> {
-    let elements: Vec<u8> = (1..=u8::try_from(show.len()).expect("it is small")).collect();
-    let mut lists = vec![Vec::new()];
-    for _ in &elements {
-        let longer = |list: &Vec<u8>| {
-            let images = 1..=u8::try_from(rig.len()).expect("it is small");
-            images.map(|image| [&list[..], &[image]].concat()).collect::<Vec<_>>()
-        };
-        lists = lists.iter().flat_map(longer).collect();
-    }
-    let has = |list: &[u8], pair: &[u8; 2]| list[usize::from(pair[0]) - 1] == pair[1];
-    lists.retain(|list| {
-        pins.iter().all(|pair| has(list, pair))
-            && !not.iter().any(|pair| has(list, pair))
-            && keeps(show, &elements, rig, list)
-    });
-    lists
+/// Those of some maps that have the pins and none of the other pairs.
+fn allowed(maps: &[Vec<u8>], pins: &[[u8; 2]], not: &[[u8; 2]]) -> Vec<Vec<u8>> {
+    let has = |map: &[u8], pair: &[u8; 2]| map[usize::from(pair[0]) - 1] == pair[1];
+    let is_allowed = |map: &&Vec<u8>| pins.iter().all(|pair| has(map, pair)) && !not.iter().any(|pair| has(map, pair));
+    maps.iter().filter(is_allowed).cloned().collect()
 }
 
 #[test]
@@ -209,7 +195,7 @@ fn the_earliest_of_all_lists() {
     for _ in 0..40 {
         let (show, rig, any) = loop {
             let (show, rig) = (of_maps(&mut random, 4), of_maps(&mut random, 9));
-            let any = allowed(&show, &rig, &[], &[]);
+            let any = maps(&show, &rig);
             if any.len() > 1 {
                 break (show, rig, any);
             }
@@ -236,7 +222,7 @@ fn the_earliest_of_all_lists() {
             let arguments: Vec<_> = arguments.iter().map(String::as_str).chain(more.iter().copied()).collect();
             serde_json::from_str(&run_in(&here, &arguments).output).expect("it is JSON")
         };
-        let maps = allowed(&show, &rig, &pins, &not);
+        let maps = allowed(&any, &pins, &not);
         let one = told(&[]);
         if one["status"] == "usage" {
             assert!(maps.is_empty() && one["says"].as_str().is_some_and(|says| says.contains("no partner left")));
@@ -273,12 +259,12 @@ fn names_are_kept_one_after_another() {
         put(&here, "source.names.csv", name_sheet(&(1..=show.len()).collect::<Vec<_>>()));
         put(&here, "target.names.csv", name_sheet(&names));
         let (mut kept, mut lost) = (Vec::new(), Vec::new());
-        let mut maps = allowed(&show, &rig, &[], &[]);
+        let mut maps = maps(&show, &rig);
         let cues = if maps.is_empty() { 0 } else { show.len() };
         for cue in 1..=cues {
             let Some(place) = names.iter().position(|&name| name == cue) else { continue };
             let pair = [cue, place + 1].map(|number| u8::try_from(number).expect("it is small"));
-            let left = allowed(&show, &rig, &[&kept[..], &[pair]].concat(), &[]);
+            let left = allowed(&maps, &[pair], &[]);
             if left.is_empty() {
                 lost.push(pair);
             } else {

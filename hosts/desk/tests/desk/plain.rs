@@ -37,6 +37,19 @@ pub fn keeps(show: &Table, elements: &[u8], rig: &Table, images: &[u8]) -> bool 
         && pairs().all(|(i, j)| image(product(show, i, j)) == product(rig, image(i), image(j)))
 }
 
+/// The maps of a small show to a rig that keep every product, earliest first: all lists of images are tried, in their order.
+pub fn maps(show: &Table, rig: &Table) -> Vec<Vec<u8>> {
+    let all = |table: &Table| 1..=u8::try_from(table.len()).expect("tables are small");
+    let elements: Vec<u8> = all(show).collect();
+    let longer = |list: Vec<u8>| all(rig).map(move |image| [&list[..], &[image]].concat());
+    let mut lists = vec![Vec::new()];
+    for _ in &elements {
+        lists = lists.into_iter().flat_map(longer).collect();
+    }
+    lists.retain(|list| keeps(show, &elements, rig, list));
+    lists
+}
+
 /// Whether a part of the show, with these elements, has a place on the rig.
 pub fn fits(show: &Table, elements: &[u8], rig: &Table) -> bool {
     fn goes(show: &Table, elements: &[u8], rig: &Table, images: &mut Vec<u8>) -> bool {

@@ -1,6 +1,6 @@
 //! Other ways to move a show: the next, all, how many; a rig read column first; the partners as a sheet and as a list to print.
 
-use crate::plain::{keeps, Table};
+use crate::plain::maps;
 use crate::random::{of_maps, sheet, Random};
 use crate::run::{answer, folder, program, put, root, run, run_in};
 use serde_json::{json, Value};
@@ -67,27 +67,12 @@ fn as_many_ways_as_there_are() {
         let told = |option: &str| -> Value {
             serde_json::from_str(&run_in(&here, &["move", ".", option, "--json"]).output).expect("it is JSON")
         };
-        let maps = every_map(&show, &rig);
+        let maps = maps(&show, &rig).len();
         let listed = &told("--all=100000")["result"]["maps"]["images"];
         assert_eq!(listed.as_array().map_or(0, Vec::len), maps);
         let ways = &told("--count")["result"]["ways"];
         assert_eq!(ways["places"].as_u64().unwrap_or(0) * ways["in_each"].as_u64().unwrap_or(0), maps as u64);
     }
-}
-
-/// The number of maps of a small show to a rig that keep every product, all lists of images tried.
-fn every_map(show: &Table, rig: &Table) -> usize {
-    let elements: Vec<u8> = (1..=u8::try_from(show.len()).expect("it is small")).collect();
-    let lists = 0..rig.len().pow(u32::try_from(show.len()).expect("it is small"));
-    let images = |mut list: usize| -> Vec<u8> {
-        let digit = |_: &u8| {
-            let image = list % rig.len() + 1;
-            list /= rig.len();
-            u8::try_from(image).expect("it is small")
-        };
-        elements.iter().map(digit).collect()
-    };
-    lists.filter(|&list| keeps(show, &elements, rig, &images(list))).count()
 }
 
 #[test]
