@@ -17,7 +17,7 @@ import tickdrizzle
 from tickdrizzle import MORE, Names, Outcome, Refusal, Side, Table
 
 # Questions about buffers, which Table and Names make themselves.
-BUFFERS = {6, 9, 27, 28, 61, 62, 80}
+BUFFERS = {6, 9, 27, 28, 61, 62, 70, 80}
 KINDS = {"embedding": Table.embeddings, "isomorphism": Table.isomorphisms, "reversed_isomorphism": Table.reversed_isomorphisms}
 WITHIN = {
     "embedding": Table.embedding_within,
@@ -107,15 +107,17 @@ def of_two_tables(name, arguments):
     if name == "copies":
         copies = source.copies(target)
         return ([1], []) if copies is MORE else ([0, copies], [])
+    asked, kind = name.split("_", 1)
+    pairs = [more.pop(0)] if kind.endswith("_among") else []
     if len(more[0]) != source.order:
         raise OtherQuestions
-    asked, kind = name.split("_", 1)
     if kind.endswith("_within"):
         said = WITHIN[kind[: -len("_within")]](source, target, more[2])
         return [int(said.outcome), *([] if said.trials is None else [said.trials])], [bytes(said.map or ())]
-    maps = [bytes(images) for images in islice(KINDS[kind](source, target), 2)]
+    found = among(source, target, *pairs) if pairs else KINDS[kind](source, target)
+    maps = [bytes(images) for images in islice(found, 2)]
     if asked == "first":
-        after = after_the_first(kind, arguments, maps)
+        after = after_the_first(kind, arguments[:4] + pairs, maps)
         if after != maps[1:]:
             raise AssertionError(f"the second map is {maps[1:]}, but the next call says {after}")
         return [int(bool(maps))], [maps[0] if maps else b""]
@@ -124,13 +126,25 @@ def of_two_tables(name, arguments):
     return [int(bool(maps))], [maps[0] if maps else b""]
 
 
-def after_the_first(kind, arguments, maps):
+def among(source, target, pairs):
+    """The embeddings among the pairs of a call, which may be too few bytes."""
+    if len(pairs) < tickdrizzle.scratch_size(source.order, target.order):
+        raise OtherQuestions
+
+    def allowed(i, j):
+        place, bit = divmod((i - 1) * target.order + j - 1, 8)
+        return pairs[place] >> bit & 1
+
+    return source.embeddings_among(target, allowed)
+
+
+def after_the_first(kind, read, maps):
     """What the next call finds after the first map."""
     if not maps:
         return []
     images = bytearray(maps[0])
-    cells, order, others, size = arguments[:4]
-    found = tickdrizzle._call(f"next_{kind}", cells, order, others, size, images, bytearray(tickdrizzle.scratch_size(order, size)))[2]
+    scratch = bytearray(tickdrizzle.scratch_size(read[1], read[3]))
+    found = tickdrizzle._call(f"next_{kind}", *read, images, scratch)[2]
     return [bytes(images)] if found == Outcome.FOUND else []
 
 
