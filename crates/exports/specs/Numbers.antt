@@ -1,5 +1,5 @@
--- The sixteen numbers of an answer, as a call from another language gets them: the number of the failed question or 0, the side that it names or 0, the
--- values, and zeros. Assumes nothing.
+-- The sixteen numbers of an answer, as a call from another language gets them (RULES 7.6): the number of the failed question or 0, the side that it names
+-- or 0, the values, and zeros. Assumes nothing.
 use mathlib.Core.List.{List, [], _∷_}
 use mathlib.Core.Option.{Option, none, some}
 use Prim.Native.Nat.{ℕ}

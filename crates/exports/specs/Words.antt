@@ -1,4 +1,4 @@
--- The layout of an answer as sixteen numbers. Assumes nothing.
+-- The layout of an answer as sixteen numbers (RULES 7.6). Assumes nothing.
 use mathlib.Core.List.{List, _∷_, _++_}
 use Prim.Native.Nat.{ℕ, _-_}
 use lib.ListN.{length, replicate}
