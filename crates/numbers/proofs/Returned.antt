@@ -3,7 +3,7 @@ use mathlib.Core.Path.{_≡_, refl, ap, _∙_}
 use mathlib.Core.List.{List}
 use Prim.Native.Nat.{ℕ}
 use Rattle.semigroups.specs.Calls.{Answer}
-use Rattle.search.specs.Calls.{Called, called}
+use Rattle.calls.specs.Calls.{Called, called}
 use Rattle.numbers.specs.Numbers.{answerWords}
 use Rattle.numbers.specs.Returned.{Returned, returned, wordsOf}
 

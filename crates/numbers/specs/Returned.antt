@@ -1,7 +1,7 @@
 -- What a search returns to a program in C or Rust. Assumes nothing.
 use mathlib.Core.List.{List}
 use Prim.Native.Nat.{ℕ}
-use Rattle.search.specs.Calls.{Called}
+use Rattle.calls.specs.Calls.{Called}
 use Rattle.numbers.specs.Numbers.{answerWords}
 
 -- What a search returns: the sixteen numbers of its answer, and the two buffers.

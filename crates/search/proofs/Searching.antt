@@ -18,9 +18,9 @@ use Rattle.search.specs.declared.Limit.{Limit}
 use Rattle.search.specs.declared.Limit.the-variants.{Unlimited, Trials}
 use Rattle.search.specs.declared.Searched.{Searched}
 use Rattle.search.specs.Answers.{soughtIf}
-use Rattle.search.specs.Calls.{Lent, Called, called, leaving, answerOf}
+use Rattle.calls.specs.Calls.{Lent, Called, called, leaving, answerOf}
 use Rattle.search.specs.InnerSearching.{answered, endedUnless, searchedSays, saidUnder, foundUnder, searched}
-use Rattle.search.specs.Limited.{workOf}
+use Rattle.calls.specs.Limited.{workOf}
 use Rattle.search.proofs.Works.{work-finds}
 
 -- Where no work is done there is nothing, whatever the limit.

@@ -24,8 +24,8 @@ use Rattle.semigroups.proofs.Search.{search-earliest}
 use Rattle.semigroups.proofs.Trials.{counted-finds, counted-same, counted-agrees}
 use Rattle.backtrack.specs.InnerState.{bounded}
 use Rattle.search.specs.InnerSearching.{straight, markedWork}
-use Rattle.search.specs.Kinds.{orderFits}
-use Rattle.search.specs.Limited.{readBy, workOf}
+use Rattle.calls.specs.Kinds.{orderFits}
+use Rattle.calls.specs.Limited.{readBy, workOf}
 
 -- ---- where the orders rule a map out
 

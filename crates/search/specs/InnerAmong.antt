@@ -3,8 +3,8 @@ use mathlib.Core.List.{List}
 use mathlib.Core.Option.{none}
 use Prim.Native.Nat.{ℕ}
 use Rattle.semigroups.specs.Maps.{Ask, Sought}
-use Rattle.search.specs.Calls.{Lent, Called}
-use Rattle.search.specs.Among.{leavingAmong, answerAmong}
+use Rattle.calls.specs.Calls.{Lent, Called}
+use Rattle.calls.specs.Among.{leavingAmong, answerAmong}
 
 -- What a call says and leaves once every question has passed.
 unfoldable pub answeredAmong : Ask → List ℕ → Lent → Called Sought

@@ -10,9 +10,9 @@ use Rattle.semigroups.specs.Tables.{product}
 use Rattle.semigroups.specs.Scratch.{marked}
 use Rattle.semigroups.specs.Trials.{Work, counted, Limited, stopped, ended, limited, foundWithin}
 use Rattle.backtrack.specs.InnerState.{bounded}
-use Rattle.search.specs.Calls.{Lent, Called, leaving, answerOf}
+use Rattle.calls.specs.Calls.{Lent, Called, leaving, answerOf}
 use Rattle.search.specs.Answers.{soughtIf}
-use Rattle.search.specs.Limited.{workOf}
+use Rattle.calls.specs.Limited.{workOf}
 use Rattle.search.specs.declared.Limit.{Limit}
 use Rattle.search.specs.declared.Limit.the-variants.{Unlimited, Trials}
 use Rattle.search.specs.declared.Searched.{Searched}

@@ -11,14 +11,12 @@ ghost use Rattle.copies.specs.Answers.{copiesAnswerSays};
 ghost use Rattle.search.specs.Answers.{searchAnswerSays, limitedAnswerSays};
 ghost use Rattle.numbers.specs.Words.{words};
 ghost use Rattle.words.specs.Answers.{numbersWords};
-ghost use Rattle.numbers.specs.Numbers.{questionWords, answerWords, indexPeriodValues, profileValues, checkedValues, soughtValues, limitedValues, numberValues, degreeValues, copiesValues};
-ghost use Rattle.planning.specs.Answers.{degreeAnswerSays};
+ghost use Rattle.numbers.specs.Numbers.{questionWords, answerWords, indexPeriodValues, profileValues, checkedValues, soughtValues, limitedValues, numberValues, copiesValues};
 use copies::CopiesAnswer;
 use generated::GeneratorsVerdict;
 use invariants::IndexPeriodAnswer;
 use invariants::ProfileAnswer;
 use maps::MapAnswer;
-use planning::DegreeAnswer;
 use search::LimitedAnswer;
 use search::SearchAnswer;
 use tables::Numbered;
@@ -26,7 +24,7 @@ use tables::Refusal;
 use tables::Verdict;
 
 // Returns the number, the side and the values, then zeros.
-fn words(number: usize, side: usize, values: &[usize]) -> [u64; 16]
+pub fn words(number: usize, side: usize, values: &[usize]) -> [u64; 16]
     requires few { ⌜ length (now values) ≤ 14 ⌝ }
     ensures answer { λ r. ⌜ r ≡ words number side (now (values .entry)) ⌝ }
 {
@@ -42,7 +40,7 @@ fn words(number: usize, side: usize, values: &[usize]) -> [u64; 16]
 }
 
 // Returns the sixteen numbers of a refusal.
-fn refusal_words(refusal: Refusal) -> [u64; 16]
+pub fn refusal_words(refusal: Refusal) -> [u64; 16]
     ensures answer { λ r. ⌜ r ≡ numbersWords refusal ⌝ }
 {
     let values = [refusal.first, refusal.second, refusal.third];
@@ -133,16 +131,6 @@ pub fn limited_words(said: LimitedAnswer) -> [u64; 16]
         LimitedAnswer::Nothing(trials) => words(0, 0, &[0, trials as usize]),
         LimitedAnswer::Stopped => words(0, 0, &[2]),
         LimitedAnswer::Refused(fault) => refusal_words(fault.refusal()),
-    }
-}
-
-pub fn degree_words(said: DegreeAnswer) -> [u64; 16]
-    ensures answer { λ r. ⌜ r ≡ answerWords degreeValues (degreeAnswerSays said) ⌝ }
-{
-    match said {
-        DegreeAnswer::Degree(degree) => words(0, 0, &[degree]),
-        DegreeAnswer::Nothing => words(0, 0, &[0]),
-        DegreeAnswer::Refused(no) => refusal_words(no.refusal()),
     }
 }
 

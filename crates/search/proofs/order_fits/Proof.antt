@@ -1,7 +1,7 @@
 -- `order_fits` meets its contract: each kind has its own test. Assumes nothing.
 use mathlib.Core.Path.{ap, sym}
 use mathlib.Core.Bool.{Bool}
-use Rattle.search.specs.Kinds.{orderFits}
+use Rattle.calls.specs.Kinds.{orderFits}
 use Rattle.search.specs.InnerSearching.{straight}
 use Rattle.search.proofs.order_fits.Statement.{statement}
 use Rattle.search.proofs.order_fits.Tie as tie

@@ -7,8 +7,8 @@ use Rattle.semigroups.specs.Tables.{Product, product, turned}
 use Rattle.semigroups.specs.Maps.{Kind, embeddings, isomorphisms, reversed, Ask, first}
 use Rattle.semigroups.specs.Candidates.{candidate}
 use Rattle.semigroups.specs.Trials.{Work, work, counted, Limited, limited, foundWithin}
-use Rattle.search.specs.Kinds.{orderFits}
-use Rattle.search.specs.Calls.{Lent, Called, refusalOf, leaving}
+use Rattle.calls.specs.Kinds.{orderFits}
+use Rattle.calls.specs.Calls.{Lent, Called, refusalOf, leaving}
 
 -- The target's product as a search of the kind tests it: for reversed maps, with its factors exchanged (RULES 10).
 abbrev pub readBy : Kind → Product → Product

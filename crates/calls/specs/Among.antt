@@ -11,8 +11,8 @@ use Rattle.semigroups.specs.Scratch.{scratchSize, marks}
 use Rattle.semigroups.specs.Questions.{Question, ask, Refusal, firstNo, searchQuestions}
 use Rattle.semigroups.specs.Calls.{givenUnless, writtenUnless, mapUnless}
 use Rattle.semigroups.specs.Maps.{Ask, earliest, Sought, sought}
-use Rattle.search.specs.Calls.{Lent, Called, called}
-use Rattle.search.specs.Allowed.{allowed, allowedCandidate}
+use Rattle.calls.specs.Calls.{Lent, Called, called}
+use Rattle.calls.specs.Allowed.{allowed, allowedCandidate}
 
 -- The questions of a search among given pairs: those of a search; then 70, do the pairs have at least the bytes that m × n bits take?
 abbrev pub amongQuestions : ℕ → List ℕ → ℕ → List ℕ → ℕ → ℕ → ℕ → List Question
