@@ -18,7 +18,7 @@ ghost use Rattle.tables.specs.InnerFound.{indicator, addingAll, Found};
 ghost use Rattle.generated.specs.InnerFound.{productsUpTo};
 ghost use Rattle.generated.specs.InnerParts.{markedElements, numbering, ClosedPart};
 ghost use Rattle.generated.specs.Answers.{generatorsFaultRefusal, generatorsVerdictRefusal};
-ghost use Rattle.generated.specs.Calls.{subsemigroupSays, partAfter, elementsAfter};
+ghost use Rattle.calls.specs.Subsemigroups.{subsemigroupSays, partAfter, elementsAfter};
 use tables::Fault;
 use tables::No;
 use tables::Numbered;
