@@ -15,6 +15,10 @@ use Rattle.backtrack.specs.declared.Partial.{Partial}
 use Rattle.backtrack.specs.declared.Found.{Found}
 use Rattle.backtrack.specs.declared.Outcome.{Outcome}
 
+-- How many trials a search without a limit makes before it takes rows.
+abbrev pub firstTrials : ℕ
+firstTrials = 8000
+
 -- The list placed so far.
 abbrev pub prefix : Partial → List ℕ
 prefix p = take (p .len) (p .image)

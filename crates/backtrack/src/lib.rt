@@ -15,14 +15,19 @@ ghost use Rattle.semigroups.specs.Trials.{passes, work};
 ghost use Rattle.semigroups.specs.InnerTrials.{counted};
 ghost use Rattle.constraints.specs.InnerTracking.{Placing, Tracks};
 ghost use Rattle.backtrack.specs.InnerState.{prefix, Holds, Ready, bounded, exhausted, remaining, within, outcomeOf};
+use tables::limits::ORDER;
+use tables::limits::PLACES;
+
+// How many trials a search without a limit makes before it takes rows. They end nearly every easy search.
+pub const FIRST_TRIALS: u32 = 8000;
 
 // The map placed so far. The image of element i is image[i - 1]; used[y] is 1 where y is an image. The constraints: forced[c] is the target element that the
 // placed pairs require as the image of source element c, and owner[y] is the source element for which they reserve target element y.
 pub struct Partial {
-    pub image: [u8; 120],
-    pub used: [u8; 121],
-    pub forced: [u8; 121],
-    pub owner: [u8; 121],
+    pub image: [u8; ORDER],
+    pub used: [u8; PLACES],
+    pub forced: [u8; PLACES],
+    pub owner: [u8; PLACES],
     pub len: usize,
 }
 
@@ -35,7 +40,7 @@ pub struct Tested {
 // The result of a search: whether it found a map, and the map's images followed by zeros. All are zeros where there is none.
 pub struct Found {
     pub ok: bool,
-    pub image: [u8; 120],
+    pub image: [u8; ORDER],
 }
 
 // The result of a search with a limit: whether the limit stopped it; if it did not, the number of trials left, and what `Found` holds.
@@ -43,7 +48,7 @@ pub struct Outcome {
     pub stopped: bool,
     pub left: u32,
     pub ok: bool,
-    pub image: [u8; 120],
+    pub image: [u8; ORDER],
 }
 
 // Whether one more trial is within the limit, and how many trials are left after it.
@@ -53,7 +58,7 @@ struct Paid {
 }
 
 // Returns whether x is at least `low`, unused, and a candidate for element i.
-fn open(used: &[u8; 121], scratch: &[u8], n: usize, i: usize, low: usize, x: usize) -> bool
+fn open(used: &[u8; PLACES], scratch: &[u8], n: usize, i: usize, low: usize, x: usize) -> bool
     requires { ⌜ Element largestOrder i × Element n x × (n ≤ largestOrder) ⌝ }
     requires { ⌜ scratchSize i n ≤ length (now scratch) ⌝ }
     ensures answer { λ r. ⌜ r ≡ (leb low x && (eqb (getD (now (used .entry)) x 0) 0 && marked n (now (scratch .entry)) i x)) ⌝ }
@@ -74,10 +79,10 @@ impl Partial {
         ensures holds { λ r. ⌜ ((s : Product) (n : ℕ) (t : Product) → Holds s n t r) ⌝ }
     {
         Partial {
-            image: [0u8; 120],
-            used: [0u8; 121],
-            forced: [0u8; 121],
-            owner: [0u8; 121],
+            image: [0u8; ORDER],
+            used: [0u8; PLACES],
+            forced: [0u8; PLACES],
+            owner: [0u8; PLACES],
             len: 0,
         }
     }
@@ -147,12 +152,12 @@ fn no_map(stopped: bool, left: u32) -> Outcome
         stopped,
         left,
         ok: false,
-        image: [0u8; 120],
+        image: [0u8; ORDER],
     }
 }
 
 // Returns the outcome where every element has its image: the map is found, unless it is the bound itself.
-fn whole(tight: bool, limit: u32, image: [u8; 120]) -> Outcome
+fn whole(tight: bool, limit: u32, image: [u8; ORDER]) -> Outcome
     ensures answer { λ r. ⌜ r ≡ record { stopped = false; left = limit; ok = not tight; image = cond tight (replicate 120 0) image } ⌝ }
 {
     if tight {

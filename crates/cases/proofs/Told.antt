@@ -13,7 +13,7 @@ use Rattle.semigroups.specs.Questions.{tableRefusal, checkRefusal, searchRefusa
 use Rattle.semigroups.specs.Scratch.{scratchSize}
 use Rattle.semigroups.specs.Maps.{Kind, embeddings, isomorphisms, isHomomorphism, isEmbedding, isIsomorphism, maps, earliest}
 use Rattle.semigroups.specs.Copies.{sameList}
-use Rattle.search.specs.Calls.{call}
+use Rattle.calls.specs.Calls.{call}
 use Rattle.comparisons.specs.InnerSaid.{saidNumber}
 use Rattle.cases.specs.InnerEmbedded.{mat5Cells}
 use Rattle.cases.specs.InnerPrinted.{toldCall}

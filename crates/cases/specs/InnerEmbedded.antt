@@ -8,7 +8,7 @@ use Rattle.semigroups.specs.Maps.{embeddings, Sought, first}
 use Rattle.semigroups.specs.Copies.{sameList}
 use Rattle.judging.specs.InnerTally.{counted}
 use Rattle.judging.specs.declared.tally.Tally.{Tally}
-use Rattle.search.specs.Calls.{Called, lend, call}
+use Rattle.calls.specs.Calls.{Called, lend, call}
 use Rattle.comparisons.specs.InnerSaid.{saidNumber}
 
 -- 1,2 / 2,1

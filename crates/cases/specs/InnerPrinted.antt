@@ -7,7 +7,7 @@ use lib.ListN.{take, drop, replicate}
 use Rattle.semigroups.specs.Calls.{Answer}
 use Rattle.semigroups.specs.Maps.{Kind, Sought}
 use Rattle.semigroups.specs.Copies.{sameList}
-use Rattle.search.specs.Calls.{Called, lend, call}
+use Rattle.calls.specs.Calls.{Called, lend, call}
 use Rattle.backtrack.specs.InnerState.{bounded}
 use Rattle.judging.specs.declared.tally.Tally.{Tally}
 use Rattle.judging.specs.InnerTally.{counted}

@@ -32,7 +32,7 @@ unfoldable pub filesFrom : Folder → ℕ → ℕ → List (List ℕ)
 filesFrom folder k zero = []
 filesFrom folder k (suc d) = let later = filesFrom folder (suc k) d in opened (folder k) later
 
--- The files of a folder that are read: "`01.csv`, `02.csv` and so on, up to `50.csv`, until one can't be opened".
+-- The files of a folder that are read (RULES 22.1): "`01.csv`, `02.csv` and so on, up to `50.csv`, until one cannot be opened".
 unfoldable pub filesOf : Folder → List (List ℕ)
 filesOf folder = filesFrom folder 1 mostFiles
 

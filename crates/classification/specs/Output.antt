@@ -1,5 +1,5 @@
 -- What the program prints (RULES 22.3): "in file order, `class`, file, order, lowest file of the class; or `refused`, file, number. Then, by rising
--- lowest file, `total`, lowest file, number of members." As text the records follow RFC 4180, each closed by CR LF.
+-- lowest file, it prints `total`, lowest file, number of members." As text the records follow RFC 4180, each closed by CR LF.
 -- Assumes nothing.
 use mathlib.Core.Bool.{Bool, false}
 use mathlib.Core.List.{List, [], _∷_, _++_, map}

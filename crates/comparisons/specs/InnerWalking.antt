@@ -13,7 +13,7 @@ use Rattle.semigroups.specs.Calls.{Answer}
 use Rattle.semigroups.specs.Maps.{maps, Sought}
 use Rattle.plain.specs.InnerEnumeration.{numbered}
 use Rattle.backtrack.specs.InnerState.{bounded}
-use Rattle.search.specs.Calls.{Called, lend, call}
+use Rattle.calls.specs.Calls.{Called, lend, call}
 
 -- What the call says and leaves. The flags choose isomorphisms or embeddings, and the next map or the first.
 abbrev pub walkCall : Bool → Bool → List ℕ → ℕ → List ℕ → ℕ → List ℕ → Called (Answer Sought)

@@ -7,7 +7,7 @@ use Prim.Native.Nat.{ℕ}
 use lib.ListN.{length}
 use Rattle.semigroups.specs.Questions.{Refusal}
 use Rattle.semigroups.specs.Copies.{copiesRefusal}
-use Rattle.copies.specs.Calls.{copiesScratch}
+use Rattle.calls.specs.Copies.{copiesScratch}
 
 -- A refusal changes no byte of scratch.
 abbrev pub CopiesKeep : Type 0

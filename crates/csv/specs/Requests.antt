@@ -26,7 +26,7 @@ pub record TooLongClosed (t cells : List ℕ) : Type 0 where
 
 -- What RULES 19.2 and 19.6 ask to be shown.
 pub record TextRequests : Type 0 where
-  -- RULES 19.2: "Such a text now loads exactly as if CR LF followed": a text of at most 57,720 bytes with its last line break, and any text that loads.
+  -- RULES 19.2: "without it the text loads exactly as if CR LF followed": a text of at most 57,720 bytes with its last line break, and any text that loads.
   pub as-closed : (t cells : List ℕ) → length (closed t) ≤ longestText → LoadsClosed t cells
   pub loaded-as-closed : (t cells : List ℕ) → LoadPasses t (length cells) → LoadsClosed t cells
   -- "20 and 21 speak of the text as it came": so a text of 57,719 or 57,720 bytes that lacks its last line break is not refused by the question that refuses
@@ -35,14 +35,14 @@ pub record TextRequests : Type 0 where
   pub same-other-byte : (t : List ℕ) → firstOther (closed t) ≡ firstOther t
   -- "A text that ends in a comma has an empty last field."
   pub comma-last : (t : List ℕ) → (before : List (List ℕ)) × (fieldsOf (t ++ 44 ∷ []) ≡ before ++ [] ∷ [])
-  -- "Loading and then saving an accepted text whose entries lie within its order gives that text, with the break added where it was missing"; and to do so
+  -- "Loading and then saving an accepted text whose entries lie within its order gives that text, with the last break added where it was missing"; and to do so
   -- again, however often, changes no further byte.
   pub loaded-saves : (t buffer text : List ℕ) → LoadPasses t (length buffer) → ((k : ℕ) → k < length (cellsOf t) → getD (cellsOf t) k 0 ≤ orderOf t) → length (closed t) ≤ length text
       → LoadedSaves t buffer text
   pub loaded-stays : (b : Buffers) → LoadPasses (textHeld b) (length (b .cells)) → ((k : ℕ) → k < length (cellsOf (textHeld b)) → getD (cellsOf (textHeld b)) k 0 ≤ orderOf (textHeld b))
       → length (closed (textHeld b)) ≤ length (b .text) → (r : ℕ) → RoundsClose (textHeld b) b (rounds (suc r) b)
-  -- "22 is no longer asked and never occurs."
+  -- RULES 7.2: "there is no question 22".
   pub never-22 : (t : List ℕ) (room : ℕ) (r : Refusal) → loadRefusal t room ≡ some r → r .number ≡ 22 → ⊥
-  -- RULES 19.6: "24 is asked before 23. An empty field has no first byte, so it passes 24 and gets 23."
+  -- RULES 19.6: 24 is asked before 23; "an empty field has no first byte, so it passes 24 and gets 23".
   pub leading-zero : (f : List ℕ) → getD f 0 0 ≡ 48 → fieldRefusal f ≡ some (no 24 [])
   pub empty-field : fieldRefusal [] ≡ some (no 23 [])

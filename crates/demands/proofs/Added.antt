@@ -18,7 +18,7 @@ use Rattle.semigroups.proofs.Calls.{refused-by}
 use Rattle.semigroups.proofs.Light.{generators-pass, generators-refused}
 use Rattle.semigroups.proofs.Subsemigroups.{subsemigroup-passes, subsemigroup-examples}
 use Rattle.semigroups.proofs.Copies.{copies-pass, copies-examples}
-use Rattle.generated.specs.Calls.{subsemigroupSays, partAfter, elementsAfter}
+use Rattle.calls.specs.Subsemigroups.{subsemigroupSays, partAfter, elementsAfter}
 use Rattle.generated.proofs.Parts.{subsemigroup-keeps}
 use Rattle.planning.specs.Degrees.{leastDegree, degreeQuestions, degreeRefusal}
 use Rattle.planning.specs.Calls.{degreeSays}
@@ -28,15 +28,15 @@ use Rattle.sheets.specs.Names.{namesText, namesAt}
 use Rattle.sheets.specs.Questions.{loadNamesQuestions, loadNamesRefusal, saveNamesQuestions, saveNamesRefusal}
 use Rattle.sheets.specs.Calls.{loadNamesAnswer, saveNamesAnswer}
 use Rattle.sheets.proofs.Passing.{load-names-pass, save-names-pass, load-keeps, save-keeps}
-use Rattle.search.specs.Limited.{firstWork, limitedCall}
-use Rattle.search.specs.Calls.{Called, marksOf}
-use Rattle.search.specs.Among.{amongQuestions, amongRefusal, answerAmong, marksAmong, callAmong}
+use Rattle.calls.specs.Limited.{firstWork, limitedCall}
+use Rattle.calls.specs.Calls.{Called, marksOf}
+use Rattle.calls.specs.Among.{amongQuestions, amongRefusal, answerAmong, callAmong, marksAmong}
 use Rattle.search.specs.AmongLaws.{leftInLeft}
 use Rattle.search.proofs.Limits.{limits-theorem}
 use Rattle.search.proofs.Among.{among-passes}
 use Rattle.search.proofs.AmongLaws.{among-laws}
 use Rattle.search.proofs.AmongExamples.{among-examples}
-use Rattle.copies.specs.Calls.{copiesSays, copiesScratch}
+use Rattle.calls.specs.Copies.{copiesSays, copiesScratch}
 use Rattle.copies.proofs.Answering.{copies-keep}
 use Rattle.demands.specs.Added.{AddedCalls}
 use Rattle.demands.proofs.Answers.{asks, answers, search-answers}

@@ -8,7 +8,7 @@ use Rattle.semigroups.specs.Questions.{Question, firstNo}
 use Rattle.semigroups.specs.Calls.{Answer, givenUnless}
 use Rattle.semigroups.proofs.Questions.{earliest-no}
 use Rattle.semigroups.proofs.Calls.{given-or-refused, refused-by, given-by}
-use Rattle.search.specs.Calls.{Lent, leaving}
+use Rattle.calls.specs.Calls.{Lent, leaving}
 use Rattle.search.proofs.Calls.{leaving-says}
 use Rattle.demands.specs.Answers.{Asks, Answers}
 

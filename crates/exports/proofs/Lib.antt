@@ -1,3 +1,1 @@
-pub mod Sixteen
-pub mod Values
 pub mod Refusals

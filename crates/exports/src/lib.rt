@@ -1,7 +1,6 @@
 // The library's entry points for programs in C and Rust: numbers and lent slices of any content. Each writes sixteen numbers to `answer`: the number of
 // the earliest failed question, or 0; the side that a refusal names, 1 for source or 2 for target, or 0; then the values of the answer, and zeros.
 ghost use mathlib.Core.Path.{_≡_};
-ghost use Prim.Native.Nat.{_≤_};
 ghost use lib.ListN.{length};
 ghost use Rattle.semigroups.specs.Tables.{product};
 ghost use Rattle.semigroups.specs.Invariants.{indexPeriod, profile};
@@ -9,182 +8,33 @@ ghost use Rattle.semigroups.specs.Maps.{embeddings, isomorphisms, reversed, fir
 ghost use Rattle.semigroups.specs.Questions.{tableRefusal, elementRefusal};
 ghost use Rattle.semigroups.specs.Light.{generatorsRefusal};
 ghost use Rattle.semigroups.specs.Calls.{givenUnless};
-ghost use Rattle.tables.specs.Answers.{verdictRefusal, numberedSays};
-ghost use Rattle.invariants.specs.Answers.{indexPeriodSays, profileSays};
 ghost use Rattle.maps.specs.Calls.{mapCheck};
-ghost use Rattle.maps.specs.Answers.{mapAnswerSays};
-ghost use Rattle.generated.specs.Answers.{generatorsVerdictRefusal};
-ghost use Rattle.generated.specs.Calls.{subsemigroupSays, partAfter, elementsAfter};
-ghost use Rattle.copies.specs.Calls.{copiesSays, copiesScratch};
-ghost use Rattle.copies.specs.Answers.{copiesAnswerSays};
-ghost use Rattle.search.specs.Calls.{lend, called, call};
-ghost use Rattle.search.specs.Answers.{searchAnswerSays, limitedAnswerSays};
-ghost use Rattle.search.specs.Limited.{limitedCall};
-ghost use Rattle.search.specs.Among.{callAmong};
+ghost use Rattle.calls.specs.Subsemigroups.{subsemigroupSays, partAfter, elementsAfter};
+ghost use Rattle.calls.specs.Copies.{copiesSays, copiesScratch};
+ghost use Rattle.calls.specs.Calls.{lend, call, called};
+ghost use Rattle.calls.specs.Limited.{limitedCall};
+ghost use Rattle.calls.specs.Among.{callAmong};
 ghost use Rattle.transformations.specs.Calls.{transformationSays, transformationCellsAfter};
 ghost use Rattle.csv.specs.Calls.{loadAnswer, cellsAfter, saveAnswer, textAfter};
-ghost use Rattle.exports.specs.Words.{words};
-ghost use Rattle.exports.specs.Answers.{numbersWords};
-ghost use Rattle.exports.specs.Numbers.{questionWords, answerWords, wordsOf, indexPeriodValues, profileValues, checkedValues, soughtValues, limitedValues, numberValues, degreeValues, copiesValues};
+ghost use Rattle.numbers.specs.Numbers.{questionWords, answerWords, indexPeriodValues, profileValues, checkedValues, soughtValues, limitedValues, numberValues, degreeValues, copiesValues};
+ghost use Rattle.numbers.specs.Returned.{wordsOf};
 ghost use Rattle.planning.specs.Calls.{degreeSays, positionsAfter};
 ghost use Rattle.planning.specs.Answers.{degreeAnswerSays};
 ghost use Rattle.sheets.specs.Readings.{Reading};
 ghost use Rattle.sheets.specs.Calls.{loadNamesAnswer, namesAfter, lengthsAfter, saveNamesAnswer, sheetAfter};
-use copies::CopiesAnswer;
-use generated::GeneratorsVerdict;
-use invariants::IndexPeriodAnswer;
-use invariants::ProfileAnswer;
-use maps::MapAnswer;
 use planning::DegreeAnswer;
 use search::Kind;
-use search::LimitedAnswer;
-use search::SearchAnswer;
-use tables::Numbered;
-use tables::Refusal;
-use tables::Verdict;
-
-// ---- the sixteen numbers of each answer
-
-// Returns the number, the side and the values, then zeros.
-fn words(number: usize, side: usize, values: &[usize]) -> [u64; 16]
-    requires few { ⌜ length (now values) ≤ 14 ⌝ }
-    ensures answer { λ r. ⌜ r ≡ words number side (now (values .entry)) ⌝ }
-{
-    let mut answer = [0u64; 16];
-    answer[0] = number as u64;
-    answer[1] = side as u64;
-    let mut i: usize = 0;
-    while i < values.len() {
-        answer[i + 2] = values[i] as u64;
-        i += 1;
-    }
-    answer
-}
-
-// Returns the sixteen numbers of a refusal.
-fn refusal_words(refusal: Refusal) -> [u64; 16]
-    ensures answer { λ r. ⌜ r ≡ numbersWords refusal ⌝ }
-{
-    let values = [refusal.first, refusal.second, refusal.third];
-    words(refusal.number, refusal.side, &values)
-}
-
-fn verdict_words(verdict: Verdict) -> [u64; 16]
-    ensures answer { λ r. ⌜ r ≡ questionWords (verdictRefusal verdict) ⌝ }
-{
-    match verdict {
-        Verdict::Accepted => [0; 16],
-        Verdict::Refused(fault) => refusal_words(fault.refusal()),
-    }
-}
-
-fn index_period_words(said: IndexPeriodAnswer) -> [u64; 16]
-    ensures answer { λ r. ⌜ r ≡ answerWords indexPeriodValues (indexPeriodSays said) ⌝ }
-{
-    match said {
-        IndexPeriodAnswer::Value(powers) => words(
-            0,
-            0,
-            &[powers.index, powers.period, powers.idempotent],
-        ),
-        IndexPeriodAnswer::Refused(no) => refusal_words(no.refusal()),
-    }
-}
-
-fn profile_words(said: ProfileAnswer) -> [u64; 16]
-    ensures answer { λ r. ⌜ r ≡ answerWords profileValues (profileSays said) ⌝ }
-{
-    match said {
-        ProfileAnswer::Value(p) => words(
-            0,
-            0,
-            &[
-                p.powers.index,
-                p.powers.period,
-                p.powers.idempotent,
-                p.frequency,
-                p.diagonal,
-                p.row,
-                p.column,
-                p.commuting,
-            ],
-        ),
-        ProfileAnswer::Refused(no) => refusal_words(no.refusal()),
-    }
-}
-
-fn map_words(said: MapAnswer) -> [u64; 16]
-    ensures answer { λ r. ⌜ r ≡ answerWords checkedValues (mapAnswerSays said) ⌝ }
-{
-    match said {
-        MapAnswer::Refused(side, fault) => refusal_words(fault.refusal().naming(side)),
-        MapAnswer::MapLength => refusal_words(Refusal::by(5, 0)),
-        MapAnswer::Holds => words(0, 0, &[0]),
-        MapAnswer::Outside(i) => words(0, 0, &[1, i]),
-        MapAnswer::EqualImages(i, j) => words(0, 0, &[2, i, j]),
-        MapAnswer::WrongProduct(i, j) => words(0, 0, &[3, i, j]),
-    }
-}
-
-fn generators_words(verdict: GeneratorsVerdict) -> [u64; 16]
-    ensures answer { λ r. ⌜ r ≡ questionWords (generatorsVerdictRefusal verdict) ⌝ }
-{
-    match verdict {
-        GeneratorsVerdict::Accepted => [0; 16],
-        GeneratorsVerdict::Refused(fault) => refusal_words(fault.refusal()),
-    }
-}
-
-fn search_words(said: SearchAnswer) -> [u64; 16]
-    ensures answer { λ r. ⌜ r ≡ answerWords soughtValues (searchAnswerSays said) ⌝ }
-{
-    match said {
-        SearchAnswer::Found => words(0, 0, &[1]),
-        SearchAnswer::Nothing => words(0, 0, &[0]),
-        SearchAnswer::Refused(fault) => refusal_words(fault.refusal()),
-    }
-}
-
-fn limited_words(said: LimitedAnswer) -> [u64; 16]
-    ensures answer { λ r. ⌜ r ≡ answerWords limitedValues (limitedAnswerSays said) ⌝ }
-{
-    match said {
-        LimitedAnswer::Found(trials) => words(0, 0, &[1, trials as usize]),
-        LimitedAnswer::Nothing(trials) => words(0, 0, &[0, trials as usize]),
-        LimitedAnswer::Stopped => words(0, 0, &[2]),
-        LimitedAnswer::Refused(fault) => refusal_words(fault.refusal()),
-    }
-}
-
-fn degree_words(said: DegreeAnswer) -> [u64; 16]
-    ensures answer { λ r. ⌜ r ≡ answerWords degreeValues (degreeAnswerSays said) ⌝ }
-{
-    match said {
-        DegreeAnswer::Degree(degree) => words(0, 0, &[degree]),
-        DegreeAnswer::Nothing => words(0, 0, &[0]),
-        DegreeAnswer::Refused(no) => refusal_words(no.refusal()),
-    }
-}
-
-fn numbered_words(said: Numbered) -> [u64; 16]
-    ensures answer { λ r. ⌜ r ≡ answerWords numberValues (numberedSays said) ⌝ }
-{
-    match said {
-        Numbered::Number(x) => words(0, 0, &[x]),
-        Numbered::Refused(no) => refusal_words(no.refusal()),
-    }
-}
-
-fn copies_words(said: CopiesAnswer) -> [u64; 16]
-    ensures answer { λ r. ⌜ r ≡ answerWords copiesValues (copiesAnswerSays said) ⌝ }
-{
-    match said {
-        CopiesAnswer::Number(k) => words(0, 0, &[0, k]),
-        CopiesAnswer::More => words(0, 0, &[1]),
-        CopiesAnswer::Refused(side, fault) => refusal_words(fault.refusal().naming(side)),
-        CopiesAnswer::ScratchLength => refusal_words(Refusal::by(6, 0)),
-    }
-}
+use words::copies_words;
+use words::generators_words;
+use words::index_period_words;
+use words::limited_words;
+use words::map_words;
+use words::numbered_words;
+use words::profile_words;
+use words::refusal_words;
+use words::search_words;
+use words::verdict_words;
+use words::words;
 
 // ---- tables and elements
 
@@ -530,6 +380,16 @@ pub extern "C" fn tickdrizzle_first_reversed_isomorphism_within(
 }
 
 // ---- the fewest rest positions
+
+fn degree_words(said: DegreeAnswer) -> [u64; 16]
+    ensures answer { λ r. ⌜ r ≡ answerWords degreeValues (degreeAnswerSays said) ⌝ }
+{
+    match said {
+        DegreeAnswer::Degree(degree) => words(0, 0, &[degree]),
+        DegreeAnswer::Nothing => words(0, 0, &[0]),
+        DegreeAnswer::Refused(no) => refusal_words(no.refusal()),
+    }
+}
 
 // Writes for each element in turn its landing positions under the first embedding in the table of the least degree that holds one, to the start of
 // `positions`. Value: that degree, or 0 for none of 1 to 3.

@@ -7,7 +7,7 @@ use Prim.Native.Nat.{ℕ}
 use lib.ListN.{length}
 use Rattle.semigroups.specs.Questions.{Refusal}
 use Rattle.semigroups.specs.Subsemigroups.{subsemigroupRefusal}
-use Rattle.generated.specs.Calls.{partAfter, elementsAfter}
+use Rattle.calls.specs.Subsemigroups.{partAfter, elementsAfter}
 
 -- A refusal changes no byte of either buffer.
 abbrev pub SubsemigroupKeeps : Type 0

@@ -18,7 +18,7 @@ ghost use Rattle.tables.specs.InnerFound.{indicator, addingAll, Found};
 ghost use Rattle.generated.specs.InnerFound.{productsUpTo};
 ghost use Rattle.generated.specs.InnerParts.{markedElements, numbering, ClosedPart};
 ghost use Rattle.generated.specs.Answers.{generatorsFaultRefusal, generatorsVerdictRefusal};
-ghost use Rattle.generated.specs.Calls.{subsemigroupSays, partAfter, elementsAfter};
+ghost use Rattle.calls.specs.Subsemigroups.{subsemigroupSays, partAfter, elementsAfter};
 use tables::Fault;
 use tables::No;
 use tables::Numbered;
@@ -26,6 +26,8 @@ use tables::Place;
 use tables::Refusal;
 use tables::Verdict;
 use tables::generators::add;
+use tables::limits::ORDER;
+use tables::limits::PLACES;
 
 // ---- what a list generates
 
@@ -33,8 +35,8 @@ use tables::generators::add;
 fn multiply(
     cells: &[u8],
     n: usize,
-    found: &mut [u8; 120],
-    marks: &mut [u8; 121],
+    found: &mut [u8; ORDER],
+    marks: &mut [u8; PLACES],
     count: usize,
     place: usize,
 ) -> usize
@@ -57,7 +59,7 @@ fn multiply(
 
 // The elements that a list generates: place x is 1 where x is one of them, else 0; and how many there are.
 struct Generated {
-    marks: [u8; 121],
+    marks: [u8; PLACES],
     count: usize,
 }
 
@@ -67,8 +69,8 @@ fn generate(cells: &[u8], n: usize, list: &[u8]) -> Generated
     ensures marks { λ r. ⌜ r .marks ≡ indicator (generated n (product n (now (cells .entry))) (now (list .entry))) ⌝ }
     ensures count { λ r. ⌜ r .count ≡ length (generated n (product n (now (cells .entry))) (now (list .entry))) ⌝ }
 {
-    let mut found = [0u8; 120];
-    let mut marks = [0u8; 121];
+    let mut found = [0u8; ORDER];
+    let mut marks = [0u8; PLACES];
     let mut count: usize = 0;
     let mut i: usize = 0;
     while i < list.len() {
@@ -112,11 +114,11 @@ pub enum GeneratorsVerdict {
 }
 
 // Returns which elements the list holds: place x is 1 where x stands in it, else 0.
-fn marked(list: &[u8]) -> [u8; 121]
+fn marked(list: &[u8]) -> [u8; PLACES]
     requires { ⌜ Inside largestOrder (now list) ⌝ }
     ensures answer { λ r. ⌜ r ≡ indicator (now (list .entry)) ⌝ }
 {
-    let mut marks = [0u8; 121];
+    let mut marks = [0u8; PLACES];
     let mut i: usize = 0;
     while i < list.len() {
         let x = list[i] as usize;
@@ -178,7 +180,7 @@ pub fn check(cells: &[u8], n: usize, generators: &[u8]) -> GeneratorsVerdict
 // ---- the subsemigroup as a table of its own
 
 // Writes the marked elements in rising order.
-fn write_elements(marks: &[u8; 121], n: usize, elements: &mut [u8])
+fn write_elements(marks: &[u8; PLACES], n: usize, elements: &mut [u8])
     requires { ⌜ n ≤ largestOrder ⌝ ∗ ⌜ length (markedElements n (now marks)) ≤ length (now elements) ⌝ }
     ensures elements { λ r. ⌜ now (elements .exit) ≡ overwritten (markedElements n (now (marks .entry))) (now (elements .entry)) ⌝ }
 {
@@ -194,11 +196,11 @@ fn write_elements(marks: &[u8; 121], n: usize, elements: &mut [u8])
 }
 
 // Returns the new numbers of the first k elements: place x holds that of x where x is one of them, else 0.
-fn numbers_of(elements: &[u8], k: usize) -> [u8; 121]
+fn numbers_of(elements: &[u8], k: usize) -> [u8; PLACES]
     requires { ⌜ k ≤ length (now elements) ⌝ ∗ ⌜ Inside largestOrder (take k (now elements)) ⌝ ∗ ⌜ NoRepeats (take k (now elements)) ⌝ }
     ensures answer { λ r. ⌜ r ≡ numbering (take k (now (elements .entry))) ⌝ }
 {
-    let mut numbers = [0u8; 121];
+    let mut numbers = [0u8; PLACES];
     let mut i: usize = 0;
     while i < k {
         let x = elements[i] as usize;

@@ -9,7 +9,7 @@ use Rattle.tables.specs.Answers.{faultRefusal, sideNumber}
 use Rattle.maps.specs.declared.MapAnswer.{MapAnswer}
 use Rattle.maps.specs.declared.MapAnswer.the-variants.{Refused, MapLength, Holds, Outside, EqualImages, WrongProduct}
 use Rattle.maps.specs.declared.Pair.{Pair}
-use Rattle.maps.specs.declared.Pair.the-variants.{At, Nowhere}
+use Rattle.maps.specs.declared.Pair.the-variants.{At, Nothing}
 
 -- What an answer of the code says: the number, side and values of each refusal; the element or the pair of each fault.
 abbrev pub mapAnswerSays : MapAnswer → Answer Checked
@@ -23,4 +23,4 @@ mapAnswerSays (WrongProduct i j) = gives (wrongProduct (i ∷ j ∷ []))
 -- The pair, or none.
 abbrev pub pairOption : Pair → Option (List ℕ)
 pairOption (At i j) = some (i ∷ j ∷ [])
-pairOption Nowhere = none
+pairOption Nothing = none

@@ -34,7 +34,7 @@ pub enum MapAnswer {
 // A pair of elements, or none.
 enum Pair {
     At(usize, usize),
-    Nowhere,
+    Nothing,
 }
 
 // Returns the image of element i.
@@ -61,7 +61,7 @@ fn equal_images(map: &[u8]) -> Pair
         }
         i += 1;
     }
-    Pair::Nowhere
+    Pair::Nothing
 }
 
 // Returns the earliest pair i, j for which the image of i·j is not the image of i times the image of j, or none.
@@ -83,7 +83,7 @@ fn wrong_product(source: &[u8], m: usize, target: &[u8], n: usize, map: &[u8]) -
         }
         i += 1;
     }
-    Pair::Nowhere
+    Pair::Nothing
 }
 
 // Returns the earliest fault of m bytes, or that there is none: first an image outside the target, then equal images, then a wrong product.
@@ -101,7 +101,7 @@ fn examine(source: &[u8], m: usize, target: &[u8], n: usize, map: &[u8]) -> MapA
     }
     match wrong_product(source, m, target, n, map) {
         Pair::At(i, j) => MapAnswer::WrongProduct(i, j),
-        Pair::Nowhere => MapAnswer::Holds,
+        Pair::Nothing => MapAnswer::Holds,
     }
 }
 

@@ -22,6 +22,7 @@ pub record Fit : Type 0 where
   pub degree : ℕ
   pub embedding : List ℕ
 
+-- This degree with this embedding.
 abbrev pub fit : ℕ → List ℕ → Fit
 fit d f = record { degree = d; embedding = f }
 
@@ -34,6 +35,7 @@ module _ (m : ℕ) (s : Product) where
   unfoldable pub leastFit : Option Fit
   leastFit = firstOf (λ d. Option·map (fit d) (firstAt d)) (elements 3)
 
+  -- The least degree alone.
   unfoldable pub leastDegree : Option ℕ
   leastDegree = Option·map (λ (x : Fit). x .degree) leastFit
 
@@ -58,5 +60,6 @@ fitPositions m (some x) = landings m (x .degree) (x .embedding)
 abbrev pub degreeQuestions : ℕ → List ℕ → ℕ → List Question
 degreeQuestions m cells size = tableQuestions m cells ++ ask 80 (leb (m * 3) size) ∷ []
 
+-- The refusal of a call about the least degree, if a question fails.
 unfoldable pub degreeRefusal : ℕ → List ℕ → ℕ → Option Refusal
 degreeRefusal m cells size = firstNo (degreeQuestions m cells size)

@@ -21,7 +21,7 @@ use Rattle.semigroups.proofs.Search.{search-extension}
 use Rattle.semigroups.proofs.Candidates.{index-period-sound, marked-candidate}
 use Rattle.semigroups.proofs.Trials.{counted-finds}
 use Rattle.backtrack.specs.InnerState.{bounded}
-use Rattle.search.specs.Allowed.{allows, allowed, allowedCandidate}
+use Rattle.calls.specs.Allowed.{allows, allowed, allowedCandidate}
 use Rattle.search.specs.InnerSearching.{markedWork}
 
 -- Marks that agree on the pairs of f allow it or not alike.

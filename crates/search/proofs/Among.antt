@@ -20,9 +20,9 @@ use Rattle.semigroups.specs.Maps.{Ask, sought}
 use Rattle.semigroups.proofs.Questions.{failed-before, passed-before}
 use Rattle.semigroups.proofs.Passing.{search-passes, room-asked, joined}
 use Rattle.search.specs.Answers.{soughtIf}
-use Rattle.search.specs.Calls.{Lent, called}
-use Rattle.search.specs.Allowed.{allowedCandidate}
-use Rattle.search.specs.Among.{amongRefusal, refusalAmong, answerAmong, callAmong}
+use Rattle.calls.specs.Calls.{Lent, called}
+use Rattle.calls.specs.Allowed.{allowedCandidate}
+use Rattle.calls.specs.Among.{amongRefusal, refusalAmong, answerAmong, callAmong}
 use Rattle.search.specs.InnerAmong.{leavingAmong, answeredAmong}
 use Rattle.search.specs.AmongLaws.{PassesAmong}
 

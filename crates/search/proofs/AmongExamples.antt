@@ -17,9 +17,9 @@ use Rattle.semigroups.specs.Calls.{gives, Answer}
 use Rattle.semigroups.specs.Maps.{isHomomorphism, isEmbedding, embeddings, maps, first, earliest, Sought, found}
 use Rattle.semigroups.specs.Candidates.{candidate}
 use Rattle.semigroups.proofs.Lists.{pairs-at}
-use Rattle.search.specs.Calls.{Lent, Called, call}
-use Rattle.search.specs.Allowed.{allows, allowed}
-use Rattle.search.specs.Among.{amongRefusal, refusalAmong, callAmong}
+use Rattle.calls.specs.Calls.{Lent, Called, call}
+use Rattle.calls.specs.Allowed.{allows, allowed}
+use Rattle.calls.specs.Among.{amongRefusal, refusalAmong, callAmong}
 use Rattle.search.specs.AmongLaws.{PassesAmong, WantedAmong, AllMarked, OnlyOf, SamePairs, leftInLeft, AmongExamples}
 use Rattle.search.proofs.Among.{among-passes}
 use Rattle.search.proofs.AmongLaws.{among-laws}

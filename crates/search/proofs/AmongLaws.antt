@@ -25,10 +25,10 @@ use Rattle.semigroups.proofs.ListOrder.{earliest-same, earliest-unique}
 use Rattle.semigroups.proofs.Maps.{maps-increasing, mem-maps, maps-mem}
 use Rattle.semigroups.proofs.Calls.{found-ne-nothing, gives-ne-refused}
 use Rattle.candidates.proofs.Marks.{scratch-same}
-use Rattle.search.specs.Calls.{Lent, Called, called, refusalOf, answerOf, marksOf, call}
+use Rattle.calls.specs.Calls.{Lent, Called, called, refusalOf, answerOf, marksOf, call}
 use Rattle.search.specs.WantedLaws.{Wanted}
-use Rattle.search.specs.Allowed.{allows, allowed}
-use Rattle.search.specs.Among.{refusalAmong, answerAmong, marksAmong, callAmong}
+use Rattle.calls.specs.Allowed.{allows, allowed}
+use Rattle.calls.specs.Among.{refusalAmong, answerAmong, marksAmong, callAmong}
 use Rattle.search.specs.InnerAmong.{leavingAmong}
 use Rattle.search.specs.AmongLaws.{PassesAmong, Allows, WantedAmong, AllMarked, OnlyOf, Fewer, SamePairs, AmongLaws}
 use Rattle.search.proofs.Calls as calls

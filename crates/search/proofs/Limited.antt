@@ -11,8 +11,8 @@ use Rattle.semigroups.specs.Trials.{Work, Limited, stopped, ended, limited, fou
 use Rattle.semigroups.proofs.Trials.{limited-ends, limited-stops}
 use Rattle.search.specs.declared.Limit.the-variants.{Trials}
 use Rattle.search.specs.declared.Searched.{Searched}
-use Rattle.search.specs.Calls.{Lent, called, refusalOf, leaving, marksOf}
-use Rattle.search.specs.Limited.{firstWork, limitedCall}
+use Rattle.calls.specs.Calls.{Lent, called, refusalOf, leaving, marksOf}
+use Rattle.calls.specs.Limited.{firstWork, limitedCall}
 use Rattle.search.specs.InnerSearching.{endedUnless, searchedSays, searched}
 use Rattle.search.proofs.Works.{first-work}
 

@@ -18,8 +18,8 @@ use Rattle.search.specs.declared.Limit.{Limit}
 use Rattle.search.specs.declared.Limit.the-variants.{Unlimited, Trials}
 use Rattle.search.specs.declared.Searched.{Searched}
 use Rattle.search.specs.Answers.{soughtIf}
-use Rattle.search.specs.Calls.{Lent, Called, called, leaving, answerOf, marksOf}
-use Rattle.search.specs.InnerSearching.{answered, workOf, endedUnless, searchedSays, saidUnder, foundUnder, searched}
+use Rattle.calls.specs.Calls.{Lent, Called, called, leaving, answerOf, marksOf}
+use Rattle.search.specs.InnerSearching.{answered, endedUnless, searchedSays, saidUnder, foundUnder, searched, workOf}
 use Rattle.search.proofs.Works.{work-finds}
 
 -- Where no work is done there is nothing, whatever the limit.

@@ -17,7 +17,7 @@ use Rattle.semigroups.proofs.Turned.{turned-front, turned-accepted}
 use Rattle.candidates.proofs.Marks.{scratch-same}
 use Rattle.backtrack.specs.InnerState.{bounded}
 use Rattle.search.specs.declared.Limit.{Limit}
-use Rattle.search.specs.Calls.{lend, called}
+use Rattle.calls.specs.Calls.{lend, called}
 use Rattle.search.specs.InnerSearching.{saidUnder, foundUnder, searched}
 use Rattle.search.proofs.Works.{same-candidate, turned-work}
 

@@ -24,10 +24,10 @@ use Rattle.semigroups.proofs.Candidates.{index-period-sound, profile-sound, mar
 use Rattle.semigroups.proofs.Search.{search-earliest}
 use Rattle.semigroups.proofs.Trials.{search-first, counted-finds, counted-same, counted-agrees}
 use Rattle.backtrack.specs.InnerState.{bounded}
-use Rattle.search.specs.Calls.{Lent}
-use Rattle.search.specs.InnerSearching.{workOf, markedWork}
-use Rattle.search.specs.Kinds.{orderFits}
-use Rattle.search.specs.Limited.{readBy, firstWork}
+use Rattle.search.specs.InnerSearching.{markedWork, workOf}
+use Rattle.calls.specs.Kinds.{orderFits}
+use Rattle.calls.specs.Limited.{readBy, firstWork}
+use Rattle.calls.specs.Calls.{Lent}
 
 -- ---- where the orders rule a map out
 

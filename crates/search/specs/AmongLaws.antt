@@ -17,9 +17,9 @@ use Rattle.semigroups.specs.Calls.{refused, gives}
 use Rattle.semigroups.specs.MapsLaws.{Embedding}
 use Rattle.semigroups.specs.Maps.{embeddings, Ask, first, next, found, nothing}
 use Rattle.semigroups.specs.Cases.{left}
-use Rattle.search.specs.Calls.{Lent, lend, called, call}
+use Rattle.calls.specs.Calls.{Lent, lend, called, call}
 use Rattle.search.specs.WantedLaws.{Passes, Wanted}
-use Rattle.search.specs.Among.{refusalAmong, callAmong}
+use Rattle.calls.specs.Among.{refusalAmong, callAmong}
 
 -- What passes the questions: what a search needs, and at least the bytes of pairs that m × n bits take.
 pub record PassesAmong (pairs : List ℕ) (l : Lent) : Type 0 where

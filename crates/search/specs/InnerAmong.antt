@@ -5,8 +5,8 @@ use Prim.Native.Nat.{ℕ}
 use Rattle.semigroups.specs.Questions.{Refusal}
 use Rattle.semigroups.specs.Calls.{Answer}
 use Rattle.semigroups.specs.Maps.{Ask, Sought, sought}
-use Rattle.search.specs.Calls.{Lent, Called, leaving}
-use Rattle.search.specs.Among.{answerAmong, marksAmong}
+use Rattle.calls.specs.Calls.{Lent, Called, leaving}
+use Rattle.calls.specs.Among.{answerAmong, marksAmong}
 
 -- What a call says and leaves, from its refusal and the embedding asked for.
 abbrev pub leavingAmong : List ℕ → Lent → Option Refusal → Option (List ℕ) → Called (Answer Sought)

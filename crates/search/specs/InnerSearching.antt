@@ -12,10 +12,10 @@ use Rattle.semigroups.specs.Scratch.{marked}
 use Rattle.semigroups.specs.Trials.{Work, work, Limited, stopped, ended, limited, foundWithin}
 use Rattle.semigroups.specs.InnerTrials.{counted}
 use Rattle.backtrack.specs.InnerState.{bounded}
-use Rattle.search.specs.Calls.{Lent, Called, leaving, marksOf, answerOf}
+use Rattle.calls.specs.Calls.{Lent, Called, leaving, answerOf, marksOf}
 use Rattle.search.specs.Answers.{soughtIf}
-use Rattle.search.specs.Kinds.{orderFits}
-use Rattle.search.specs.Limited.{readBy}
+use Rattle.calls.specs.Kinds.{orderFits}
+use Rattle.calls.specs.Limited.{readBy}
 use Rattle.search.specs.declared.Limit.{Limit}
 use Rattle.search.specs.declared.Limit.the-variants.{Unlimited, Trials}
 use Rattle.search.specs.declared.Searched.{Searched}

@@ -1,9 +1,4 @@
-pub mod Kinds
-pub mod Calls
 pub mod Answers
-pub mod Limited
-pub mod Allowed
-pub mod Among
 pub mod WantedLaws
 pub mod AmongLaws
 pub mod InnerAmong

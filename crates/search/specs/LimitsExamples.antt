@@ -8,8 +8,8 @@ use Rattle.semigroups.specs.Calls.{gives}
 use Rattle.semigroups.specs.Maps.{embeddings, isomorphisms, reversed, found, nothing}
 use Rattle.semigroups.specs.Trials.{work, stopped, ended}
 use Rattle.semigroups.specs.Cases.{swap, left, right, two}
-use Rattle.search.specs.Calls.{Lent, lend}
-use Rattle.search.specs.Limited.{firstWork, limitedCall}
+use Rattle.calls.specs.Calls.{Lent, lend}
+use Rattle.calls.specs.Limited.{firstWork, limitedCall}
 
 -- The search from swap to the degree 2 table takes four trials to the map `2,3`; in the other direction the orders rule a map out.
 abbrev pub swapInTwo : Lent

@@ -9,10 +9,10 @@ use Rattle.semigroups.specs.Questions.{Refusal}
 use Rattle.semigroups.specs.Calls.{Answer, refused, gives}
 use Rattle.semigroups.specs.Maps.{Kind, first, Sought, nothing}
 use Rattle.semigroups.specs.Trials.{Limited, stopped, ended}
-use Rattle.search.specs.Calls.{Lent, refusalOf, call}
+use Rattle.calls.specs.Calls.{Lent, refusalOf, call}
 use Rattle.search.specs.WantedLaws.{Passes}
-use Rattle.search.specs.Kinds.{orderFits}
-use Rattle.search.specs.Limited.{firstWork, limitedCall}
+use Rattle.calls.specs.Kinds.{orderFits}
+use Rattle.calls.specs.Limited.{firstWork, limitedCall}
 
 -- The answer of a search, with the number of trials.
 abbrev pub afterTrials : ℕ → Answer Sought → Answer Limited

@@ -14,7 +14,7 @@ use Rattle.semigroups.specs.MapsLaws.{Isomorphism}
 use Rattle.semigroups.specs.Maps.{isomorphisms, maps, next}
 use Rattle.semigroups.specs.IsomorphismsLaws.{IsGroup, EachOnce}
 use Rattle.semigroups.specs.WalksLaws.{Outcome, held, walk, claim, answered, finally}
-use Rattle.search.specs.Calls.{Lent, call}
+use Rattle.calls.specs.Calls.{Lent, call}
 use Rattle.search.specs.WantedLaws.{Passes}
 
 -- What a call of a walk lends besides the map buffer.

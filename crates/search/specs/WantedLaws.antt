@@ -10,7 +10,7 @@ use Rattle.semigroups.specs.Tables.{product}
 use Rattle.semigroups.specs.Maps.{Kind, Ask, first, next}
 use Rattle.semigroups.specs.MapsLaws.{IsMap}
 use Rattle.semigroups.specs.PassingLaws.{SearchPasses}
-use Rattle.search.specs.Calls.{Lent, lend, call}
+use Rattle.calls.specs.Calls.{Lent, lend, call}
 
 -- What passes the questions: two accepted tables, a map buffer of m bytes and a scratch buffer that is long enough.
 abbrev pub Passes : Lent → Type 0

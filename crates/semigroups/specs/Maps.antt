@@ -11,7 +11,7 @@ use Rattle.semigroups.specs.Lists.{elements, at, all, find, keep, distin
 use Rattle.semigroups.specs.Tables.{Product, turned, isElement}
 
 module _ (m : ℕ) (s : Product) (n : ℕ) (t : Product) where
-  -- Whether the image of i·j is the image of i times the image of j, for all elements i and j.
+  -- Whether f has m entries, each 1 to n, and the image of i·j is the image of i times the image of j, for all elements i and j.
   unfoldable pub isHomomorphism : List ℕ → Bool
   isHomomorphism f =
       let products = all (λ i. all (λ j. eqb (at f (s i j)) (t (at f i) (at f j))) (elements m)) (elements m) in

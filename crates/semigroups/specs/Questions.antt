@@ -20,10 +20,11 @@ pub record Question : Type 0 where
   pub side : ℕ
   pub fails : Option (List ℕ)
 
--- A question that carries nothing, and one that carries the values found.
+-- The question with this number whose "no" carries nothing.
 abbrev pub ask : ℕ → Bool → Question
 ask number passes = record { number = number; side = 0; fails = cond passes none (some []) }
 
+-- The question with this number whose "no" carries the values found.
 abbrev pub seek : ℕ → Option (List ℕ) → Question
 seek number found = record { number = number; side = 0; fails = found }
 

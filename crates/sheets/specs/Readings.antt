@@ -12,7 +12,8 @@ pub record BeginsSheet (p : List ℕ) : Type 0 where
   pub rest : List ℕ
   pub passes : IsSheet (p ++ rest)
 
--- "The offending place is the length of the longest beginning of the text that some text passing 40 starts with, whatever its numbers and names."
+-- k is the offending place (RULES 20.8): "the length of the longest beginning of the text that some text passing 40 starts with, whatever its numbers and
+-- names".
 pub record Offending (t : List ℕ) (k : ℕ) : Type 0 where
   pub within : k ≤ length t
   pub begins : BeginsSheet (take k t)

@@ -1,9 +1,15 @@
--- A "no" and the refusals of a table are brief. Assumes nothing.
+-- A "no" and the refusals of a table are brief; a number is said as it is, and a "no" with its number and values. Assumes nothing.
+use mathlib.Core.Path.{_≡_, refl}
+use mathlib.Core.List.{[], _∷_}
+use Prim.Native.Nat.{ℕ}
 use native.Mathlib.Omega.{arith}
-use Rattle.tables.specs.Answers.{noRefusal, faultRefusal}
+use Rattle.semigroups.specs.QuestionsLaws.{no}
+use Rattle.semigroups.specs.Calls.{refused, gives}
+use Rattle.tables.specs.Answers.{noRefusal, faultRefusal, numberedSays}
 use Rattle.tables.specs.AnswersLaws.{Brief}
 use Rattle.tables.specs.declared.No.{No}
 use Rattle.tables.specs.declared.No.the-variants.{Bare, With, Triple as NoTriple}
+use Rattle.tables.specs.declared.Numbered.the-variants.{Number, Refused}
 use Rattle.tables.specs.declared.Fault.{Fault}
 use Rattle.tables.specs.declared.Fault.the-variants.{Order, Size, Cell, Triple}
 
@@ -17,3 +23,6 @@ fault-brief Order = omega arith
 fault-brief Size = omega arith
 fault-brief (Cell k) = omega arith
 fault-brief (Triple i j k) = omega arith
+
+pub numbered-said : (x number value : ℕ) → (numberedSays (Number x) ≡ gives x) × (numberedSays (Refused (With number value)) ≡ refused (no number (value ∷ [])))
+numbered-said x number value = (refl, refl)

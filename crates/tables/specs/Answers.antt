@@ -21,7 +21,7 @@ use Rattle.tables.specs.declared.PairVerdict.{PairVerdict}
 use Rattle.tables.specs.declared.PairVerdict.the-variants as pair
 use Rattle.tables.specs.declared.Refusal.{Refusal as Numbers}
 use Rattle.tables.specs.declared.Place.{Place}
-use Rattle.tables.specs.declared.Place.the-variants.{At, Nowhere}
+use Rattle.tables.specs.declared.Place.the-variants.{At, Nothing}
 
 -- The refusal of each fault: 1 and 2 carry nothing, 3 carries the cell, 4 the triple.
 abbrev pub faultRefusal : Fault → Refusal
@@ -59,7 +59,7 @@ pairRefusal (pair.Refused side fault) = some (naming (sideNumber side) (faultRef
 -- The place, or none.
 abbrev pub placeOption : Place → Option ℕ
 placeOption (At k) = some k
-placeOption Nowhere = none
+placeOption Nothing = none
 
 -- ---- refusals as numbers
 

@@ -12,12 +12,14 @@ ghost use Rattle.tables.specs.InnerChoice.{FoundProducts, RarestOrNone, 
 use crate::Place;
 use crate::counts::frequencies;
 use crate::failing_third;
+use crate::limits::ORDER;
+use crate::limits::PLACES;
 use crate::times;
 
 // ---- elements found one by one
 
 // Adds x to the elements found unless it is among them. Returns how many there are.
-pub fn add(found: &mut [u8; 120], marks: &mut [u8; 121], count: usize, x: usize) -> usize
+pub fn add(found: &mut [u8; ORDER], marks: &mut [u8; PLACES], count: usize, x: usize) -> usize
     requires { ⌜ Found (take count (now found)) (now found) (now marks) count ⌝ ∗ ⌜ Element largestOrder x ⌝ }
     ensures found { λ r. ⌜ Found (adding (take count (now (found .entry))) x) (now (found .exit)) (now (marks .exit)) r ⌝ }
 {
@@ -35,8 +37,8 @@ fn multiply_right(
     n: usize,
     list: &[u8],
     from: usize,
-    found: &mut [u8; 120],
-    marks: &mut [u8; 121],
+    found: &mut [u8; ORDER],
+    marks: &mut [u8; PLACES],
     count: usize,
     place: usize,
 ) -> usize
@@ -61,8 +63,8 @@ fn reach(
     cells: &[u8],
     n: usize,
     list: &[u8],
-    found: &mut [u8; 120],
-    marks: &mut [u8; 121],
+    found: &mut [u8; ORDER],
+    marks: &mut [u8; PLACES],
     count: usize,
 ) -> usize
     requires { ⌜ Filled n (now cells) ⌝ ∗ ⌜ Inside n (now list) ⌝ ∗ ⌜ 1 ≤ length (now list) ⌝ ∗ ⌜ FoundProducts (product n (now cells)) (take (length (now list) - 1) (now list)) (now found) (now marks) count ⌝ }
@@ -86,7 +88,7 @@ fn reach(
 // ---- the choice of generators
 
 // Returns the rarest element that has no mark, and of those the smallest; or 0 if all have one. The count of element a stands at place a - 1.
-fn rarest(counts: &[u16; 120], marks: &[u8; 121], n: usize) -> usize
+fn rarest(counts: &[u16; ORDER], marks: &[u8; PLACES], n: usize) -> usize
     requires { ⌜ n ≤ largestOrder ⌝ }
     ensures rarest { λ r. ⌜ RarestOrNone n (λ x. getD (now (counts .entry)) (x - 1) 0) (λ x. getD (now (marks .entry)) x 0 ≡ 0) r ⌝ }
 {
@@ -119,8 +121,8 @@ fn choose(cells: &[u8], n: usize) -> Generators
 {
     let counts = frequencies(cells, n);
     let mut list = [0u8; 30];
-    let mut found = [0u8; 120];
-    let mut marks = [0u8; 121];
+    let mut found = [0u8; ORDER];
+    let mut marks = [0u8; PLACES];
     let mut count: usize = 0;
     let mut k: usize = 0;
     let mut x = rarest(&counts, &marks, n);

@@ -66,7 +66,7 @@ pub enum PairVerdict {
 // The place of something, counted from 1; or none.
 pub enum Place {
     At(usize),
-    Nowhere,
+    Nothing,
 }
 
 // ---- refusals as numbers
@@ -177,7 +177,7 @@ pub fn outside(cells: &[u8], n: usize) -> Place
         }
         place += 1;
     }
-    Place::Nowhere
+    Place::Nothing
 }
 
 // Returns the first k for which (i·j)·k = i·(j·k) does not hold, or none.
@@ -194,7 +194,7 @@ pub fn failing_third(cells: &[u8], n: usize, i: usize, j: usize) -> Place
         }
         k += 1;
     }
-    Place::Nowhere
+    Place::Nothing
 }
 
 // Returns the first triple for which (i·j)·k = i·(j·k) does not hold, if there is one.
@@ -251,7 +251,7 @@ pub fn check_cells(cells: &[u8], n: usize) -> Verdict
     }
     match outside(cells, n) {
         Place::At(cell) => Verdict::Refused(Fault::Cell(cell)),
-        Place::Nowhere => Verdict::Accepted,
+        Place::Nothing => Verdict::Accepted,
     }
 }
 

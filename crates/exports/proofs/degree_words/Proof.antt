@@ -2,7 +2,7 @@
 -- Assumes nothing.
 use Rattle.tables.specs.Answers.{noRefusal}
 use Rattle.tables.proofs.Refusals.{no-brief}
-use Rattle.exports.proofs.Values.{refusal-said}
+use Rattle.words.proofs.Values.{refusal-said}
 use borrow.Author.Needs.{needs}
 use Rattle.exports.proofs.degree_words.Statement.{statement}
 use Rattle.exports.proofs.degree_words.Tie as tie

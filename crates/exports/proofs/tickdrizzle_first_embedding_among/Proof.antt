@@ -1,8 +1,8 @@
 -- `tickdrizzle_first_embedding_among` meets its contract: it writes what `search::first_among` answers, and both buffers are as that leaves them.
 -- Assumes nothing.
 use borrow.Author.Needs.{needs}
-use Rattle.exports.specs.Numbers.{soughtValues}
-use Rattle.exports.proofs.Values.{words-left}
+use Rattle.numbers.specs.Numbers.{soughtValues}
+use Rattle.numbers.proofs.Returned.{words-left}
 use Rattle.exports.proofs.tickdrizzle_first_embedding_among.Statement.{statement}
 use Rattle.exports.proofs.tickdrizzle_first_embedding_among.Tie as tie
 

@@ -1,6 +1,6 @@
 -- `find` meets its contract: without a limit the search finds the map asked for. Assumes nothing.
 use Rattle.search.specs.Answers.{kindOf}
-use Rattle.search.specs.Calls.{lend}
+use Rattle.calls.specs.Calls.{lend}
 use Rattle.search.proofs.Searching.{as-answered}
 use borrow.Author.Needs.{needs}
 use Rattle.search.proofs.find.Statement.{statement}

@@ -4,7 +4,7 @@ use mathlib.Core.Bool.{false}
 use mathlib.Core.Option.{none}
 use Rattle.semigroups.specs.Tables.{product}
 use Rattle.backtrack.specs.InnerState.{bounded}
-use Rattle.search.specs.Calls.{Lent, lend}
+use Rattle.calls.specs.Calls.{Lent, lend}
 use Rattle.search.proofs.Allowed.{work-allowed, allowed-none}
 use Rattle.search.proofs.Among.{as-answered-among}
 use borrow.Author.Needs.{needs}

@@ -1,8 +1,8 @@
 -- `order_fits` meets its contract: each kind has its own test. Assumes nothing.
 use mathlib.Core.Path.{ap, sym}
 use mathlib.Core.Bool.{Bool}
+use Rattle.calls.specs.Kinds.{orderFits}
 use Rattle.semigroups.specs.InnerSearch.{plainKind}
-use Rattle.search.specs.Kinds.{orderFits}
 use Rattle.search.proofs.order_fits.Statement.{statement}
 use Rattle.search.proofs.order_fits.Tie as tie
 

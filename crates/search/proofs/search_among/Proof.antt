@@ -3,8 +3,8 @@ use mathlib.Core.Path.{_≡_, sym, ap, _∙_}
 use mathlib.Core.Option.{none}
 use denote.Ref.{now}
 use borrow.Author.Tests.{not-true, not-false}
-use Rattle.search.specs.Calls.{Lent, lend}
-use Rattle.search.specs.Among.{refusalAmong}
+use Rattle.calls.specs.Calls.{Lent, lend}
+use Rattle.calls.specs.Among.{refusalAmong}
 use Rattle.search.specs.Answers.{questionsRefusal}
 use Rattle.search.proofs.Among.{stands-among, refused-among, passing-among}
 use borrow.Author.Needs.{needs}

@@ -5,7 +5,7 @@ use Rattle.semigroups.specs.Trials.{Limited}
 use Rattle.semigroups.specs.Maps as maps
 use Rattle.search.specs.Answers.{kindOf}
 use Rattle.search.specs.declared.Kind.{Kind}
-use Rattle.search.specs.Calls.{Called, lend}
+use Rattle.calls.specs.Calls.{Called, lend}
 use Rattle.search.specs.InnerSearching.{searched}
 use borrow.Author.Needs.{needs}
 use Rattle.search.proofs.search_kind.Statement.{statement}

@@ -10,8 +10,8 @@ use Rattle.semigroups.specs.InnerSearch.{plainKind}
 use Rattle.semigroups.specs.Maps.{Sought}
 use Rattle.semigroups.specs.Trials.{work, ended}
 use Rattle.backtrack.specs.InnerState.{bounded}
-use Rattle.search.specs.Kinds.{orderFits}
-use Rattle.search.specs.Calls.{Lent, lend}
+use Rattle.calls.specs.Kinds.{orderFits}
+use Rattle.calls.specs.Calls.{Lent, lend}
 use Rattle.search.proofs.Searching.{no-work, as-searched}
 use Rattle.search.proofs.Works.{work-unfit, work-marked}
 use Rattle.search.proofs.search_straight.Statement.{statement}

@@ -7,7 +7,7 @@ use borrow.Author.Needs.{needs}
 use denote.Ref.{now}
 use lib.ListN.{length}
 use Rattle.semigroups.specs.Maps.{isomorphisms}
-use Rattle.search.specs.Calls.{lend}
+use Rattle.calls.specs.Calls.{lend}
 use Rattle.search.specs.InnerSearching.{searched}
 use Rattle.search.proofs.Turned.{turned-call, turned-part, part-accepted, part-length}
 use Rattle.search.proofs.search_turned.Statement.{statement}

@@ -11,7 +11,7 @@ use Rattle.semigroups.specs.InnerCalls.{scratchAfter}
 use Rattle.semigroups.specs.Invariants.{power, periodFrom, index, period, indexPeriod, sameIndexPeriod}
 use Rattle.semigroups.specs.Candidates.{candidate}
 use Rattle.semigroups.specs.Maps.{isHomomorphism, isEmbedding, maps, earliest}
-use Rattle.search.specs.Calls.{call}
+use Rattle.calls.specs.Calls.{call}
 use Rattle.semigroups.specs.Copies.{sameList}
 use Rattle.cases.specs.InnerEmbedded.{embeddedTally}
 use Rattle.judging.specs.InnerTally.{empty, agreed}

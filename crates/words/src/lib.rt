@@ -1,0 +1,155 @@
+// The answers of the library as sixteen numbers, for programs in C and Rust: the number of the earliest failed question, or 0; the side that a refusal names,
+// 1 for source or 2 for target, or 0; then the values of the answer, and zeros.
+ghost use mathlib.Core.Path.{_≡_};
+ghost use Prim.Native.Nat.{_≤_};
+ghost use lib.ListN.{length};
+ghost use Rattle.tables.specs.Answers.{verdictRefusal, numberedSays};
+ghost use Rattle.invariants.specs.Answers.{indexPeriodSays, profileSays};
+ghost use Rattle.maps.specs.Answers.{mapAnswerSays};
+ghost use Rattle.generated.specs.Answers.{generatorsVerdictRefusal};
+ghost use Rattle.copies.specs.Answers.{copiesAnswerSays};
+ghost use Rattle.search.specs.Answers.{searchAnswerSays, limitedAnswerSays};
+ghost use Rattle.numbers.specs.Words.{words};
+ghost use Rattle.words.specs.Answers.{numbersWords};
+ghost use Rattle.numbers.specs.Numbers.{questionWords, answerWords, indexPeriodValues, profileValues, checkedValues, soughtValues, limitedValues, numberValues, copiesValues};
+use copies::CopiesAnswer;
+use generated::GeneratorsVerdict;
+use invariants::IndexPeriodAnswer;
+use invariants::ProfileAnswer;
+use maps::MapAnswer;
+use search::LimitedAnswer;
+use search::SearchAnswer;
+use tables::Numbered;
+use tables::Refusal;
+use tables::Verdict;
+
+// Returns the number, the side and the values, then zeros.
+pub fn words(number: usize, side: usize, values: &[usize]) -> [u64; 16]
+    requires few { ⌜ length (now values) ≤ 14 ⌝ }
+    ensures answer { λ r. ⌜ r ≡ words number side (now (values .entry)) ⌝ }
+{
+    let mut answer = [0u64; 16];
+    answer[0] = number as u64;
+    answer[1] = side as u64;
+    let mut i: usize = 0;
+    while i < values.len() {
+        answer[i + 2] = values[i] as u64;
+        i += 1;
+    }
+    answer
+}
+
+// Returns the sixteen numbers of a refusal.
+pub fn refusal_words(refusal: Refusal) -> [u64; 16]
+    ensures answer { λ r. ⌜ r ≡ numbersWords refusal ⌝ }
+{
+    let values = [refusal.first, refusal.second, refusal.third];
+    words(refusal.number, refusal.side, &values)
+}
+
+pub fn verdict_words(verdict: Verdict) -> [u64; 16]
+    ensures answer { λ r. ⌜ r ≡ questionWords (verdictRefusal verdict) ⌝ }
+{
+    match verdict {
+        Verdict::Accepted => [0; 16],
+        Verdict::Refused(fault) => refusal_words(fault.refusal()),
+    }
+}
+
+pub fn index_period_words(said: IndexPeriodAnswer) -> [u64; 16]
+    ensures answer { λ r. ⌜ r ≡ answerWords indexPeriodValues (indexPeriodSays said) ⌝ }
+{
+    match said {
+        IndexPeriodAnswer::Value(powers) => words(
+            0,
+            0,
+            &[powers.index, powers.period, powers.idempotent],
+        ),
+        IndexPeriodAnswer::Refused(no) => refusal_words(no.refusal()),
+    }
+}
+
+pub fn profile_words(said: ProfileAnswer) -> [u64; 16]
+    ensures answer { λ r. ⌜ r ≡ answerWords profileValues (profileSays said) ⌝ }
+{
+    match said {
+        ProfileAnswer::Value(p) => words(
+            0,
+            0,
+            &[
+                p.powers.index,
+                p.powers.period,
+                p.powers.idempotent,
+                p.frequency,
+                p.diagonal,
+                p.row,
+                p.column,
+                p.commuting,
+            ],
+        ),
+        ProfileAnswer::Refused(no) => refusal_words(no.refusal()),
+    }
+}
+
+pub fn map_words(said: MapAnswer) -> [u64; 16]
+    ensures answer { λ r. ⌜ r ≡ answerWords checkedValues (mapAnswerSays said) ⌝ }
+{
+    match said {
+        MapAnswer::Refused(side, fault) => refusal_words(fault.refusal().naming(side)),
+        MapAnswer::MapLength => refusal_words(Refusal::by(5, 0)),
+        MapAnswer::Holds => words(0, 0, &[0]),
+        MapAnswer::Outside(i) => words(0, 0, &[1, i]),
+        MapAnswer::EqualImages(i, j) => words(0, 0, &[2, i, j]),
+        MapAnswer::WrongProduct(i, j) => words(0, 0, &[3, i, j]),
+    }
+}
+
+pub fn generators_words(verdict: GeneratorsVerdict) -> [u64; 16]
+    ensures answer { λ r. ⌜ r ≡ questionWords (generatorsVerdictRefusal verdict) ⌝ }
+{
+    match verdict {
+        GeneratorsVerdict::Accepted => [0; 16],
+        GeneratorsVerdict::Refused(fault) => refusal_words(fault.refusal()),
+    }
+}
+
+pub fn search_words(said: SearchAnswer) -> [u64; 16]
+    ensures answer { λ r. ⌜ r ≡ answerWords soughtValues (searchAnswerSays said) ⌝ }
+{
+    match said {
+        SearchAnswer::Found => words(0, 0, &[1]),
+        SearchAnswer::Nothing => words(0, 0, &[0]),
+        SearchAnswer::Refused(fault) => refusal_words(fault.refusal()),
+    }
+}
+
+pub fn limited_words(said: LimitedAnswer) -> [u64; 16]
+    ensures answer { λ r. ⌜ r ≡ answerWords limitedValues (limitedAnswerSays said) ⌝ }
+{
+    match said {
+        LimitedAnswer::Found(trials) => words(0, 0, &[1, trials as usize]),
+        LimitedAnswer::Nothing(trials) => words(0, 0, &[0, trials as usize]),
+        LimitedAnswer::Stopped => words(0, 0, &[2]),
+        LimitedAnswer::Refused(fault) => refusal_words(fault.refusal()),
+    }
+}
+
+pub fn numbered_words(said: Numbered) -> [u64; 16]
+    ensures answer { λ r. ⌜ r ≡ answerWords numberValues (numberedSays said) ⌝ }
+{
+    match said {
+        Numbered::Number(x) => words(0, 0, &[x]),
+        Numbered::Refused(no) => refusal_words(no.refusal()),
+    }
+}
+
+pub fn copies_words(said: CopiesAnswer) -> [u64; 16]
+    ensures answer { λ r. ⌜ r ≡ answerWords copiesValues (copiesAnswerSays said) ⌝ }
+{
+    match said {
+        CopiesAnswer::Number(k) => words(0, 0, &[0, k]),
+        CopiesAnswer::More => words(0, 0, &[1]),
+        CopiesAnswer::Refused(side, fault) => refusal_words(fault.refusal().naming(side)),
+        CopiesAnswer::ScratchLength => refusal_words(Refusal::by(6, 0)),
+    }
+}
