@@ -13,7 +13,8 @@ use Rattle.semigroups.specs.Lists.{range, elements, all, member}
 use Rattle.semigroups.specs.Tables.{Product, Element}
 use Rattle.semigroups.specs.TablesLaws.{Closed}
 use Rattle.semigroups.specs.Scratch.{scratchSize, marked}
-use Rattle.semigroups.specs.Trials.{passes, Work, work, counted}
+use Rattle.semigroups.specs.Trials.{passes, Work, work}
+use Rattle.semigroups.specs.InnerTrials.{counted}
 use Rattle.semigroups.proofs.Booleans.{and-left, and-right}
 use Rattle.semigroups.proofs.Candidates.{size-rows}
 use Rattle.backtrack.specs.declared.Partial.{Partial}
@@ -169,18 +170,18 @@ module _ {s : Product} {m : ℕ} {t : Product} {n : ℕ} {scratch after : List �
       ∙ ap₂ _&&_ (ap (λ (k : ℕ). leb k x) low-here)
       (ap₂ _&&_ used-here (ap (λ (k : ℕ). marked n scratch k x) (add-one (p .len) ∙ ap suc (sym (long s m t n scratch after tight p (T .ready))))))
 
-  -- The answer so far, and what is left of it behind x.
+  -- The answer so far, and what is left of it after x.
   abbrev Answer : Remainder
   Answer = within limit (Ahead s m t n scratch after tight p)
 
-  abbrev Behind : Work
-  Behind = Rest s m t n scratch after tight p (x + 1)
+  abbrev Following : Work
+  Following = Rest s m t n scratch after tight p (x + 1)
 
-  pub skip : o ≡ false → Answer ≡ within left Behind
+  pub skip : o ≡ false → Answer ≡ within left Following
   skip h =
       T .so-far
       ∙ ap (within left) (shut s t (marked n scratch) n after (prefix p) tight kept d shorter x (T .element .0) (sym open-is ∙ h) (T .element .1))
-      ∙ within-skip left Behind
+      ∙ within-skip left Following
 
   -- x is open: it is a trial.
   module _ (h : o ≡ true) where
@@ -196,16 +197,16 @@ module _ {s : Product} {m : ℕ} {t : Product} {n : ℕ} {scratch after : List �
     stop e =
         ap outcomeOf (sym (T .so-far
         ∙ ap (within left) (opened s t (marked n scratch) n after (prefix p) tight kept d shorter x (T .element .0) (sym open-is ∙ h) (T .element .1))
-        ∙ within-unpaid left (tested s t (marked n scratch) n after (prefix p) tight kept d shorter x (T .element .0)) Behind e))
+        ∙ within-unpaid left (tested s t (marked n scratch) n after (prefix p) tight kept d shorter x (T .element .0)) Following e))
 
     -- It is paid for, and `rest` trials are left.
     module _ (rest : ℕ) (paid : remaining rest none ≡ within left (work none 1)) where
-      pub refuse : passes s t longer ≡ false → Answer ≡ within rest Behind
+      pub refuse : passes s t longer ≡ false → Answer ≡ within rest Following
       refuse f =
           T .so-far
           ∙ ap (within left) (fails s t (marked n scratch) n after (prefix p) tight kept d shorter x (T .element .0) (sym open-is ∙ h) f (T .element .1))
-          ∙ within-paid left (work none 0) Behind rest paid
-          ∙ ap (λ (r : Remainder). resumed r (λ i. within i Behind)) (within-nothing rest none)
+          ∙ within-paid left (work none 0) Following rest paid
+          ∙ ap (λ (r : Remainder). resumed r (λ i. within i Following)) (within-nothing rest none)
 
       -- The test said whether the list passes, and it did.
       module _ (r q : Partial) (b : Bool) (v : Verdict s t p x r q b) (passed : b ≡ true) where
@@ -241,18 +242,18 @@ module _ {s : Product} {m : ℕ} {t : Product} {n : ℕ} {scratch after : List �
             ap (λ (k : ℕ). counted s t (marked n scratch) (bounded (eqb x k) after) n (m - q .len) (prefix q)) low-here
             ∙ ap₂ (λ (i : ℕ) (l : List ℕ). counted s t (marked n scratch) (bounded (eqb x (lowest tight after (length (prefix p)))) after) n i l) (let e : m - q .len ≡ d = omega arith in e) eq
 
-        resumes : Answer ≡ resumed Inner (λ i. within i Behind)
+        resumes : Answer ≡ resumed Inner (λ i. within i Following)
         resumes =
             T .so-far
             ∙ ap (within left) (goes s t (marked n scratch) n after (prefix p) tight kept d shorter x (T .element .0) (sym open-is ∙ h) pass (T .element .1))
-            ∙ within-paid left (counted s t (marked n scratch) (bounded (eqb x (lowest tight after (length (prefix p)))) after) n d longer) Behind rest paid
-            ∙ ap (λ (w : Work). resumed (within rest w) (λ i. within i Behind)) (sym inner)
+            ∙ within-paid left (counted s t (marked n scratch) (bounded (eqb x (lowest tight after (length (prefix p)))) after) n d longer) Following rest paid
+            ∙ ap (λ (w : Work). resumed (within rest w) (λ i. within i Following)) (sym inner)
 
         pub halt : outcomeOf Inner .stopped ≡ true → outcomeOf Inner ≡ outcomeOf Answer
-        halt e = ap outcomeOf (sym (resumes ∙ over-stopped (λ i. within i Behind) Inner e))
+        halt e = ap outcomeOf (sym (resumes ∙ over-stopped (λ i. within i Following) Inner e))
 
         pub found : outcomeOf Inner .ok ≡ true → outcomeOf Inner ≡ outcomeOf Answer
-        found e = ap outcomeOf (sym (resumes ∙ over-found (λ i. within i Behind) Inner e))
+        found e = ap outcomeOf (sym (resumes ∙ over-found (λ i. within i Following) Inner e))
 
-        pub fail : outcomeOf Inner .stopped ≡ false → outcomeOf Inner .ok ≡ false → Answer ≡ within (outcomeOf Inner .left) Behind
-        fail e f = resumes ∙ not-over (λ i. within i Behind) Inner e f
+        pub fail : outcomeOf Inner .stopped ≡ false → outcomeOf Inner .ok ≡ false → Answer ≡ within (outcomeOf Inner .left) Following
+        fail e f = resumes ∙ not-over (λ i. within i Following) Inner e f

@@ -7,7 +7,8 @@ use Prim.Native.Nat.{ℕ, _+_, _-_, _≤_, _<_}
 use native.Mathlib.Omega.{arith}
 use borrow.Author.Tests.{leb-true, leb-false, le-leb, lt-leb}
 use lib.Dec.{leb}
-use Rattle.semigroups.specs.Trials.{Work, work, followed, andThen}
+use Rattle.semigroups.specs.Trials.{Work, work, followed}
+use Rattle.semigroups.specs.InnerTrials.{andThen}
 use Rattle.semigroups.proofs.Booleans.{same-truth}
 use Rattle.backtrack.specs.InnerState.{foundIn, Remainder, exhausted, remaining, within, outcomeOf}
 

@@ -14,7 +14,8 @@ use lib.Seq.{split-at, take-suc, take-all}
 use Rattle.semigroups.specs.Lists.{elements, member, earlier}
 use Rattle.semigroups.specs.Tables.{Product}
 use Rattle.semigroups.specs.Maps.{Ask, first, next, beyond}
-use Rattle.semigroups.specs.Trials.{notBefore, passes, Work, work, andThen, tried, workAt, counted}
+use Rattle.semigroups.specs.Trials.{passes, Work, work}
+use Rattle.semigroups.specs.InnerTrials.{notBefore, andThen, tried, workAt, counted}
 use Rattle.semigroups.proofs.Booleans.{and-left, trichotomy}
 use Rattle.semigroups.proofs.ListOrder.{earlier-skip, earlier-above, earlier-head, earlier-tail, earlier-irreflexive}
 use Rattle.semigroups.proofs.Trials.{turnsFrom, turns-same, turns-start, turns-step, turns-end}
@@ -24,7 +25,7 @@ use Rattle.backtrack.specs.InnerState.{bounded}
 abbrev pub lowest : Bool → List ℕ → ℕ → ℕ
 lowest tight after i = cond tight (getD after i 0) 0
 
--- The work at x of the search behind p, where d elements are left to place after x.
+-- The work at x of the search after p, where d elements are left to place after x.
 abbrev searchAt : Product → Product → (ℕ → ℕ → Bool) → Ask → ℕ → ℕ → List ℕ → ℕ → Work
 searchAt s t candidate ask n d p x = workAt s t candidate ask p x (counted s t candidate ask n d (p ++ x ∷ []))
 
@@ -50,10 +51,10 @@ module _ (s t : Product) (candidate : ℕ → ℕ → Bool) (n : ℕ) where
       ∙ ap (workAt s t candidate first (pre ++ x ∷ q) v)
       (ap (counted s t candidate (next (pre ++ y ∷ rest)) n d) (append-assoc pre (x ∷ q) (v ∷ [])) ∙ loose pre y rest x h d (q ++ v ∷ []) ∙ ap (counted s t candidate first n d) (sym (append-assoc pre (x ∷ q) (v ∷ [])))))
     where
-      same : (v : ℕ) (behind : Work) → workAt s t candidate (next (pre ++ y ∷ rest)) (pre ++ x ∷ q) v behind ≡ workAt s t candidate first (pre ++ x ∷ q) v behind
-      same v behind =
+      same : (v : ℕ) (following : Work) → workAt s t candidate (next (pre ++ y ∷ rest)) (pre ++ x ∷ q) v following ≡ workAt s t candidate first (pre ++ x ∷ q) v following
+      same v following =
           unfold workAt tried in
-          ap {B = Work} (λ (b : Bool). cond (candidate (suc (length (pre ++ x ∷ q))) v && (not (member v (pre ++ x ∷ q)) && not b)) (andThen (work none 1) (cond (passes s t ((pre ++ x ∷ q) ++ v ∷ [])) behind (work none 0))) (work none 0))
+          ap {B = Work} (λ (b : Bool). cond (candidate (suc (length (pre ++ x ∷ q))) v && (not (member v (pre ++ x ∷ q)) && not b)) (andThen (work none 1) (cond (passes s t ((pre ++ x ∷ q) ++ v ∷ [])) following (work none 0))) (work none 0))
           (ap (λ (l : List ℕ). earlier l (pre ++ y ∷ rest)) (append-assoc pre (x ∷ q) (v ∷ [])) ∙ earlier-skip pre (x ∷ (q ++ v ∷ [])) (y ∷ rest) ∙ earlier-above x (q ++ v ∷ []) y rest h)
 
   -- ---- one call, where p is placed and `after` bounds it while `tight`
@@ -118,33 +119,33 @@ module _ (s t : Product) (candidate : ℕ → ℕ → Bool) (n : ℕ) where
             ap (λ (b : Bool). candidate (suc (length p)) x && (not (member x p) && b)) late
             ∙ regroup (candidate (suc (length p)) x) (not (member x p)) (leb low x)
 
-        -- What is left at x is the work at x, and behind it what is left at x + 1.
-        abbrev pub behind : Work → Work
-        behind w = andThen w (left (x + 1))
+        -- What is left at x is the work at x, and after it what is left at x + 1.
+        abbrev pub following : Work → Work
+        following w = andThen w (left (x + 1))
 
-        step : x ≤ n → left x ≡ behind (searchAt s t candidate (bounded tight after) n d p x)
+        step : x ≤ n → left x ≡ following (searchAt s t candidate (bounded tight after) n d p x)
         unfolding leftFrom
         step h = turns-step (searchAt s t candidate (bounded tight after) n d p) n x h
 
-        -- The work behind the trial of x: the test decides.
+        -- The work after the trial of x: the test decides.
         abbrev pub tested : Work
         tested = cond (passes s t (p ++ x ∷ [])) (counted s t candidate (bounded tight after) n d (p ++ x ∷ [])) (work none 0)
 
         -- An image that is open is a trial; one that is not open is none.
-        decided : (b : Bool) → isOpen ≡ b → x ≤ n → left x ≡ behind (cond b (andThen (work none 1) tested) (work none 0))
+        decided : (b : Bool) → isOpen ≡ b → x ≤ n → left x ≡ following (cond b (andThen (work none 1) tested) (work none 0))
         unfolding workAt
-        decided b e h = step h ∙ ap (λ (c : Bool). behind (cond c (andThen (work none 1) tested) (work none 0))) (tried-open ∙ e)
+        decided b e h = step h ∙ ap (λ (c : Bool). following (cond c (andThen (work none 1) tested) (work none 0))) (tried-open ∙ e)
 
-        pub shut : isOpen ≡ false → x ≤ n → left x ≡ behind (work none 0)
+        pub shut : isOpen ≡ false → x ≤ n → left x ≡ following (work none 0)
         shut e h = decided false e h
 
-        pub opened : isOpen ≡ true → x ≤ n → left x ≡ behind (andThen (work none 1) tested)
+        pub opened : isOpen ≡ true → x ≤ n → left x ≡ following (andThen (work none 1) tested)
         opened e h = decided true e h
 
-        pub fails : isOpen ≡ true → passes s t (p ++ x ∷ []) ≡ false → x ≤ n → left x ≡ behind (andThen (work none 1) (work none 0))
-        fails o e h = opened o h ∙ ap (λ (b : Bool). behind (andThen (work none 1) (cond b (counted s t candidate (bounded tight after) n d (p ++ x ∷ [])) (work none 0)))) e
+        pub fails : isOpen ≡ true → passes s t (p ++ x ∷ []) ≡ false → x ≤ n → left x ≡ following (andThen (work none 1) (work none 0))
+        fails o e h = opened o h ∙ ap (λ (b : Bool). following (andThen (work none 1) (cond b (counted s t candidate (bounded tight after) n d (p ++ x ∷ [])) (work none 0)))) e
 
-        -- The search behind x is bound on only where x is the bound's own entry.
+        -- The search after x is bound on only where x is the bound's own entry.
         narrowed : low ≤ x → counted s t candidate (bounded tight after) n d (p ++ x ∷ []) ≡ counted s t candidate (bounded (eqb x low) after) n d (p ++ x ∷ [])
         narrowed h = go tight refl h
           where
@@ -158,12 +159,12 @@ module _ (s t : Product) (candidate : ℕ → ℕ → Bool) (n : ℕ) where
             go false e g = ap (λ (b : Bool). counted s t candidate (bounded b after) n d (p ++ x ∷ [])) (sym (ne-eqb x 0 (λ q. let z : ⊥ = omega arith in z)))
             go true e g = bound e (eqb x (getD after (length p) 0)) refl g
 
-        -- Where the list with x passes, the work behind the trial is that of the call for the next element.
-        pub goes : isOpen ≡ true → passes s t (p ++ x ∷ []) ≡ true → x ≤ n → left x ≡ behind (andThen (work none 1) (counted s t candidate (bounded (eqb x low) after) n d (p ++ x ∷ [])))
+        -- Where the list with x passes, the work after the trial is that of the call for the next element.
+        pub goes : isOpen ≡ true → passes s t (p ++ x ∷ []) ≡ true → x ≤ n → left x ≡ following (andThen (work none 1) (counted s t candidate (bounded (eqb x low) after) n d (p ++ x ∷ [])))
         goes o e h =
             opened o h
-            ∙ ap (λ (b : Bool). behind (andThen (work none 1) (cond b (counted s t candidate (bounded tight after) n d (p ++ x ∷ [])) (work none 0)))) e
-            ∙ ap (λ (w : Work). behind (andThen (work none 1) w)) (narrowed (leb-true low x (and-left (leb low x) (not (member x p) && candidate (suc (length p)) x) o)))
+            ∙ ap (λ (b : Bool). following (andThen (work none 1) (cond b (counted s t candidate (bounded tight after) n d (p ++ x ∷ [])) (work none 0)))) e
+            ∙ ap (λ (w : Work). following (andThen (work none 1) w)) (narrowed (leb-true low x (and-left (leb low x) (not (member x p) && candidate (suc (length p)) x) o)))
 
         -- The call for the next element is bound only where it has to be.
         pub still : eqb x low ≡ true → take (suc (length p)) after ≡ p ++ x ∷ []

@@ -9,9 +9,10 @@ ghost use Prim.Native.Nat.{ℕ, _+_, _-_, _≤_, _<_};
 ghost use lib.Dec.{eqb, leb};
 ghost use lib.ListN.{length, getD, take, replicate};
 ghost use Rattle.semigroups.specs.Lists.{member};
-ghost use Rattle.semigroups.specs.Tables.{Product, product, Element, Filled};
+ghost use Rattle.semigroups.specs.Tables.{largestOrder, Product, product, Element, Filled};
 ghost use Rattle.semigroups.specs.Scratch.{scratchSize, marked};
-ghost use Rattle.semigroups.specs.Trials.{passes, work, counted};
+ghost use Rattle.semigroups.specs.Trials.{passes, work};
+ghost use Rattle.semigroups.specs.InnerTrials.{counted};
 ghost use Rattle.constraints.specs.InnerTracking.{Placing, Tracks};
 ghost use Rattle.backtrack.specs.InnerState.{prefix, Holds, Ready, bounded, exhausted, remaining, within, outcomeOf};
 
@@ -53,7 +54,7 @@ struct Paid {
 
 // Returns whether x is at least `low`, unused, and a candidate for element i.
 fn open(used: &[u8; 121], scratch: &[u8], n: usize, i: usize, low: usize, x: usize) -> bool
-    requires { ⌜ Element 120 i × Element n x × (n ≤ 120) ⌝ }
+    requires { ⌜ Element largestOrder i × Element n x × (n ≤ largestOrder) ⌝ }
     requires { ⌜ scratchSize i n ≤ length (now scratch) ⌝ }
     ensures answer { λ r. ⌜ r ≡ (leb low x && (eqb (getD (now (used .entry)) x 0) 0 && marked n (now (scratch .entry)) i x)) ⌝ }
 {
@@ -84,7 +85,7 @@ impl Partial {
     // Returns the map with x as the image of the next element; the constraints do not change.
     fn place(self, n: usize, x: usize) -> Self
         requires { ⌜ Placing n (self .image) (self .used) (self .len) ⌝ }
-        requires { ⌜ Element n x × (n ≤ 120) × (self .len < 120) × (member x (prefix self) ≡ false) ⌝ }
+        requires { ⌜ Element n x × (n ≤ largestOrder) × (self .len < largestOrder) × (member x (prefix self) ≡ false) ⌝ }
         ensures placing { λ r. ⌜ Placing n (r .image) (r .used) (r .len) ⌝ }
         ensures more { λ r. ⌜ (prefix r ≡ prefix self ++ x ∷ []) × (take (self .len) (r .image) ≡ prefix self) × (r .len ≡ self .len + 1) ⌝ }
         ensures constraints { λ r. ⌜ (r .forced ≡ self .forced) × (r .owner ≡ self .owner) ⌝ }

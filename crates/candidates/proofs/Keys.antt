@@ -137,11 +137,11 @@ pub record AllKeys (n : ℕ) (key : ℕ → ℕ) (bound : ℕ) (keys : List ℕ)
   pub each : keys ≡ perElement n key
   pub below : (a : ℕ) → Element n a → key a < bound
 
--- There is room behind the keys for a number of each element, and with it they are `longer` of each, below the bound.
+-- There is room after the keys for a number of each element, and with it they are `longer` of each, below the bound.
 abbrev pub Appends : ℕ → (ℕ → ℕ) → ℕ → ℕ → List ℕ → List ℕ → Type 0
 Appends n longer bound values keys numbers = Room n values keys numbers × ((l : List ℕ) → l ≡ perElement n (appended values keys numbers) → AllKeys n longer bound l)
 
--- One part more behind them, given for each element too.
+-- One part more after them, given for each element too.
 module _ (n : ℕ) (key : ℕ → ℕ) (bound : ℕ) (keys : List ℕ) (k : AllKeys n key bound keys)
     (values : ℕ) (number : ℕ → ℕ) (numbers : List ℕ) (e : numbers ≡ perElement n number) (fits : (a : ℕ) → Element n a → number a < values) where
   appended-at : (a : ℕ) → Element n a → appended values keys numbers a ≡ key a * values + number a

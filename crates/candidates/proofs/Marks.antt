@@ -11,7 +11,8 @@ use lib.Seq.{ext-getD}
 use lib.Pow.{pow-mono}
 use Rattle.semigroups.specs.Lists.{range}
 use Rattle.semigroups.specs.Tables.{cellPlace, Element}
-use Rattle.semigroups.specs.Scratch.{packedByte, scratchSize, pairMarks, marks}
+use Rattle.semigroups.specs.Scratch.{packedByte, scratchSize, marks}
+use Rattle.semigroups.specs.InnerScratch.{pairMarks}
 use Rattle.semigroups.specs.Calls.{overwritten}
 use Rattle.semigroups.specs.InnerCalls.{scratchAfter}
 use Rattle.semigroups.proofs.Tables.{place-below, place-of, place-elements}
@@ -41,7 +42,7 @@ module _ {n k i j : ℕ} (a : PairAt n k i j) where
       let wide : (i - 1) * 1 ≤ (i - 1) * n = mul-le-mul-left (i - 1) (omega arith) in
       omega (arith, mul-one (i - 1))
 
-  -- Behind the last column comes the first one of the next row.
+  -- After the last column comes the first one of the next row.
   pub next-row : n ≤ j → PairAt n (k + 1) (i + 1) 1
   next-row h =
       let e = a .number in
@@ -119,5 +120,5 @@ module _ (m n : ℕ) (p q : ℕ → ℕ → Bool) (same : (i j : ℕ) → Elemen
           pair-at m n p k i j (place-of n k) (w .0) (w .1) ∙ ap (λ (b : Bool). cond b 1 0) (same i j (w .0) (w .1)) ∙ sym (pair-at m n q k i j (place-of n k) (w .0) (w .1))
 
   pub scratch-same : (scratch : List ℕ) → scratchAfter m n p scratch ≡ scratchAfter m n q scratch
-  unfolding scratchAfter marks
+  unfolding scratchAfter marks pairMarks
   scratch-same scratch = ap (λ (l : List ℕ). overwritten (map (packedByte l) (range 0 (scratchSize m n))) scratch) pairs-same

@@ -1,13 +1,14 @@
 // Candidates and their marks in the scratch buffer. Only this crate knows where a mark stands and how many bytes the marks take. What is compared of an
 // element is packed into one number, its key, once for each element; a pair of elements then takes one comparison.
 ghost use mathlib.Core.Path.{_≡_};
-ghost use Prim.Native.Nat.{_+_, _≤_, _<_};
+ghost use Prim.Native.Nat.{_+_, _*_, _≤_, _<_};
 ghost use lib.ListN.{length, getD};
-ghost use Rattle.semigroups.specs.Tables.{cellPlace, product, Element, Filled};
+ghost use Rattle.semigroups.specs.Tables.{largestOrder, cellPlace, product, Element, Filled};
 ghost use Rattle.semigroups.specs.Invariants.{indexPeriod, profile};
 ghost use Rattle.semigroups.specs.Maps.{embeddings, isomorphisms};
 ghost use Rattle.semigroups.specs.Candidates.{candidate};
-ghost use Rattle.semigroups.specs.Scratch.{packedByte, scratchSize, pairMarks, marked};
+ghost use Rattle.semigroups.specs.Scratch.{packedByte, scratchSize, marked};
+ghost use Rattle.semigroups.specs.InnerScratch.{pairMarks};
 ghost use Rattle.semigroups.specs.InnerCalls.{scratchAfter};
 ghost use Rattle.tables.specs.InnerPerElement.{perElement};
 ghost use Rattle.candidates.specs.InnerPairs.{PairAt};
@@ -18,7 +19,7 @@ use tables::limits::ORDER;
 
 // Returns how many bytes the marks of m source and n target elements take.
 pub fn scratch_size(m: usize, n: usize) -> usize
-    requires { ⌜ (m ≤ 120) × (n ≤ 120) ⌝ }
+    requires { ⌜ (m ≤ largestOrder) × (n ≤ largestOrder) ⌝ }
     ensures answer { λ r. ⌜ r ≡ scratchSize m n ⌝ }
 {
     (m * n + 7) / 8
@@ -26,7 +27,7 @@ pub fn scratch_size(m: usize, n: usize) -> usize
 
 // Returns the number of the pair of source element i and target element j of n, counted from 0.
 fn pair_number(n: usize, i: usize, j: usize) -> usize
-    requires { ⌜ Element 120 i × Element n j × (n ≤ 120) ⌝ }
+    requires { ⌜ Element largestOrder i × Element n j × (n ≤ largestOrder) ⌝ }
     ensures answer { λ r. ⌜ r ≡ cellPlace n i j ⌝ }
 {
     (i - 1) * n + (j - 1)
@@ -34,8 +35,8 @@ fn pair_number(n: usize, i: usize, j: usize) -> usize
 
 // Returns whether target element j of n is marked as a candidate for source element i.
 pub fn marked(scratch: &[u8], n: usize, i: usize, j: usize) -> bool
-    requires { ⌜ Element 120 i ⌝ }
-    requires { ⌜ (n ≤ 120) × Element n j ⌝ }
+    requires { ⌜ Element largestOrder i ⌝ }
+    requires { ⌜ (n ≤ largestOrder) × Element n j ⌝ }
     requires { ⌜ scratchSize i n ≤ length (now scratch) ⌝ }
     ensures answer { λ r. ⌜ r ≡ marked n (now (scratch .entry)) i j ⌝ }
 {
@@ -47,7 +48,7 @@ pub fn marked(scratch: &[u8], n: usize, i: usize, j: usize) -> bool
 
 // Returns every key with one more part appended: a number that takes one of `values` values.
 fn append(keys: &[u64; ORDER], n: usize, values: u64, numbers: &[u16; ORDER]) -> [u64; ORDER]
-    requires { ⌜ (n ≤ 120) × Room n values (now keys) (now numbers) ⌝ }
+    requires { ⌜ (n ≤ largestOrder) × Room n values (now keys) (now numbers) ⌝ }
     ensures answer { λ r. ⌜ r ≡ perElement n (appended values (now (keys .entry)) (now (numbers .entry))) ⌝ }
 {
     let mut longer = [0u64; ORDER];
@@ -95,7 +96,7 @@ struct Pair {
 
 // Returns the pair that follows the given one, row by row.
 fn following(pair: Pair, n: usize) -> Pair
-    requires { ⌜ (1 ≤ pair .i) × (pair .i ≤ 14400) × Element n (pair .j) × (n ≤ 120) ⌝ }
+    requires { ⌜ (1 ≤ pair .i) × (pair .i ≤ largestOrder * largestOrder) × Element n (pair .j) × (n ≤ largestOrder) ⌝ }
     ensures next { λ r. ⌜ PairAt n (cellPlace n (pair .i) (pair .j) + 1) (r .i) (r .j) ⌝ }
 {
     if pair.j < n {
@@ -112,7 +113,7 @@ fn following(pair: Pair, n: usize) -> Pair
 
 // Returns the mark of a pair: 1 where its elements have equal keys, else 0; after the last pair it is 0.
 fn mark(source: &[u64; ORDER], m: usize, target: &[u64; ORDER], n: usize, pair: Pair) -> usize
-    requires { ⌜ (1 ≤ pair .i) × Element n (pair .j) × (m ≤ 120) × (n ≤ 120) ⌝ }
+    requires { ⌜ (1 ≤ pair .i) × Element n (pair .j) × (m ≤ largestOrder) × (n ≤ largestOrder) ⌝ }
     ensures answer { λ r. ⌜ r ≡ getD (pairMarks m n (sameKey (now (source .entry)) (now (target .entry)))) (cellPlace n (pair .i) (pair .j)) 0 ⌝ }
 {
     let i = pair.i;
@@ -125,7 +126,7 @@ fn mark(source: &[u64; ORDER], m: usize, target: &[u64; ORDER], n: usize, pair: 
 
 // Returns one byte of the marks: eight pairs, each worth twice the one before it.
 fn marks_byte(source: &[u64; ORDER], m: usize, target: &[u64; ORDER], n: usize, place: usize) -> u8
-    requires { ⌜ (m ≤ 120) × (n ≤ 120) × (place < scratchSize m n) ⌝ }
+    requires { ⌜ (m ≤ largestOrder) × (n ≤ largestOrder) × (place < scratchSize m n) ⌝ }
     ensures answer { λ r. ⌜ r ≡ packedByte (pairMarks m n (sameKey (now (source .entry)) (now (target .entry)))) place ⌝ }
 {
     let first = place * 8;
@@ -153,7 +154,7 @@ pub fn fill_equal(
     n: usize,
     scratch: &mut [u8],
 )
-    requires { ⌜ (m ≤ 120) × (n ≤ 120) ⌝ }
+    requires { ⌜ (m ≤ largestOrder) × (n ≤ largestOrder) ⌝ }
     requires { ⌜ scratchSize m n ≤ length (now scratch) ⌝ }
     ensures scratch { λ _. ⌜ now (scratch .exit) ≡ scratchAfter m n (sameKey (now (source .entry)) (now (target .entry))) (now (scratch .entry)) ⌝ }
 {

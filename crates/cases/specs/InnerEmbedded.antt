@@ -3,6 +3,7 @@ use mathlib.Core.List.{List, [], _∷_, _++_}
 use Prim.Native.Nat.{ℕ}
 use lib.Dec.{eqb}
 use lib.ListN.{take, drop, replicate}
+use Rattle.semigroups.specs.Calls.{Answer}
 use Rattle.semigroups.specs.Maps.{embeddings, Sought, first}
 use Rattle.semigroups.specs.Copies.{sameList}
 use Rattle.judging.specs.InnerTally.{counted}
@@ -22,7 +23,7 @@ twoCells = 1 ∷ 1 ∷ 4 ∷ 4 ∷ 1 ∷ 2 ∷ 3 ∷ 4 ∷ 1 ∷ 3 ∷ 2 ∷ 4 �
 abbrev pub mat5Cells : List ℕ
 mat5Cells = 1 ∷ 1 ∷ 1 ∷ 1 ∷ 1 ∷ 1 ∷ 2 ∷ 3 ∷ 2 ∷ 3 ∷ 1 ∷ 1 ∷ 1 ∷ 2 ∷ 3 ∷ 1 ∷ 4 ∷ 5 ∷ 4 ∷ 5 ∷ 1 ∷ 1 ∷ 1 ∷ 4 ∷ 5 ∷ []
 
-abbrev pub embeddedCall : ℕ → Called Sought
+abbrev pub embeddedCall : ℕ → Called (Answer Sought)
 embeddedCall size = call embeddings first (lend swapCells 2 twoCells 4 (0 ∷ 0 ∷ []) (take size (replicate 3 255)))
 
 -- The tally after the comparison of the answer, the map buffer, and the scratch buffer with the bytes after it.

@@ -4,6 +4,7 @@ use mathlib.Core.List.{List, _++_}
 use Prim.Native.Nat.{ℕ}
 use lib.Dec.{eqb}
 use lib.ListN.{take, drop, replicate}
+use Rattle.semigroups.specs.Calls.{Answer}
 use Rattle.semigroups.specs.Maps.{Kind, Sought}
 use Rattle.semigroups.specs.Copies.{sameList}
 use Rattle.search.specs.Calls.{Called, lend, call}
@@ -14,7 +15,7 @@ use Rattle.comparisons.specs.InnerSaid.{saidNumber}
 
 module _ (kind : Kind) (next : Bool) (source : List ℕ) (m : ℕ) (target : List ℕ) (n : ℕ) (before : List ℕ) where
   -- The call on the first m bytes of an array of 5.
-  abbrev pub toldCall : Called Sought
+  abbrev pub toldCall : Called (Answer Sought)
   toldCall = call kind (bounded next (take m before)) (lend source m target n (take m before) (replicate 140 7))
 
   -- Whether it says this, and whether the array is this afterwards.

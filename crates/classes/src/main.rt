@@ -4,7 +4,7 @@ ghost use mathlib.Core.Path.{_≡_};
 ghost use Prim.Native.Nat.{_<_};
 ghost use lib.ListN.{length};
 ghost use Rattle.io.specs.Counts.{Counts};
-ghost use Rattle.csv.specs.Questions.{longest};
+ghost use Rattle.csv.specs.Questions.{longestText};
 use classification::Classifier;
 use classification::file_name;
 use libc::STDOUT_FILENO;
@@ -19,7 +19,7 @@ struct Reading {
 
 // Reads file k to `text`. Returns whether it could be opened and how many bytes were read; a file that is opened and can't be read counts as empty.
 fn read_file(k: usize, text: &mut [u8; FILE]) -> Reading
-    requires room { ⌜ longest < length (now text) ⌝ }
+    requires room { ⌜ longestText < length (now text) ⌝ }
     ensures count { λ r. ⌜ Counts (r .length) (now (text .exit)) ⌝ }
     ensures size { λ _. ⌜ length (now (text .exit)) ≡ length (now (text .entry)) ⌝ }
 {

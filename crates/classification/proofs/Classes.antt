@@ -1,6 +1,6 @@
 -- The classes of files are those of isomorphism, each named by its lowest file; the totals count each accepted file once. Assumes nothing.
 use mathlib.Core.Path.{_≡_, refl, sym, ap, _∙_, subst}
-use mathlib.Core.Bool.{Bool, true, _&&_}
+use mathlib.Core.Bool.{Bool, true, _&&_, not}
 use mathlib.Core.Logic.{_↔_}
 use mathlib.Core.List.{List, [], flatMap, List·Memᴰ}
 use mathlib.Core.Option.{Option, none, some}
@@ -8,7 +8,7 @@ use Prim.Native.Nat.{ℕ, _+_, _-_, _≤_, _<_}
 use native.Mathlib.Omega.{arith}
 use lib.Dec.{eqb}
 use lib.ListN.{length, getD, length-map}
-use Rattle.semigroups.specs.Lists.{range, elements, keep, sum, count}
+use Rattle.semigroups.specs.Lists.{range, elements, keep, sum, count, isSome}
 use Rattle.semigroups.specs.ListsLaws.{Sorted}
 use Rattle.semigroups.specs.Tables.{Element}
 use Rattle.semigroups.specs.Questions.{Refusal}
@@ -18,7 +18,7 @@ use Rattle.semigroups.proofs.Sums.{count-same, count-map, sum-same}
 use Rattle.csv.specs.Tables.{orderOf}
 use Rattle.csv.specs.Records.{rowsText}
 use Rattle.files.specs.Files.{fileQuestions, fileRefusal, room}
-use Rattle.classification.specs.Classes.{isNone, accepted, alike, refusedBy, inClass, noteBy, file, lowest, noteOf, notesOf}
+use Rattle.classification.specs.Classes.{accepted, alike, refusedBy, inClass, noteBy, file, lowest, noteOf, notesOf}
 use Rattle.classification.specs.Output.{isIn, note, names, lowestFiles, members, noteRecords, totalRecords, notesText, classesOutput}
 use Rattle.classification.specs.Laws.{IsAccepted, Classified, Totalled, NothingForNoFile}
 use Rattle.classification.proofs.Lists.{getD-map-range, entries}
@@ -86,7 +86,7 @@ module _ (files : List (List ℕ)) where
   unfolding noteOf accepted
   said-in k a = go (fileRefusal (file files k) room)
     where
-      go : (o : Option Refusal) → isIn a (noteBy o (orderOf (file files k)) (lowest files k)) ≡ (isNone o && eqb (lowest files k) a)
+      go : (o : Option Refusal) → isIn a (noteBy o (orderOf (file files k)) (lowest files k)) ≡ (not (isSome o) && eqb (lowest files k) a)
       go none = refl
       go (some r) = refl
 

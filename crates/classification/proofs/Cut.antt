@@ -10,10 +10,11 @@ use Rattle.semigroups.specs.QuestionsLaws.{no}
 use Rattle.semigroups.proofs.Booleans.{clash, same-truth}
 use Rattle.csv.specs.Tables.{orderOf}
 use Rattle.files.specs.Files.{fileRefusal, room}
+use Rattle.files.specs.FilesLaws.{firstBytes}
 use Rattle.files.proofs.Length.{Cut, whole, too-much, cut}
 use Rattle.classification.specs.Classes.{Folder, opened, filesFrom, filesOf, accepted, alike, noteBy, file, lowest, noteOf, notesOf}
 use Rattle.classification.specs.Output.{notesText, classesOutput, folderOutput}
-use Rattle.classification.specs.Laws.{firstBytes, FirstBytesDecide}
+use Rattle.classification.specs.Laws.{FirstBytesOfEach}
 use Rattle.classification.proofs.Files.{refused-not, alike-like}
 use Rattle.classification.proofs.Lists.{map-within, least-same}
 
@@ -77,6 +78,6 @@ files-first folder k zero = refl
 files-first folder k (suc d) =
     opened-first (folder k) (filesFrom (λ i. Option·map firstBytes (folder i)) (suc k) d) (filesFrom folder (suc k) d) (files-first folder (suc k) d)
 
-pub first-bytes : (folder : Folder) → FirstBytesDecide folder
+pub first-bytes : (folder : Folder) → FirstBytesOfEach folder
 unfolding folderOutput filesOf
 first-bytes folder = ap classesOutput (files-first folder 1 50) ∙ first-bytes-decide (filesFrom folder 1 50)

@@ -1,10 +1,11 @@
 -- Isomorphism is an equivalence on accepted files. Assumes nothing.
 use mathlib.Core.Path.{_≡_, refl, ap, _∙_, subst}
-use mathlib.Core.Bool.{true, false, _&&_}
+use mathlib.Core.Bool.{true, false, _&&_, not}
 use mathlib.Core.Logic.{_↔_}
 use mathlib.Core.List.{List}
 use mathlib.Core.Option.{Option, none, some}
 use Prim.Native.Nat.{ℕ}
+use Rattle.semigroups.specs.Lists.{isSome}
 use Rattle.semigroups.specs.Tables.{Product, product, Accepted}
 use Rattle.semigroups.specs.TablesLaws.{Closed}
 use Rattle.semigroups.specs.Questions.{Refusal}
@@ -18,7 +19,7 @@ use Rattle.csv.specs.Tables.{orderOf, cellsOf}
 use Rattle.files.specs.Files.{fileRefusal, room}
 use Rattle.files.specs.FilesLaws.{FilePasses}
 use Rattle.files.proofs.Files.{file-passes}
-use Rattle.classification.specs.Classes.{isNone, isSome, accepted, isomorphic, holdsLike, alike}
+use Rattle.classification.specs.Classes.{accepted, isomorphic, holdsLike, alike}
 use Rattle.classification.specs.Laws.{Isomorphic}
 
 -- ---- accepted files
@@ -27,17 +28,17 @@ pub accepted-passes : (t : List ℕ) → accepted t ≡ true → fileRefusal t r
 unfolding accepted
 accepted-passes t e = go (fileRefusal t room) e
   where
-    go : (o : Option Refusal) → isNone o ≡ true → o ≡ none
+    go : (o : Option Refusal) → not (isSome o) ≡ true → o ≡ none
     go none e = refl
     go (some r) e = absurd (clash {b = false} e refl)
 
 pub passes-accepted : (t : List ℕ) → fileRefusal t room ≡ none → accepted t ≡ true
 unfolding accepted
-passes-accepted t e = ap isNone e
+passes-accepted t e = ap (λ (o : Option Refusal). not (isSome o)) e
 
 pub refused-not : (t : List ℕ) (r : Refusal) → fileRefusal t room ≡ some r → accepted t ≡ false
 unfolding accepted
-refused-not t r e = ap isNone e
+refused-not t r e = ap (λ (o : Option Refusal). not (isSome o)) e
 
 -- In plain words.
 pub accepted-exactly : (t : List ℕ) → (accepted t ≡ true) ↔ FilePasses t room

@@ -18,8 +18,8 @@ use Rattle.csv.proofs.Writing.{Writing, write-first, write-room, write-last, se
 use Rattle.lines.proofs.Lines.{written}
 use Rattle.classification.specs.Classes.{Note, refusedBy, inClass}
 use Rattle.classification.specs.Held.{notesFrom}
-use Rattle.classification.specs.InnerHeld.{totalText}
-use Rattle.classification.specs.Output.{classWord, noteRecord, totalLine, isIn, note, names, lowestFiles, members, totalRecord, noteRecords, totalRecords, notesText}
+use Rattle.classification.specs.InnerHeld.{totalLine, totalText}
+use Rattle.classification.specs.Output.{classWord, noteRecord, isIn, note, names, lowestFiles, members, totalRecord, noteRecords, totalRecords, notesText}
 use Rattle.classification.proofs.Held.{held, length-from, note-from, names-from}
 
 -- ---- a record
@@ -58,7 +58,7 @@ note-short : (k : ℕ) (x : Note) → length (lineText (noteRecord k x)) ≤ 19
 note-short k (refusedBy q) = omega (arith, line-short (114 ∷ 101 ∷ 102 ∷ 117 ∷ 115 ∷ 101 ∷ 100 ∷ []) k q)
 note-short k (inClass n l) = omega (arith, class-more k n l, fields-length classWord k n, digits-few k, digits-few n, digits-few l)
 
--- Three fields one behind the other.
+-- Three fields one after the other.
 pub fields-written : (before word : List ℕ) (start a b : ℕ) {o₁ o₂ o₃ : List ℕ} {p₁ p₂ p₃ : ℕ}
     → p₁ ≡ start + length word → o₁ ≡ sets before start word
     → p₂ ≡ p₁ + length (44 ∷ numeral a) → o₂ ≡ sets o₁ p₁ (44 ∷ numeral a)

@@ -1,11 +1,11 @@
 -- Which files hold isomorphic tables (RULES 22). A file is its bytes; files count from 1, in file order.
 -- Assumes nothing.
-use mathlib.Core.Bool.{Bool, true, false, _&&_}
+use mathlib.Core.Bool.{Bool, not, _&&_}
 use mathlib.Core.List.{List, [], _∷_, map}
 use mathlib.Core.Option.{Option, none, some}
 use Prim.Native.Nat.{ℕ, zero, suc, _-_}
 use lib.ListN.{length, getD}
-use Rattle.semigroups.specs.Lists.{elements, least}
+use Rattle.semigroups.specs.Lists.{elements, isSome, least}
 use Rattle.semigroups.specs.Tables.{product}
 use Rattle.semigroups.specs.Questions.{Refusal}
 use Rattle.semigroups.specs.Maps.{isomorphisms, maps, first, earliest}
@@ -38,19 +38,9 @@ filesOf folder = filesFrom folder 1 mostFiles
 
 -- ---- two files
 
--- Whether there is no value.
-abbrev pub isNone : {A : Type 0} → Option A → Bool
-isNone none = true
-isNone (some x) = false
-
--- Whether there is a value.
-abbrev pub isSome : {A : Type 0} → Option A → Bool
-isSome none = false
-isSome (some x) = true
-
 -- Whether a file is accepted: none of the questions that `recue` asks about it fails.
 unfoldable pub accepted : List ℕ → Bool
-accepted t = isNone (fileRefusal t room)
+accepted t = not (isSome (fileRefusal t room))
 
 -- Whether an isomorphism exists between two tables.
 unfoldable pub isomorphic : ℕ → List ℕ → ℕ → List ℕ → Bool

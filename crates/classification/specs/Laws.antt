@@ -7,7 +7,7 @@ use mathlib.Core.List.{List, [], List·Memᴰ}
 use mathlib.Core.Option.{some, Option·map}
 use Prim.Native.Nat.{ℕ, _≤_, _<_}
 use lib.Dec.{eqb}
-use lib.ListN.{length, take}
+use lib.ListN.{length}
 use Rattle.semigroups.specs.Lists.{elements, sum, count}
 use Rattle.semigroups.specs.ListsLaws.{Sorted}
 use Rattle.semigroups.specs.Tables.{product, Element}
@@ -16,7 +16,7 @@ use Rattle.semigroups.specs.QuestionsLaws.{EarliestNo}
 use Rattle.semigroups.specs.MapsLaws.{Isomorphism}
 use Rattle.csv.specs.Tables.{orderOf, cellsOf}
 use Rattle.files.specs.Files.{fileQuestions, fileRefusal, room}
-use Rattle.files.specs.FilesLaws.{FilePasses}
+use Rattle.files.specs.FilesLaws.{FilePasses, firstBytes}
 use Rattle.classification.specs.Classes.{Folder, accepted, refusedBy, inClass, file, lowest, noteOf, notesOf}
 use Rattle.classification.specs.Output.{lowestFiles, members, classesOutput, folderOutput}
 
@@ -60,9 +60,6 @@ module _ (files : List (List ℕ)) where
 abbrev pub NothingForNoFile : Type 0
 NothingForNoFile = classesOutput [] ≡ []
 
--- The bytes of a file that are read: one byte more than a text may have. No later byte makes a difference.
-abbrev pub firstBytes : List ℕ → List ℕ
-firstBytes t = take 57721 t
-
-abbrev pub FirstBytesDecide : Folder → Type 0
-FirstBytesDecide folder = folderOutput (λ k. Option·map firstBytes (folder k)) ≡ folderOutput folder
+-- Only the first bytes of each file are read: no later byte makes a difference (RULES 21.2).
+abbrev pub FirstBytesOfEach : Folder → Type 0
+FirstBytesOfEach folder = folderOutput (λ k. Option·map firstBytes (folder k)) ≡ folderOutput folder

@@ -29,10 +29,6 @@ abbrev pub noteRecord : ℕ → Note → List (List ℕ)
 noteRecord k (refusedBy q) = refusedWord ∷ numeral k ∷ numeral q ∷ []
 noteRecord k (inClass n l) = classWord ∷ numeral k ∷ numeral n ∷ numeral l ∷ []
 
--- The record of the class that file a names, with this number of members.
-abbrev pub totalLine : ℕ → ℕ → List (List ℕ)
-totalLine a total = totalWord ∷ numeral a ∷ numeral total ∷ []
-
 -- Whether a file is in the class that is named by file a.
 abbrev pub isIn : ℕ → Note → Bool
 isIn a (refusedBy q) = false
@@ -55,9 +51,9 @@ module _ (notes : List Note) where
   unfoldable pub members : ℕ → ℕ
   members a = count (isIn a) notes
 
-  -- The record of the class that file a names.
+  -- The record of the class that file a names, with the number of its members.
   unfoldable pub totalRecord : ℕ → List (List ℕ)
-  totalRecord a = totalLine a (members a)
+  totalRecord a = totalWord ∷ numeral a ∷ numeral (members a) ∷ []
 
   -- The records of the files, in file order.
   unfoldable pub noteRecords : List (List (List ℕ))

@@ -5,7 +5,7 @@ ghost use mathlib.Core.List.{List, _∷_, []};
 ghost use Prim.Native.Nat.{ℕ, _+_, _*_, _≤_, _<_};
 ghost use lib.ListN.{length, take};
 ghost use lib.Seq.{sets};
-ghost use Rattle.semigroups.specs.Tables.{Accepted};
+ghost use Rattle.semigroups.specs.Tables.{largestOrder, Accepted};
 ghost use Rattle.semigroups.specs.Calls.{overwritten};
 ghost use Rattle.csv.specs.Decimals.{numeral};
 ghost use Rattle.csv.specs.Records.{recordText, lineText, rowsText};
@@ -319,7 +319,7 @@ impl Classifier {
 
     // Returns the classifier after the comparison with class j failed: it goes on with the next class of tables of order n, or starts a new class.
     fn onward(self, n: usize, j: usize) -> Classifier
-        requires { ⌜ (self .count < 50) × (1 ≤ n) × (n ≤ 120) × (j ≤ self .count) ⌝ }
+        requires { ⌜ (self .count < 50) × (1 ≤ n) × (n ≤ largestOrder) × (j ≤ self .count) ⌝ }
         ensures answer { λ r. ⌜ ((cells : List ℕ) → progressOf r cells ≡ progress.onward (notesIn self) n (take (n * n) cells) j) ⌝ }
     {
         let count = self.count;

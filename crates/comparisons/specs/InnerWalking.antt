@@ -5,17 +5,19 @@ use mathlib.Core.List.{List}
 use mathlib.Core.Option.{Option, none, some}
 use Prim.Native.Nat.{ℕ, zero, suc, _+_, _*_, _^_}
 use lib.ListN.{take, replicate}
+use Rattle.semigroups.specs.InnerSearch.{plainKind}
 use Rattle.semigroups.specs.Lists.{earlier, count}
 use Rattle.semigroups.specs.Tables.{product}
 use Rattle.semigroups.specs.Questions.{Refusal, tableRefusal}
+use Rattle.semigroups.specs.Calls.{Answer}
 use Rattle.semigroups.specs.Maps.{maps, Sought}
-use Rattle.plain.specs.InnerEnumeration.{numbered, plainKind}
+use Rattle.plain.specs.InnerEnumeration.{numbered}
 use Rattle.backtrack.specs.InnerState.{bounded}
 use Rattle.search.specs.Calls.{Called, lend, call}
 
 -- What the call says and leaves. The flags choose isomorphisms or embeddings, and the next map or the first.
-abbrev pub called : Bool → Bool → List ℕ → ℕ → List ℕ → ℕ → List ℕ → Called Sought
-called isomorphisms next source m target n before = call (plainKind isomorphisms) (bounded next (take m before)) (lend source m target n (take m before) (replicate 140 7))
+abbrev pub walkCall : Bool → Bool → List ℕ → ℕ → List ℕ → ℕ → List ℕ → Called (Answer Sought)
+walkCall isomorphisms next source m target n before = call (plainKind isomorphisms) (bounded next (take m before)) (lend source m target n (take m before) (replicate 140 7))
 
 -- The full list of maps of the kind.
 abbrev pub comparedMaps : Bool → List ℕ → ℕ → List ℕ → ℕ → List (List ℕ)

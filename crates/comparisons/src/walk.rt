@@ -5,12 +5,12 @@ ghost use mathlib.Core.List.{_++_};
 ghost use Prim.Native.Nat.{_≤_};
 ghost use lib.Dec.{eqb};
 ghost use lib.ListN.{length, drop};
+ghost use Rattle.semigroups.specs.InnerSearch.{plainKind};
 ghost use Rattle.semigroups.specs.Tables.{Accepted};
 ghost use Rattle.search.specs.Answers.{kindOf as searchKindOf};
-ghost use Rattle.plain.specs.InnerEnumeration.{plainKind};
 ghost use Rattle.comparisons.specs.InnerSaid.{saidNumber};
 ghost use Rattle.judging.specs.InnerTally.{agreed};
-ghost use Rattle.comparisons.specs.InnerWalking.{called, walkCalls};
+ghost use Rattle.comparisons.specs.InnerWalking.{walkCall, walkCalls};
 use crate::said::said_number;
 use judging::tally::Tally;
 use judging::tally::counted;
@@ -46,8 +46,8 @@ fn expected(
     before: [u8; 5],
 ) -> Outcome
     requires { ⌜ Accepted m (now source) ⌝ ∗ ⌜ Accepted n (now target) ⌝ ∗ ⌜ (m ≤ 5) × (n ≤ 27) ⌝ }
-    ensures number { λ r. ⌜ r .number ≡ saidNumber (called isomorphisms next (now (source .entry)) m (now (target .entry)) n before .says) ⌝ }
-    ensures buffer { λ r. ⌜ r .buffer ≡ called isomorphisms next (now (source .entry)) m (now (target .entry)) n before .mapBytes ++ drop m before ⌝ }
+    ensures number { λ r. ⌜ r .number ≡ saidNumber (walkCall isomorphisms next (now (source .entry)) m (now (target .entry)) n before .says) ⌝ }
+    ensures buffer { λ r. ⌜ r .buffer ≡ walkCall isomorphisms next (now (source .entry)) m (now (target .entry)) n before .mapBytes ++ drop m before ⌝ }
 {
     let mut after = [0u8; 5];
     if next {
@@ -92,8 +92,8 @@ fn step(
 ) -> Compared
     requires { ⌜ Accepted m (now source) ⌝ ∗ ⌜ Accepted n (now target) ⌝ ∗ ⌜ (m ≤ 5) × (n ≤ 27) ⌝ }
     ensures same { λ r. ⌜ r .same ≡ true ⌝ }
-    ensures found { λ r. ⌜ r .found ≡ eqb (saidNumber (called isomorphisms next (now (source .entry)) m (now (target .entry)) n before .says)) 100 ⌝ }
-    ensures buffer { λ r. ⌜ r .buffer ≡ called isomorphisms next (now (source .entry)) m (now (target .entry)) n before .mapBytes ++ drop m before ⌝ }
+    ensures found { λ r. ⌜ r .found ≡ eqb (saidNumber (walkCall isomorphisms next (now (source .entry)) m (now (target .entry)) n before .says)) 100 ⌝ }
+    ensures buffer { λ r. ⌜ r .buffer ≡ walkCall isomorphisms next (now (source .entry)) m (now (target .entry)) n before .mapBytes ++ drop m before ⌝ }
     ensures long { λ r. ⌜ length (r .buffer) ≡ 5 ⌝ }
 {
     let mut buffer = before;

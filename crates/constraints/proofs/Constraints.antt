@@ -19,15 +19,15 @@ use Rattle.semigroups.proofs.Booleans.{clash, untrue, same-truth, both, and-lef
 use Rattle.semigroups.proofs.Lists.{each-at, each-of, pairs-at, pairs-of, at-front, at-seam, length-snoc, not-member}
 use Rattle.semigroups.proofs.NoRepeats.{place-mem}
 use Rattle.semigroups.proofs.Completions.{allFrom, all-step}
-use Rattle.constraints.specs.InnerConstraints.{allows, merge, askedAt, imageProduct, asks, agreeOn, cross, newFits, nearFits, Reads}
+use Rattle.constraints.specs.InnerConstraints.{permits, merge, askedAt, imageProduct, asks, agreeOn, cross, newFits, nearFits, Reads}
 
 -- ---- one more value asked
 
-merge-allows : (v y₀ y : ℕ) → 1 ≤ y₀ → y ≤ 120 → allows (merge v y₀) y ≡ (allows v y && eqb y₀ y)
-merge-allows v y₀ y lo hi =
-    elim (eqb v 0) as (λ w. eqb v 0 ≡ w → allows (cond (w || eqb v y₀) y₀ 255) y ≡ ((w || eqb v y) && eqb y₀ y)) [
+merge-permits : (v y₀ y : ℕ) → 1 ≤ y₀ → y ≤ 120 → permits (merge v y₀) y ≡ (permits v y && eqb y₀ y)
+merge-permits v y₀ y lo hi =
+    elim (eqb v 0) as (λ w. eqb v 0 ≡ w → permits (cond (w || eqb v y₀) y₀ 255) y ≡ ((w || eqb v y) && eqb y₀ y)) [
       | true ↦ (λ _. ap (λ (b : Bool). b || eqb y₀ y) (ne-eqb y₀ 0 (λ e. let z : ⊥ = omega arith in z)))
-      | false ↦ (λ z. elim (eqb v y₀) as (λ w. eqb v y₀ ≡ w → allows (cond w y₀ 255) y ≡ (eqb v y && eqb y₀ y)) [
+      | false ↦ (λ z. elim (eqb v y₀) as (λ w. eqb v y₀ ≡ w → permits (cond w y₀ 255) y ≡ (eqb v y && eqb y₀ y)) [
         | true ↦ (λ e. let q = eqb-true v y₀ e in rw (ne-eqb y₀ 0 (omega arith), q) (elim (eqb y₀ y) as (λ b. b ≡ (b && b)) [ true ↦ refl | false ↦ refl ]))
         | false ↦ (λ e.
             let ne = eqb-false v y₀ e in
@@ -39,16 +39,16 @@ merge-allows v y₀ y lo hi =
 pub note-reads : (constraints : List ℕ) (q : ℕ → ℕ → Bool) (c₀ y₀ : ℕ) → length constraints ≡ 121 → Element 120 c₀ → Element 120 y₀ → Reads constraints q
     → Reads (askedAt constraints c₀ y₀) (λ c y. q c y && (not (eqb c₀ c) || eqb y₀ y))
 note-reads constraints q c₀ y₀ l hc hy R c y hc′ hy′ =
-    elim (eqb c₀ c) as (λ w. eqb c₀ c ≡ w → allows (getD (set constraints c₀ (merge (getD constraints c₀ 0) y₀)) c 0) y ≡ (q c y && (not w || eqb y₀ y))) [
+    elim (eqb c₀ c) as (λ w. eqb c₀ c ≡ w → permits (getD (set constraints c₀ (merge (getD constraints c₀ 0) y₀)) c 0) y ≡ (q c y && (not w || eqb y₀ y))) [
       | true ↦ (λ e.
           let h = eqb-true c₀ c e in
-          ap (λ (i : ℕ). allows (getD (set constraints c₀ (merge (getD constraints c₀ 0) y₀)) i 0) y) (sym h)
-          ∙ ap (λ (v : ℕ). allows v y) (getD-set-same constraints c₀ (merge (getD constraints c₀ 0) y₀) 0 (omega arith))
-          ∙ merge-allows (getD constraints c₀ 0) y₀ y (hy .0) (hy′ .1)
+          ap (λ (i : ℕ). permits (getD (set constraints c₀ (merge (getD constraints c₀ 0) y₀)) i 0) y) (sym h)
+          ∙ ap (λ (v : ℕ). permits v y) (getD-set-same constraints c₀ (merge (getD constraints c₀ 0) y₀) 0 (omega arith))
+          ∙ merge-permits (getD constraints c₀ 0) y₀ y (hy .0) (hy′ .1)
           ∙ ap (λ (b : Bool). b && eqb y₀ y) (R c₀ y hc hy′ ∙ ap (λ (i : ℕ). q i y) h))
       | false ↦ (λ e.
           let ne = eqb-false c₀ c e in
-          ap (λ (v : ℕ). allows v y) (getD-set-other constraints c₀ c (merge (getD constraints c₀ 0) y₀) 0 (λ h. ne (sym h)))
+          ap (λ (v : ℕ). permits v y) (getD-set-other constraints c₀ c (merge (getD constraints c₀ 0) y₀) 0 (λ h. ne (sym h)))
           ∙ R c y hc′ hy′ ∙ sym (and-true (q c y)))
     ] refl
 

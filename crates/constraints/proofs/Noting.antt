@@ -13,7 +13,7 @@ use Rattle.semigroups.specs.TablesLaws.{Closed}
 use Rattle.semigroups.specs.Trials.{passes}
 use Rattle.semigroups.proofs.Booleans.{clash, untrue, both, and-left, and-right}
 use Rattle.semigroups.proofs.Lists.{length-snoc}
-use Rattle.constraints.specs.InnerConstraints.{allows, merge, askedAt, imageProduct, asks, agreeOn, cross, newFits, nearFits, Reads}
+use Rattle.constraints.specs.InnerConstraints.{permits, merge, askedAt, imageProduct, asks, agreeOn, cross, newFits, nearFits, Reads}
 use Rattle.constraints.specs.InnerTracking.{Placing, Tracks}
 use Rattle.constraints.proofs.Placing.{newest-prefix}
 use Rattle.constraints.proofs.Constraints.{note-reads, each-more, agreeOn-more, agreeOn-forced, agreeOn-owner, settle, near-of-new}
@@ -74,8 +74,8 @@ nothing-noted s t =
     record {
       long = length-replicate {A = ℕ} 121 0;
       wide = length-replicate {A = ℕ} 121 0;
-      required = λ c y hc hy. ap (λ (w : ℕ). allows w y) (getD-replicate 121 c 0 0 (omega arith));
-      reserved = λ c y hc hy. ap (λ (w : ℕ). allows w y) (getD-replicate 121 c 0 0 (omega arith));
+      required = λ c y hc hy. ap (λ (w : ℕ). permits w y) (getD-replicate 121 c 0 0 (omega arith));
+      reserved = λ c y hc hy. ap (λ (w : ℕ). permits w y) (getD-replicate 121 c 0 0 (omega arith));
     }
 
 module _ (m : ℕ) (s t : Product) (closed : Closed m s) (f : List ℕ) (x : ℕ) (short : length f < m) where
@@ -92,7 +92,7 @@ module _ (m : ℕ) (s t : Product) (closed : Closed m s) (f : List ℕ) (x : ℕ
 
   -- What the constraints say of x as the next image, with the new pairs, is whether the list passes.
   pub decides : m ≤ 120 → (forced owner : List ℕ) → Tracks s t f (length f) 0 forced owner → passes s t f ≡ true → Element 120 x → member x f ≡ false
-      → passes s t (f ++ x ∷ []) ≡ ((allows (getD forced (length f + 1) 0) x && allows (getD owner x 0) (length f + 1)) && newFits s t (f ++ x ∷ []))
+      → passes s t (f ++ x ∷ []) ≡ ((permits (getD forced (length f + 1) 0) x && permits (getD owner x 0) (length f + 1)) && newFits s t (f ++ x ∷ []))
   unfolding all elements range
   decides hm forced owner W pass hx fresh =
       let k = length f in
@@ -151,7 +151,7 @@ module _ (m : ℕ) (s t : Product) (closed : Closed m s) (f : List ℕ) (len : �
   g = f ++ x ∷ []
 
   abbrev allowed : Bool
-  allowed = allows (getD forced (len + 1) 0) x && allows (getD owner x 0) (len + 1)
+  allowed = permits (getD forced (len + 1) 0) x && permits (getD owner x 0) (len + 1)
 
   tracked : Tracks s t f (length f) 0 forced owner
   tracked = subst (λ (k : ℕ). Tracks s t f k 0 forced owner) (sym long) W
@@ -165,7 +165,7 @@ module _ (m : ℕ) (s t : Product) (closed : Closed m s) (f : List ℕ) (len : �
     decided : passes s t g ≡ (allowed && newFits s t g)
     decided =
         decides m s t closed f x (omega arith) hm forced owner tracked pass hx fresh
-        ∙ ap (λ (k : ℕ). (allows (getD forced (k + 1) 0) x && allows (getD owner x 0) (k + 1)) && newFits s t g) long
+        ∙ ap (λ (k : ℕ). (permits (getD forced (k + 1) 0) x && permits (getD owner x 0) (k + 1)) && newFits s t g) long
 
     pub constraints-refuse : allowed ≡ false → passes s t g ≡ false
     constraints-refuse e = decided ∙ ap (λ (b : Bool). b && newFits s t g) e

@@ -7,17 +7,17 @@ use Prim.Native.Nat.{ℕ, _-_, max}
 use lib.Dec.{eqb}
 use lib.ListN.{length, getD, set}
 use Rattle.semigroups.specs.Lists.{elements, at, all}
-use Rattle.semigroups.specs.Tables.{Product, Element}
+use Rattle.semigroups.specs.Tables.{largestOrder, Product, Element}
 use Rattle.semigroups.specs.Trials.{fits}
 
--- Whether a constraint allows y. A constraint is 0 if nothing is required, else the one value required, or 255 if two values are. It allows y if no other
+-- Whether a constraint permits y. A constraint is 0 if nothing is required, else the one value required, or 255 if two values are. It permits y if no other
 -- value is required.
-abbrev pub allows : ℕ → ℕ → Bool
-allows constraint y = eqb constraint 0 || eqb constraint y
+abbrev pub permits : ℕ → ℕ → Bool
+permits constraint y = eqb constraint 0 || eqb constraint y
 
 -- The constraint after y is required, too.
 abbrev pub merge : ℕ → ℕ → ℕ
-merge constraint y = cond (allows constraint y) y 255
+merge constraint y = cond (permits constraint y) y 255
 
 -- The constraints after y is required at a place, too.
 abbrev pub askedAt : List ℕ → ℕ → ℕ → List ℕ
@@ -47,6 +47,6 @@ newFits s t p = all (λ j. cross (fits s t p) (length p) j) (elements (length p)
 unfoldable pub nearFits : Product → Product → List ℕ → Bool
 nearFits s t p = fits s t p (length p) (length p) && cross (fits s t p) (length p) (max 1 (length p - 1))
 
--- For each place c and value y, the constraint at c allows y exactly if q says so.
+-- For each place c and value y, the constraint at c permits y exactly if q says so.
 abbrev pub Reads : List ℕ → (ℕ → ℕ → Bool) → Type 0
-Reads constraints q = (c y : ℕ) → Element 120 c → Element 120 y → allows (getD constraints c 0) y ≡ q c y
+Reads constraints q = (c y : ℕ) → Element largestOrder c → Element largestOrder y → permits (getD constraints c 0) y ≡ q c y

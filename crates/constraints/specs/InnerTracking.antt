@@ -5,7 +5,7 @@ use mathlib.Core.List.{List}
 use Prim.Native.Nat.{ℕ, suc, _-_, _≤_, _<_}
 use lib.ListN.{length, getD, take, drop, replicate}
 use Rattle.semigroups.specs.Lists.{elements, at, all, member}
-use Rattle.semigroups.specs.Tables.{Product, Element}
+use Rattle.semigroups.specs.Tables.{largestOrder, Product, Element}
 use Rattle.semigroups.specs.InnerSearch.{Placed}
 use Rattle.constraints.specs.InnerConstraints.{imageProduct, asks, agreeOn, cross, Reads}
 
@@ -13,19 +13,19 @@ use Rattle.constraints.specs.InnerConstraints.{imageProduct, asks, agree
 pub record Placing (n : ℕ) (image used : List ℕ) (len : ℕ) : Type 0 where
   pub long : length image ≡ 120
   pub wide : length used ≡ 121
-  pub fit : len ≤ 120
+  pub fit : len ≤ largestOrder
   pub padded : drop len image ≡ replicate (120 - len) 0
   pub placed : Placed n (take len image)
-  pub uses : (y : ℕ) → y ≤ 120 → getD used y 0 ≡ cond (member y (take len image)) 1 0
+  pub uses : (y : ℕ) → y ≤ largestOrder → getD used y 0 ≡ cond (member y (take len image)) 1 0
 
 -- The images of the first `len` elements, x as that of the next, and which target elements other than x they use.
 pub record Trial (n : ℕ) (image used : List ℕ) (len x : ℕ) : Type 0 where
   pub long : length image ≡ 120
   pub wide : length used ≡ 121
-  pub room : len < 120
+  pub room : len < largestOrder
   pub placed : (a : ℕ) → Element len a → Element n (at image a)
   pub element : Element n x
-  pub uses : (y : ℕ) → y ≤ 120 → (y ≡ x → ⊥) → getD used y 0 ≡ cond (member y (take len image)) 1 0
+  pub uses : (y : ℕ) → y ≤ largestOrder → (y ≡ x → ⊥) → getD used y 0 ≡ cond (member y (take len image)) 1 0
 
 -- The constraints hold what the pairs of the first k elements require, and what the first j of the pairs with element k + 1 require.
 pub record Tracks (s t : Product) (f : List ℕ) (k j : ℕ) (forced owner : List ℕ) : Type 0 where

@@ -7,16 +7,16 @@ ghost use mathlib.Core.List.{[], _∷_, _++_};
 ghost use Prim.Native.Nat.{ℕ, _+_, _-_, _≤_, _<_};
 ghost use lib.ListN.{length, getD, take};
 ghost use Rattle.semigroups.specs.Lists.{at, member};
-ghost use Rattle.semigroups.specs.Tables.{product, Element, Filled};
+ghost use Rattle.semigroups.specs.Tables.{largestOrder, product, Element, Filled};
 ghost use Rattle.semigroups.specs.Trials.{fits, passes};
-ghost use Rattle.constraints.specs.InnerConstraints.{allows, askedAt, imageProduct, newFits, nearFits};
+ghost use Rattle.constraints.specs.InnerConstraints.{permits, askedAt, imageProduct, newFits, nearFits};
 ghost use Rattle.constraints.specs.InnerTracking.{Trial, Tracks};
 use tables::limits::ORDER;
 use tables::limits::PLACES;
 
-// Returns whether a constraint allows the value y.
+// Returns whether a constraint permits the value y.
 fn allowed(constraint: u8, y: usize) -> bool
-    ensures answer { λ r. ⌜ r ≡ allows constraint y ⌝ }
+    ensures answer { λ r. ⌜ r ≡ permits constraint y ⌝ }
 {
     if constraint == 0 {
         return true;
@@ -26,7 +26,7 @@ fn allowed(constraint: u8, y: usize) -> bool
 
 // Notes that the value y is also required at this place.
 fn note(constraints: &mut [u8; PLACES], place: usize, y: usize)
-    requires { ⌜ (place ≤ 120) × (y ≤ 120) ⌝ }
+    requires { ⌜ (place ≤ largestOrder) × (y ≤ largestOrder) ⌝ }
     ensures constraints { λ _. ⌜ now (constraints .exit) ≡ askedAt (now (constraints .entry)) place y ⌝ }
 {
     if allowed(constraints[place], y) {
@@ -88,8 +88,8 @@ pub fn note_newest(
 
 // Returns the image of element a, where x is the image of the next element.
 fn image_of(image: &[u8; ORDER], len: usize, x: usize, a: usize) -> usize
-    requires { ⌜ (length (now image) ≡ 120) × (len < 120) × Element (len + 1) a ⌝ }
-    requires { ⌜ (Element len a → at (now image) a ≤ 120) ⌝ }
+    requires { ⌜ (length (now image) ≡ 120) × (len < largestOrder) × Element (len + 1) a ⌝ }
+    requires { ⌜ (Element len a → at (now image) a ≤ largestOrder) ⌝ }
     ensures answer { λ r. ⌜ r ≡ at (take len (now (image .entry)) ++ x ∷ []) a ⌝ }
 {
     if a <= len {
@@ -161,8 +161,8 @@ fn new_fits<'a>(
 
 // Returns whether the constraints allow x as the image of element `next`.
 fn settled<'a>(forced: &'a [u8; PLACES], owner: &'a [u8; PLACES], next: usize, x: usize) -> bool
-    requires { ⌜ (next ≤ 120) × (x ≤ 120) ⌝ }
-    ensures answer { λ r. ⌜ r ≡ (allows (getD (now (forced .entry)) next 0) x && allows (getD (now (owner .entry)) x 0) next) ⌝ }
+    requires { ⌜ (next ≤ largestOrder) × (x ≤ largestOrder) ⌝ }
+    ensures answer { λ r. ⌜ r ≡ (permits (getD (now (forced .entry)) next 0) x && permits (getD (now (owner .entry)) x 0) next) ⌝ }
 {
     if !allowed(forced[next], x) {
         return false;
@@ -214,7 +214,7 @@ pub fn may_pass<'a>(
     requires { ⌜ Filled m (now source) × Filled n (now target) ⌝ }
     requires { ⌜ Trial n (now image) (now used) len x × (len < m) × (member x (take len (now image)) ≡ false) ⌝ }
     requires { ⌜ Tracks (product m (now source)) (product n (now target)) (take len (now image)) len 0 (now forced) (now owner) × (passes (product m (now source)) (product n (now target)) (take len (now image)) ≡ true) ⌝ }
-    ensures answer { λ r. ⌜ r ≡ ((allows (getD (now (forced .entry)) (len + 1) 0) x && allows (getD (now (owner .entry)) x 0) (len + 1)) && nearFits (product m (now (source .entry))) (product n (now (target .entry))) (take len (now (image .entry)) ++ x ∷ [])) ⌝ }
+    ensures answer { λ r. ⌜ r ≡ ((permits (getD (now (forced .entry)) (len + 1) 0) x && permits (getD (now (owner .entry)) x 0) (len + 1)) && nearFits (product m (now (source .entry))) (product n (now (target .entry))) (take len (now (image .entry)) ++ x ∷ [])) ⌝ }
     ensures refused { λ r. ⌜ (r ≡ false → passes (product m (now (source .entry))) (product n (now (target .entry))) (take len (now (image .entry)) ++ x ∷ []) ≡ false) ⌝ }
 {
     if !settled(forced, owner, len + 1, x) {

@@ -22,7 +22,7 @@ use Rattle.csv.specs.Tables.{fieldsOf, orderOf, cellsOf}
 use Rattle.csv.proofs.Loading.{load-passed}
 use Rattle.csv.proofs.Accepted.{closed-fits}
 use Rattle.csv.specs.Records.{isBreak, onto, records, fields, rows}
-use Rattle.csv.specs.Questions.{longest, breakAt, inBreak, isAllowed, firstOther, loadRefusal}
+use Rattle.csv.specs.Questions.{longestText, breakAt, inBreak, isAllowed, firstOther, loadRefusal}
 use Rattle.csv.proofs.Records.{ends, closing, missing}
 use Rattle.csv.proofs.Bytes.{closed-is}
 use Rattle.csv.proofs.Passing.{allowed-is, load-passes}
@@ -103,22 +103,22 @@ other-closed t = ap firstOther (closed-is t) ∙ other-open (ends t) t
 
 -- ---- the call
 
-size-closed : (t : List ℕ) → length (closed t) ≤ longest → isElement longest (length (closed t)) ≡ isElement longest (length t)
+size-closed : (t : List ℕ) → length (closed t) ≤ longestText → isElement longestText (length (closed t)) ≡ isElement longestText (length t)
 unfolding isElement closed
 size-closed [] h = refl
 size-closed (b ∷ t) h =
     let long = ap length (closed-is (b ∷ t)) ∙ length-append (b ∷ t) (missing (b ∷ t)) in
     let one : 1 ≤ length (closed (b ∷ t)) = omega arith in
-    let most : length (b ∷ t) ≤ longest = omega arith in
+    let most : length (b ∷ t) ≤ longestText = omega arith in
     let some : 1 ≤ length (b ∷ t) = omega arith in
-    simp (le-leb 1 (length (closed (b ∷ t))) one, le-leb (length (closed (b ∷ t))) longest h, le-leb 1 (length (b ∷ t)) some, le-leb (length (b ∷ t)) longest most)
+    simp (le-leb 1 (length (closed (b ∷ t))) one, le-leb (length (closed (b ∷ t))) longestText h, le-leb 1 (length (b ∷ t)) some, le-leb (length (b ∷ t)) longestText most)
 
 -- Where 20 passes of the text closed, every question says of it what it says of the text as it came.
-refusal-closed : (t : List ℕ) (room : ℕ) → length (closed t) ≤ longest → loadRefusal (closed t) room ≡ loadRefusal t room
+refusal-closed : (t : List ℕ) (room : ℕ) → length (closed t) ≤ longestText → loadRefusal (closed t) room ≡ loadRefusal t room
 unfolding loadRefusal fieldsOf orderOf
 refusal-closed t room h = rw (size-closed t h, other-closed t, rows-closed t)
 
-pub loads-closed : (t cells : List ℕ) → length (closed t) ≤ longest → LoadsClosed t cells
+pub loads-closed : (t cells : List ℕ) → length (closed t) ≤ longestText → LoadsClosed t cells
 unfolding loadAnswer cellsAfter cellsOf fieldsOf orderOf
 loads-closed t cells h = record { answer = rw (refusal-closed t (length cells) h, rows-closed t); cells-same = rw (refusal-closed t (length cells) h, rows-closed t) }
 

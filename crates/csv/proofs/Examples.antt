@@ -39,7 +39,7 @@ examples =
     ∷ record { text = 49 ∷ 44 ∷ 50 ∷ 13 ∷ 10 ∷ 50 ∷ 44 ∷ []; room = 4; says = some (no 23 []) }
     ∷ record { text = 49 ∷ 44 ∷ []; room = 1; says = some (no 23 []) }
     ∷ record { text = 49 ∷ 13 ∷ []; room = 1; says = some (no 21 (1 ∷ [])) }
-    -- A field with no byte: an empty record, alone and at the end, and one behind a comma.
+    -- A field with no byte: an empty record, alone and at the end, and one after a comma.
     ∷ record { text = 13 ∷ 10 ∷ []; room = 1; says = some (no 23 []) }
     ∷ record { text = 49 ∷ 13 ∷ 10 ∷ 13 ∷ 10 ∷ []; room = 1; says = some (no 23 []) }
     ∷ record { text = 49 ∷ 44 ∷ 13 ∷ 10 ∷ 49 ∷ 44 ∷ 49 ∷ 13 ∷ 10 ∷ []; room = 4; says = some (no 23 []) }

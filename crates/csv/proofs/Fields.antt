@@ -18,7 +18,7 @@ use Rattle.semigroups.specs.QuestionsLaws.{no}
 use Rattle.semigroups.proofs.Lists.{is-element}
 use Rattle.semigroups.proofs.Questions.{ask-passed, all-passed, first-append, both-passed}
 use Rattle.csv.specs.Decimals.{isDigit, value}
-use Rattle.csv.specs.InnerCursor.{digits, fieldEnd, commaBehind, nextField, fieldFollows}
+use Rattle.csv.specs.InnerCursor.{digits, fieldEnd, commaFollows, nextField, fieldFollows}
 use Rattle.csv.specs.Questions.{fieldQuestions, fieldsQuestions}
 use Rattle.csv.specs.QuestionsLaws.{fieldRefusal}
 use Rattle.csv.specs.InnerQuestions.{fieldsRefusal}
@@ -74,31 +74,31 @@ digits-short (b ∷ l) = elim (isDigit b) as (λ e. length (cond e (b ∷ digits
 pub end-inside : (t : List ℕ) (at : ℕ) → at ≤ length t → fieldEnd t at ≤ length t
 end-inside t at h = omega (arith, digits-short (drop at t), length-drop at t)
 
--- ---- what stands behind a field
+-- ---- what stands after a field
 
 -- A field ends here, and the cursor goes on there.
 pub record Goes (t : List ℕ) (at end next : ℕ) (comma more : Bool) : Type 0 where
   pub ending : end ≡ fieldEnd t at
   pub place : next ≡ nextField t at
-  pub same-record : comma ≡ commaBehind t at
+  pub same-record : comma ≡ commaFollows t at
   pub further : more ≡ fieldFollows t at
 
 module _ (t : List ℕ) (at : ℕ) {end : ℕ} (e : end ≡ fieldEnd t at) where
-  pub nothing-behind : length t ≤ end → Goes t at end (end + 2) false false
-  unfolding commaBehind nextField fieldFollows
-  nothing-behind h =
+  pub nothing-follows : length t ≤ end → Goes t at end (end + 2) false false
+  unfolding commaFollows nextField fieldFollows
+  nothing-follows h =
       let b = ap (λ (i : ℕ). getD t i 0) (sym e) ∙ List·getD-eq-default t 0 {n = end} h in
       record { ending = e; place = rw (b, e); same-record = rw b; further = rw b (simp (le-ltb (fieldEnd t at + 2) (length t) (omega arith))) }
 
-  pub comma-behind : getD t end 0 ≡ 44 → Goes t at end (end + 1) true true
-  unfolding commaBehind nextField fieldFollows
-  comma-behind c =
+  pub comma-follows : getD t end 0 ≡ 44 → Goes t at end (end + 1) true true
+  unfolding commaFollows nextField fieldFollows
+  comma-follows c =
       let b = ap (λ (i : ℕ). getD t i 0) (sym e) ∙ c in
       record { ending = e; place = rw (b, e); same-record = rw b; further = rw b }
 
-  pub break-behind : (getD t end 0 ≡ 44 → ⊥) → Goes t at end (end + 2) false (ltb (end + 2) (length t))
-  unfolding commaBehind nextField fieldFollows
-  break-behind h =
+  pub break-follows : (getD t end 0 ≡ 44 → ⊥) → Goes t at end (end + 2) false (ltb (end + 2) (length t))
+  unfolding commaFollows nextField fieldFollows
+  break-follows h =
       let b = ap (λ (i : ℕ). eqb (getD t i 0) 44) (sym e) ∙ ne-eqb (getD t end 0) 44 h in
       record { ending = e; place = rw (b, e); same-record = rw b; further = rw (b, e) }
 

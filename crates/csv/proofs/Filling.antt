@@ -14,7 +14,7 @@ use Rattle.csv.specs.Tables.{fieldsOf, cellsOf}
 use Rattle.csv.specs.InnerQuestions.{bytesRefusal, fieldsRefusal}
 use Rattle.csv.specs.QuestionsLaws.{fieldRefusal}
 use Rattle.semigroups.specs.Calls.{overwritten}
-use Rattle.csv.proofs.Reading.{Left, Turn, behind, flatten-behind, turn, left-none, all-left}
+use Rattle.csv.proofs.Reading.{Left, Turn, following, flatten-after, turn, left-none, all-left}
 use Rattle.csv.proofs.Writing.{Writing, write-first, write-length, write-room, write-next, write-last, sets-overwritten}
 use Rattle.csv.proofs.Fields.{fields-passed}
 
@@ -42,11 +42,11 @@ module _ {t before cells : List ℕ} {at k : ℕ} {more : Bool} (g : Filling t b
     here = turn h (g .left)
 
     -- The field at this place is the first that is left.
-    first : flatten (g .rest) ≡ digits (drop at t) ∷ flatten (behind (here .fields) (here .later))
-    first = ap flatten (here .here) ∙ flatten-behind (digits (drop at t)) (here .fields) (here .later)
+    first : flatten (g .rest) ≡ digits (drop at t) ∷ flatten (following (here .fields) (here .later))
+    first = ap flatten (here .here) ∙ flatten-after (digits (drop at t)) (here .fields) (here .later)
 
-    passed : (fieldRefusal (digits (drop at t)) ≡ none) × (fieldsRefusal (flatten (behind (here .fields) (here .later))) ≡ none)
-    passed = fields-passed (digits (drop at t)) (flatten (behind (here .fields) (here .later))) (rw first at (g .numbers))
+    passed : (fieldRefusal (digits (drop at t)) ≡ none) × (fieldsRefusal (flatten (following (here .fields) (here .later))) ≡ none)
+    passed = fields-passed (digits (drop at t)) (flatten (following (here .fields) (here .later))) (rw first at (g .numbers))
 
     pub fill-field : fieldRefusal (digits (drop at t)) ≡ none
     fill-field = passed .0
@@ -56,7 +56,7 @@ module _ {t before cells : List ℕ} {at k : ℕ} {more : Bool} (g : Filling t b
 
     pub fill-next : {x : ℕ} → x ≡ value (digits (drop at t)) → Filling t before (set cells k x) (nextField t at) (k + 1) (fieldFollows t at)
     fill-next {x} e =
-        let rs = behind (here .fields) (here .later) in
+        let rs = following (here .fields) (here .later) in
         record {
           rest = rs;
           left = here .left;

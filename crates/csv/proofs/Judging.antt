@@ -10,18 +10,18 @@ use lib.Dec.{eqb}
 use lib.ListN.{length, drop}
 use borrow.Author.Tests.{eq-eqb, ne-eqb, not-true, not-false}
 use Rattle.semigroups.specs.Lists.{all, firstOf}
-use Rattle.semigroups.specs.Questions.{Refusal, firstNo}
+use Rattle.semigroups.specs.Questions.{Refusal, firstNo, ask}
 use Rattle.semigroups.specs.QuestionsLaws.{no}
 use Rattle.semigroups.proofs.Questions.{failed-before, passed-before}
 use Rattle.semigroups.proofs.Booleans.{impossible}
-use Rattle.csv.specs.InnerCursor.{digits, commaBehind, nextField, fieldFollows}
+use Rattle.csv.specs.InnerCursor.{digits, commaFollows, nextField, fieldFollows}
 use Rattle.csv.specs.Records.{rows}
 use Rattle.csv.specs.Tables.{fieldsOf, orderOf}
 use Rattle.csv.specs.InnerQuestions.{bytesRefusal, fieldsRefusal, gridRefusal}
 use Rattle.csv.specs.QuestionsLaws.{fieldRefusal}
-use Rattle.csv.specs.Questions.{fieldsQuestions, isSquare, squareQuestion}
+use Rattle.csv.specs.Questions.{fieldsQuestions, isSquare}
 use Rattle.csv.proofs.Fields.{no-fields, fields-first}
-use Rattle.csv.proofs.Reading.{Left, begins, Turn, behind, goesOn, flatten-behind, turn, left-true, left-none, all-left, next-later}
+use Rattle.csv.proofs.Reading.{Left, begins, Turn, following, goesOn, flatten-after, turn, left-true, left-none, all-left, next-later}
 
 -- ---- the order
 
@@ -31,7 +31,7 @@ pub record Counting (t : List ℕ) (n at : ℕ) (comma : Bool) : Type 0 where
   pub later : List (List (List ℕ))
   pub more : Bool
   pub goes-on : comma ≡ goesOn fields
-  pub left : Left t at more (behind fields later)
+  pub left : Left t at more (following fields later)
   pub order : orderOf t ≡ n + length fields
   pub few : n ≤ at
 
@@ -43,17 +43,17 @@ count-first {t} one b = go refl (all-left one b)
     go q (begins {f = f} {fs = fs} {rs = rs} i r l) =
         record { fields = f ∷ fs; later = rs; more = true; goes-on = refl; left = begins i r l; order = rw q (omega arith); few = omega arith }
 
-pub count-turn : {t : List ℕ} {n at : ℕ} {comma : Bool} (k : Counting t n at comma) → comma ≡ true → Turn t at (behind (k .fields) (k .later))
+pub count-turn : {t : List ℕ} {n at : ℕ} {comma : Bool} (k : Counting t n at comma) → comma ≡ true → Turn t at (following (k .fields) (k .later))
 count-turn {t} {n} {at} {comma} k c = go (k .fields) (sym (k .goes-on) ∙ c) (k .left)
   where
-    go : (fs : List (List ℕ)) → goesOn fs ≡ true → {m : Bool} → Left t at m (behind fs (k .later)) → Turn t at (behind fs (k .later))
+    go : (fs : List (List ℕ)) → goesOn fs ≡ true → {m : Bool} → Left t at m (following fs (k .later)) → Turn t at (following fs (k .later))
     go [] e l = impossible (cc)
     go (g ∷ gs) e l = turn (left-true l) l
 
-pub count-more : {t : List ℕ} {n at : ℕ} {comma : Bool} → Counting t n at comma → comma ≡ true → Counting t (n + 1) (nextField t at) (commaBehind t at)
+pub count-more : {t : List ℕ} {n at : ℕ} {comma : Bool} → Counting t n at comma → comma ≡ true → Counting t (n + 1) (nextField t at) (commaFollows t at)
 count-more {t} {n} {at} {comma} k c = go (k .fields) (sym (k .goes-on) ∙ c) (k .order) (count-turn k c)
   where
-    go : (fs : List (List ℕ)) → goesOn fs ≡ true → orderOf t ≡ n + length fs → Turn t at (behind fs (k .later)) → Counting t (n + 1) (nextField t at) (commaBehind t at)
+    go : (fs : List (List ℕ)) → goesOn fs ≡ true → orderOf t ≡ n + length fs → Turn t at (following fs (k .later)) → Counting t (n + 1) (nextField t at) (commaFollows t at)
     go [] e o x = impossible (cc)
     go (g ∷ gs) e o x =
         let few = k .few in
@@ -69,7 +69,7 @@ count-last {t} {n} k c = go (k .fields) (sym (k .goes-on) ∙ c) (k .order)
 
 -- ---- questions 23 to 26
 
--- What is left of 26 where `row` records and `column` fields of the next one are behind.
+-- What is left of 26 where `row` records and `column` fields of the next one are done.
 abbrev evenLeft : ℕ → ℕ → List (List (List ℕ)) → Bool
 evenLeft n column [] = true
 evenLeft n column (r ∷ rs) = eqb (column + length r) n && all (λ k. eqb (length k) n) rs
@@ -102,11 +102,11 @@ judge-first {t} {n} one b =
 module _ (n : ℕ) (t : List ℕ) where
   pub says-field : {r : Refusal} → fieldsRefusal (fieldsOf t) ≡ some r → some r ≡ gridRefusal n t
   unfolding gridRefusal fieldsRefusal
-  says-field h = sym (failed-before (fieldsQuestions (fieldsOf t)) (squareQuestion n t ∷ []) h)
+  says-field h = sym (failed-before (fieldsQuestions (fieldsOf t)) (ask 26 (isSquare n (rows t)) ∷ []) h)
 
-  square-left : fieldsRefusal (fieldsOf t) ≡ none → gridRefusal n t ≡ firstNo (squareQuestion n t ∷ [])
+  square-left : fieldsRefusal (fieldsOf t) ≡ none → gridRefusal n t ≡ firstNo (ask 26 (isSquare n (rows t)) ∷ [])
   unfolding gridRefusal fieldsRefusal
-  square-left h = passed-before (fieldsQuestions (fieldsOf t)) (squareQuestion n t ∷ []) h
+  square-left h = passed-before (fieldsQuestions (fieldsOf t)) (ask 26 (isSquare n (rows t)) ∷ []) h
 
   says-uneven : fieldsRefusal (fieldsOf t) ≡ none → isSquare n (rows t) ≡ false → some (no 26 []) ≡ gridRefusal n t
   unfolding firstOf orElse
@@ -144,12 +144,12 @@ module _ {t : List ℕ} {n at row column : ℕ} {square more : Bool} (k : Judgin
     here = turn h (k .left)
 
     -- The field at this place is asked next.
-    asked : fieldsRefusal (fieldsOf t) ≡ orElse (fieldRefusal (digits (drop at t))) (fieldsRefusal (flatten (behind (here .fields) (here .later))))
+    asked : fieldsRefusal (fieldsOf t) ≡ orElse (fieldRefusal (digits (drop at t))) (fieldsRefusal (flatten (following (here .fields) (here .later))))
     asked =
         k .fields
         ∙ ap (λ (rs : List (List (List ℕ))). fieldsRefusal (flatten rs)) (here .here)
-        ∙ ap fieldsRefusal (flatten-behind (digits (drop at t)) (here .fields) (here .later))
-        ∙ fields-first (digits (drop at t)) (flatten (behind (here .fields) (here .later)))
+        ∙ ap fieldsRefusal (flatten-after (digits (drop at t)) (here .fields) (here .later))
+        ∙ fields-first (digits (drop at t)) (flatten (following (here .fields) (here .later)))
 
     pub judge-refused : {r : Refusal} → fieldRefusal (digits (drop at t)) ≡ some r → fieldsRefusal (fieldsOf t) ≡ some r
     unfolding orElse
@@ -158,13 +158,13 @@ module _ {t : List ℕ} {n at row column : ℕ} {square more : Bool} (k : Judgin
     module _ (passes : fieldRefusal (digits (drop at t)) ≡ none) where
       -- The state at the next field, once what is left of the shape is known.
       judge-next : (row′ column′ : ℕ) (square′ : Bool) → row′ ≤ at + 1 → column′ ≤ at + 1
-          → (square && squareLeft n row column ((digits (drop at t) ∷ here .fields) ∷ here .later)) ≡ (square′ && squareLeft n row′ column′ (behind (here .fields) (here .later)))
+          → (square && squareLeft n row column ((digits (drop at t) ∷ here .fields) ∷ here .later)) ≡ (square′ && squareLeft n row′ column′ (following (here .fields) (here .later)))
           → Judging t n (nextField t at) row′ column′ square′ (fieldFollows t at)
       unfolding orElse
       judge-next row′ column′ square′ r c e =
           let w = next-later t at in
           record {
-            rest = behind (here .fields) (here .later);
+            rest = following (here .fields) (here .later);
             left = here .left;
             fields = asked ∙ rw passes;
             shape = k .shape ∙ ap (λ (rs : List (List (List ℕ))). square && squareLeft n row column rs) (here .here) ∙ e;
@@ -172,18 +172,18 @@ module _ {t : List ℕ} {n at row column : ℕ} {square more : Bool} (k : Judgin
             few-columns = omega arith;
           }
 
-      pub judge-comma : commaBehind t at ≡ true → Judging t n (nextField t at) row (column + 1) square (fieldFollows t at)
+      pub judge-comma : commaFollows t at ≡ true → Judging t n (nextField t at) row (column + 1) square (fieldFollows t at)
       judge-comma c =
           let w = k .few-rows in
           let v = k .few-columns in
           judge-next row (column + 1) square (omega arith) (omega arith) (go (here .fields) (sym (here .comma) ∙ c))
         where
           go : (fs : List (List ℕ)) → goesOn fs ≡ true
-              → (square && squareLeft n row column ((digits (drop at t) ∷ fs) ∷ here .later)) ≡ (square && squareLeft n row (column + 1) (behind fs (here .later)))
+              → (square && squareLeft n row column ((digits (drop at t) ∷ fs) ∷ here .later)) ≡ (square && squareLeft n row (column + 1) (following fs (here .later)))
           go [] e = impossible (cc)
           go (g ∷ gs) e = let m : column + suc (suc (length gs)) ≡ column + 1 + suc (length gs) = omega arith in rw m
 
-      module _ (c : commaBehind t at ≡ false) where
+      module _ (c : commaFollows t at ≡ false) where
         at-break : (square′ : Bool) → ((m : ℕ) (x : Bool) → (square && (eqb m n && (eqb (column + 1) n && x))) ≡ (square′ && (eqb m n && x)))
             → Judging t n (nextField t at) (row + 1) 0 square′ (fieldFollows t at)
         at-break square′ same =
@@ -191,7 +191,7 @@ module _ {t : List ℕ} {n at row column : ℕ} {square more : Bool} (k : Judgin
             judge-next (row + 1) 0 square′ (omega arith) (omega arith) (go (here .fields) (sym (here .comma) ∙ c))
           where
             go : (fs : List (List ℕ)) → goesOn fs ≡ false
-                → (square && squareLeft n row column ((digits (drop at t) ∷ fs) ∷ here .later)) ≡ (square′ && squareLeft n (row + 1) 0 (behind fs (here .later)))
+                → (square && squareLeft n row column ((digits (drop at t) ∷ fs) ∷ here .later)) ≡ (square′ && squareLeft n (row + 1) 0 (following fs (here .later)))
             go [] e =
                 let m : row + suc (length (here .later)) ≡ row + 1 + length (here .later) = omega arith in
                 same (row + suc (length (here .later))) (all (λ r. eqb (length r) n) (here .later)) ∙ rw (m, even-zero)

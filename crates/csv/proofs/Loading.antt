@@ -19,7 +19,7 @@ use Rattle.semigroups.proofs.Booleans.{both, and-left, and-right}
 use Rattle.semigroups.proofs.Questions.{ask-passed, all-passed, failed-before, passed-before, both-passed, Listed, listed, listed-append}
 use Rattle.csv.specs.Records.{rows}
 use Rattle.csv.specs.Tables.{fieldsOf, orderOf, cellsOf}
-use Rattle.csv.specs.Questions.{longest, bytesQuestion, fieldQuestions, fieldsQuestions, isSquare, squareQuestion, gridQuestions, sizeQuestions, loadQuestions, loadRefusal}
+use Rattle.csv.specs.Questions.{longestText, bytesQuestion, fieldQuestions, fieldsQuestions, isSquare, gridQuestions, sizeQuestions, loadQuestions, loadRefusal}
 use Rattle.csv.specs.InnerQuestions.{bytesRefusal, fieldsRefusal, gridRefusal}
 use Rattle.semigroups.specs.Calls.{refused, gives, overwritten}
 use Rattle.csv.specs.Calls.{loadAnswer, cellsAfter}
@@ -49,8 +49,8 @@ pub record Square (n : ℕ) (t : List ℕ) : Type 0 where
 pub grid-passed : (n : ℕ) (t : List ℕ) → gridRefusal n t ≡ none → Square n t
 unfolding gridRefusal fieldsRefusal
 grid-passed n t h =
-    let p = both-passed (fieldsQuestions (fieldsOf t)) (squareQuestion n t ∷ []) h in
-    record { numbers = p .0; square = ask-passed 26 (isSquare n (rows t)) (all-passed (squareQuestion n t ∷ []) .0 (p .1) .0) }
+    let p = both-passed (fieldsQuestions (fieldsOf t)) (ask 26 (isSquare n (rows t)) ∷ []) h in
+    record { numbers = p .0; square = ask-passed 26 (isSquare n (rows t)) (all-passed (ask 26 (isSquare n (rows t)) ∷ []) .0 (p .1) .0) }
 
 pub cells-length : (n : ℕ) (t : List ℕ) → Square n t → length (cellsOf t) ≡ n * n
 unfolding cellsOf fieldsOf
@@ -74,7 +74,7 @@ module _ (t : List ℕ) (room : ℕ) where
   module _ (one : 1 ≤ length t) (most : length t ≤ 57720) where
     bytes-left : loadRefusal t room ≡ firstNo (bytesQuestion t ∷ from-fields)
     unfolding loadRefusal firstOf orElse isElement
-    bytes-left = rw (le-leb 1 (length t) one, le-leb (length t) longest most)
+    bytes-left = rw (le-leb 1 (length t) one, le-leb (length t) longestText most)
 
     pub bad-byte : {r : Refusal} → bytesRefusal t ≡ some r → loadRefusal t room ≡ some r
     unfolding bytesRefusal
@@ -129,13 +129,13 @@ pub record Loadable (t : List ℕ) (size : ℕ) : Type 0 where
 pub load-passed : (t : List ℕ) (room : ℕ) → loadRefusal t room ≡ none → Loadable t room
 unfolding loadRefusal bytesRefusal gridRefusal
 load-passed t room h =
-    let first = ask 20 (isElement longest (length t)) ∷ bytesQuestion t ∷ [] in
+    let first = ask 20 (isElement longestText (length t)) ∷ bytesQuestion t ∷ [] in
     let p = both-passed first (from-fields t room) h in
     let q = both-passed (gridQuestions (orderOf t) t) (sizeQuestions t room) (p .1) in
     let begin = all-passed first .0 (p .0) in
     let end = all-passed (sizeQuestions t room) .0 (q .1) in
     record {
-      some-byte = is-element longest (length t) (ask-passed 20 (isElement longest (length t)) (begin .0)) .0;
+      some-byte = is-element longestText (length t) (ask-passed 20 (isElement longestText (length t)) (begin .0)) .0;
       bytes = all-passed (bytesQuestion t ∷ []) .1 (begin .1);
       grid = grid-passed (orderOf t) t (q .0);
       order = leb-true (orderOf t) 120 (ask-passed 1 (leb (orderOf t) 120) (end .0));
@@ -149,19 +149,19 @@ unfolding fieldsQuestions flatMap
 fields-listed ns h [] = listed ns [] (unfold all in refl)
 fields-listed ns h (f ∷ fs) = listed-append ns (fieldQuestions f) (fieldsQuestions fs) (listed ns (fieldQuestions f) h) (fields-listed ns h fs)
 
--- Behind 20: 21 to 26, and those of the last two questions.
+-- After 20: 21 to 26, and those of the last two questions.
 pub later-listed : (ns : List ℕ) → all (λ k. member k ns) (21 ∷ []) ≡ true → all (λ k. member k ns) (24 ∷ 23 ∷ 25 ∷ []) ≡ true → all (λ k. member k ns) (26 ∷ []) ≡ true
     → (t : List ℕ) (room : ℕ) → Listed ns (sizeQuestions t room) → Listed ns (bytesQuestion t ∷ from-fields t room)
 later-listed ns a b c t room h =
     listed-append ns (bytesQuestion t ∷ []) (from-fields t room) (listed ns (bytesQuestion t ∷ []) a)
     (listed-append ns (gridQuestions (orderOf t) t) (sizeQuestions t room)
-    (listed-append ns (fieldsQuestions (fieldsOf t)) (squareQuestion (orderOf t) t ∷ []) (fields-listed ns b (fieldsOf t)) (listed ns (squareQuestion (orderOf t) t ∷ []) c)) h)
+    (listed-append ns (fieldsQuestions (fieldsOf t)) (ask 26 (isSquare (orderOf t) (rows t)) ∷ []) (fields-listed ns b (fieldsOf t)) (listed ns (ask 26 (isSquare (orderOf t) (rows t)) ∷ []) c)) h)
 
 -- 20 to 26, and those of the last two questions.
 pub load-listed : (ns : List ℕ) → all (λ k. member k ns) (20 ∷ 21 ∷ []) ≡ true → all (λ k. member k ns) (24 ∷ 23 ∷ 25 ∷ []) ≡ true → all (λ k. member k ns) (26 ∷ []) ≡ true
     → (t : List ℕ) (room : ℕ) → Listed ns (sizeQuestions t room) → Listed ns (loadQuestions t room)
 unfolding all
 load-listed ns a b c t room h =
-    let size = ask 20 (isElement longest (length t)) in
+    let size = ask 20 (isElement longestText (length t)) in
     listed-append ns (size ∷ []) (bytesQuestion t ∷ from-fields t room) (listed ns (size ∷ []) (both (member 20 ns) true (and-left (member 20 ns) (member 21 ns && true) a) refl))
     (later-listed ns (and-right (member 20 ns) (member 21 ns && true) a) b c t room h)

@@ -20,7 +20,7 @@ use Rattle.semigroups.proofs.Passing.{asked, element-asked, room-asked, joined,
 use Rattle.csv.specs.Decimals.{isDigit}
 use Rattle.csv.specs.Records.{isBreak, rows}
 use Rattle.csv.specs.Tables.{fieldsOf, orderOf, tableText}
-use Rattle.csv.specs.Questions.{longest, breakAt, inBreak, isAllowed, firstOther, bytesQuestion, fieldsQuestions, isSquare, squareQuestion, gridQuestions, sizeQuestions, loadRefusal, saveRefusal}
+use Rattle.csv.specs.Questions.{longestText, breakAt, inBreak, isAllowed, firstOther, bytesQuestion, fieldsQuestions, isSquare, gridQuestions, sizeQuestions, loadRefusal, saveRefusal}
 use Rattle.csv.specs.InnerQuestions.{fieldsRefusal}
 use Rattle.csv.specs.PassingLaws.{AllowedByte, a-digit, a-comma, a-cr, an-lf, Number, LoadPasses, SavePasses}
 use Rattle.csv.proofs.Records.{break-bytes}
@@ -95,7 +95,7 @@ fields-asked (f ∷ fs) =
     )
 
 -- As many records as n, each with n fields.
-square-asked : (n : ℕ) (t : List ℕ) → (firstNo (squareQuestion n t ∷ []) ≡ none) ↔ ((length (rows t) ≡ n) × ((r : List (List ℕ)) → List·Memᴰ r (rows t) → length r ≡ n))
+square-asked : (n : ℕ) (t : List ℕ) → (firstNo (ask 26 (isSquare n (rows t)) ∷ []) ≡ none) ↔ ((length (rows t) ≡ n) × ((r : List (List ℕ)) → List·Memᴰ r (rows t) → length r ≡ n))
 unfolding isSquare
 square-asked n t =
     let many = eqb (length (rows t)) n in
@@ -110,10 +110,10 @@ pub load-passes : (t : List ℕ) (room : ℕ) → (loadRefusal t room ≡ none) 
 unfolding loadRefusal fieldsRefusal
 load-passes t room =
     let n = orderOf t in
-    let grid = joined (fieldsQuestions (fieldsOf t)) (squareQuestion n t ∷ []) (fields-asked (fieldsOf t)) (square-asked n t) in
+    let grid = joined (fieldsQuestions (fieldsOf t)) (ask 26 (isSquare n (rows t)) ∷ []) (fields-asked (fieldsOf t)) (square-asked n t) in
     let from-fields = joined (gridQuestions n t) (sizeQuestions t room) grid (joined (ask 1 (leb n 120) ∷ []) (ask 27 (leb (n * n) room) ∷ []) (room-asked 1 n 120) (room-asked 27 (n * n) room)) in
     let from-bytes = joined (bytesQuestion t ∷ []) (gridQuestions n t ++ sizeQuestions t room) (bytes-asked t) from-fields in
-    let w = joined (ask 20 (isElement longest (length t)) ∷ []) (bytesQuestion t ∷ (gridQuestions n t ++ sizeQuestions t room)) (element-asked 20 longest (length t)) from-bytes in (
+    let w = joined (ask 20 (isElement longestText (length t)) ∷ []) (bytesQuestion t ∷ (gridQuestions n t ++ sizeQuestions t room)) (element-asked 20 longestText (length t)) from-bytes in (
       (λ e.
           let h = w .0 e in
           record {

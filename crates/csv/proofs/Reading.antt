@@ -12,7 +12,7 @@ use lib.ListN.{length, getD, drop, length-append, length-drop, List·getD-append
 use lib.Seq.{drop-drop, drop-append-le, drop-append-seam, getD-drop, getD-append-seam}
 use borrow.Author.Tests.{lt-ltb, le-ltb, ltb-true, ltb-false, eqb-true, eq-eqb}
 use Rattle.csv.specs.Decimals.{isDigit}
-use Rattle.csv.specs.InnerCursor.{digits, fieldEnd, commaBehind, nextField, fieldFollows}
+use Rattle.csv.specs.InnerCursor.{digits, fieldEnd, commaFollows, nextField, fieldFollows}
 use Rattle.csv.specs.Records.{isBreak, rows, recordText, rowsText}
 use Rattle.csv.specs.RoundsLaws.{endsInBreak}
 use Rattle.csv.specs.InnerQuestions.{bytesRefusal}
@@ -42,8 +42,8 @@ rowsText-break f rs = rowsText-cons (f ∷ []) rs ∙ ap (λ (l : List ℕ). l +
 -- ---- a part of a text that begins at a place
 
 module _ (t : List ℕ) (at : ℕ) where
-  part-behind : (p q : List ℕ) → drop at t ≡ p ++ q → drop (at + length p) t ≡ q
-  part-behind p q h = sym (drop-drop (length p) at t) ∙ ap (drop (length p)) h ∙ drop-append-seam p q
+  part-after : (p q : List ℕ) → drop at t ≡ p ++ q → drop (at + length p) t ≡ q
+  part-after p q h = sym (drop-drop (length p) at t) ∙ ap (drop (length p)) h ∙ drop-append-seam p q
 
   part-next : (p : List ℕ) (b : ℕ) (q : List ℕ) → drop at t ≡ p ++ b ∷ q → getD t (at + length p) 0 ≡ b
   part-next p b q h = sym (getD-drop at t (length p) 0) ∙ ap (λ (l : List ℕ). getD l (length p) 0) h ∙ getD-append-seam p b q 0
@@ -76,7 +76,7 @@ ends-at (x ∷ t) i h a b =
     let m : suc (length t) - 1 ≡ i + 1 = omega arith in
     ends-break x t ∙ rw (k, m) (simp (a, b))
 
--- Behind a line break with a row behind it, bytes of the text itself are left.
+-- After a line break with a row after it, bytes of the text itself are left.
 bytes-left : (t : List ℕ) (end k : ℕ) → getD (t ++ missing t) end 0 ≡ 13 → getD (t ++ missing t) (end + 1) 0 ≡ 10
     → end + 2 + k ≡ length (t ++ missing t) → 2 ≤ k → end + 2 < length t
 unfolding missing
@@ -105,20 +105,20 @@ in-list (x ∷ t) (suc i) b h = let w = in-list t i b h in omega arith
 
 -- ---- the rows that are left
 
--- The rows from the next field on, where `fs` are left of the first row and `rs` behind it.
-abbrev pub behind : List (List ℕ) → List (List (List ℕ)) → List (List (List ℕ))
-behind [] rs = rs
-behind (g ∷ gs) rs = (g ∷ gs) ∷ rs
+-- The rows from the next field on, where `fs` are left of the first row and `rs` after it.
+abbrev pub following : List (List ℕ) → List (List (List ℕ)) → List (List (List ℕ))
+following [] rs = rs
+following (g ∷ gs) rs = (g ∷ gs) ∷ rs
 
 -- Whether a row goes on.
 abbrev pub goesOn : List (List ℕ) → Bool
 goesOn [] = false
 goesOn (g ∷ gs) = true
 
-pub flatten-behind : (f : List ℕ) (fs : List (List ℕ)) (rs : List (List (List ℕ))) → flatten ((f ∷ fs) ∷ rs) ≡ f ∷ flatten (behind fs rs)
+pub flatten-after : (f : List ℕ) (fs : List (List ℕ)) (rs : List (List (List ℕ))) → flatten ((f ∷ fs) ∷ rs) ≡ f ∷ flatten (following fs rs)
 unfolding flatten
-flatten-behind f [] rs = refl
-flatten-behind f (g ∷ gs) rs = refl
+flatten-after f [] rs = refl
+flatten-after f (g ∷ gs) rs = refl
 
 -- The rows that are left from a place on where a field begins; or none, where no field follows.
 pub data Left (t : List ℕ) (at : ℕ) : Bool → List (List (List ℕ)) → Type 0 where
@@ -132,8 +132,8 @@ pub record Turn (t : List ℕ) (at : ℕ) (rest : List (List (List ℕ))) : Type
   pub fields : List (List ℕ)
   pub later : List (List (List ℕ))
   pub here : rest ≡ (digits (drop at t) ∷ fields) ∷ later
-  pub comma : commaBehind t at ≡ goesOn fields
-  pub left : Left t (nextField t at) (fieldFollows t at) (behind fields later)
+  pub comma : commaFollows t at ≡ goesOn fields
+  pub left : Left t (nextField t at) (fieldFollows t at) (following fields later)
 
 module _ (t : List ℕ) (at : ℕ) (inside : at ≤ length t) where
   -- The digits at a place are the field that stands there.
@@ -150,18 +150,18 @@ module _ (t : List ℕ) (at : ℕ) (inside : at ≤ length t) where
   unfolding missing
   comma-none i h = sym (comma-open t (ends t) i) ∙ rw h
 
-  -- The rows behind a line break.
-  rows-behind : (f : List ℕ) (rs : List (List (List ℕ))) → drop at (t ++ missing t) ≡ f ++ 13 ∷ 10 ∷ rowsText rs → Rows rs
+  -- The rows after a line break.
+  rows-after : (f : List ℕ) (rs : List (List (List ℕ))) → drop at (t ++ missing t) ≡ f ++ 13 ∷ 10 ∷ rowsText rs → Rows rs
       → Left t (at + length f + 2) (ltb (at + length f + 2) (length t)) rs
   unfolding rowsText flatMap
-  rows-behind f rs r l =
+  rows-after f rs r l =
       let u = t ++ missing t in
       let s : drop at u ≡ (f ++ 13 ∷ 10 ∷ []) ++ rowsText rs = r ∙ sym (append-assoc f (13 ∷ 10 ∷ []) (rowsText rs)) in
       let v : drop at u ≡ (f ++ 13 ∷ []) ++ 10 ∷ rowsText rs = r ∙ sym (append-assoc f (13 ∷ []) (10 ∷ rowsText rs)) in
       let n : at + length f + 2 ≡ at + length (f ++ 13 ∷ 10 ∷ []) = simp length-append (omega arith) in
       let m : at + length f + 1 ≡ at + length (f ++ 13 ∷ []) = simp length-append (omega arith) in
       let long = length-append t (missing t) in
-      go rs (ap (λ (i : ℕ). drop i u) n ∙ part-behind u at (f ++ 13 ∷ 10 ∷ []) (rowsText rs) s) l
+      go rs (ap (λ (i : ℕ). drop i u) n ∙ part-after u at (f ++ 13 ∷ 10 ∷ []) (rowsText rs) s) l
       (part-next u at f 13 (10 ∷ rowsText rs) r)
       (rw m (part-next u at (f ++ 13 ∷ []) 10 (rowsText rs) v))
       (omega (arith, part-length u at (f ++ 13 ∷ 10 ∷ []) (rowsText rs) (omega arith) s))
@@ -178,7 +178,7 @@ module _ (t : List ℕ) (at : ℕ) (inside : at ≤ length t) where
 
   comma-turn : (f g : List ℕ) (gs : List (List ℕ)) (rs : List (List (List ℕ))) → drop at (t ++ missing t) ≡ rowsText ((f ∷ g ∷ gs) ∷ rs)
       → Rows ((f ∷ g ∷ gs) ∷ rs) → Turn t at ((f ∷ g ∷ gs) ∷ rs)
-  unfolding isDigit commaBehind nextField fieldFollows
+  unfolding isDigit commaFollows nextField fieldFollows
   comma-turn f g gs rs e l =
       let q = rowsText ((g ∷ gs) ∷ rs) in
       let r = e ∙ rowsText-comma f g gs rs in
@@ -186,7 +186,7 @@ module _ (t : List ℕ) (at : ℕ) (inside : at ≤ length t) where
       let n : at + length f + 1 ≡ at + length (f ++ 44 ∷ []) = simp length-append (omega arith) in
       let d = field-at f 44 q (l .0 .0) refl r in
       let c = comma-at (at + length f) (part-next (t ++ missing t) at f 44 q r) in
-      let b : commaBehind t at ≡ true = rw (d, c) in
+      let b : commaFollows t at ≡ true = rw (d, c) in
       let p : nextField t at ≡ at + length f + 1 = rw (d, c) in
       let w : fieldFollows t at ≡ true = rw (d, c) in
       let k = in-list t (at + length f) 43 c in
@@ -196,21 +196,21 @@ module _ (t : List ℕ) (at : ℕ) (inside : at ≤ length t) where
         later = rs;
         here = rw d;
         comma = b;
-        left = rw (w, p) (begins (omega arith) (ap (λ (i : ℕ). drop i (t ++ missing t)) n ∙ part-behind (t ++ missing t) at (f ++ 44 ∷ []) q s) (l .0 .1, l .1));
+        left = rw (w, p) (begins (omega arith) (ap (λ (i : ℕ). drop i (t ++ missing t)) n ∙ part-after (t ++ missing t) at (f ++ 44 ∷ []) q s) (l .0 .1, l .1));
       }
 
   break-turn : (f : List ℕ) (rs : List (List (List ℕ))) → drop at (t ++ missing t) ≡ rowsText ((f ∷ []) ∷ rs) → Rows ((f ∷ []) ∷ rs) → Turn t at ((f ∷ []) ∷ rs)
-  unfolding isDigit commaBehind nextField fieldFollows
+  unfolding isDigit commaFollows nextField fieldFollows
   break-turn f rs e l =
       let u = t ++ missing t in
       let r = e ∙ rowsText-break f rs in
       let d = field-at f 13 (10 ∷ rowsText rs) (l .0 .0) refl r in
       let x = part-next u at f 13 (10 ∷ rowsText rs) r in
       let c = comma-none (at + length f) x in
-      let b : commaBehind t at ≡ false = rw (d, c) in
+      let b : commaFollows t at ≡ false = rw (d, c) in
       let p : nextField t at ≡ at + length f + 2 = rw (d, c) in
       let w : fieldFollows t at ≡ ltb (at + length f + 2) (length t) = rw (d, c) in
-      record { inside = inside; fields = []; later = rs; here = rw d; comma = b; left = rw (w, p) (rows-behind f rs r (l .1)) }
+      record { inside = inside; fields = []; later = rs; here = rw d; comma = b; left = rw (w, p) (rows-after f rs r (l .1)) }
 
 pub turn : {t : List ℕ} {at : ℕ} {more : Bool} {rs : List (List (List ℕ))} → more ≡ true → Left t at more rs → Turn t at rs
 turn e done = impossible (cc)
@@ -235,7 +235,7 @@ left-none e (begins i r l) = impossible (cc)
 -- The cursor goes forward.
 pub next-later : (t : List ℕ) (at : ℕ) → at + 1 ≤ nextField t at
 unfolding nextField
-next-later t at = elim (commaBehind t at) as (λ e. at + 1 ≤ cond e (fieldEnd t at + 1) (fieldEnd t at + 2)) [ true ↦ omega arith | false ↦ omega arith ]
+next-later t at = elim (commaFollows t at) as (λ e. at + 1 ≤ cond e (fieldEnd t at + 1) (fieldEnd t at + 2)) [ true ↦ omega arith | false ↦ omega arith ]
 
 pub turn-forward : {t : List ℕ} {at : ℕ} {rest : List (List (List ℕ))} → Turn t at rest → length t + 1 - nextField t at < length t + 1 - at
 turn-forward {t} {at} x = let i = x .inside in omega (arith, next-later t at)

@@ -19,7 +19,7 @@ use Rattle.semigroups.proofs.Questions.{passed-before, listed}
 use Rattle.csv.specs.Records.{isBreak, onto, records, fields, rows}
 use Rattle.csv.specs.RoundsLaws.{endsInBreak, closed}
 use Rattle.csv.specs.Tables.{fieldsOf}
-use Rattle.csv.specs.Questions.{longest, bytesQuestion, sizeQuestions, loadRefusal}
+use Rattle.csv.specs.Questions.{longestText, bytesQuestion, sizeQuestions, loadRefusal}
 use Rattle.csv.specs.Calls.{loadAnswer, cellsAfter}
 use Rattle.csv.specs.Requests.{TooLongClosed, TextRequests}
 use Rattle.csv.proofs.Records.{Cons, fields-cons, ends, closing, missing}
@@ -35,12 +35,12 @@ use Rattle.csv.proofs.RoundTrips.{loaded-saves, rounds-close}
 later-numbers : List ℕ
 later-numbers = 21 ∷ 23 ∷ 24 ∷ 25 ∷ 26 ∷ 1 ∷ 27 ∷ []
 
--- A text of 1 to 57,720 bytes that is refused is refused behind 20.
-behind-20 : (t : List ℕ) (room : ℕ) (r : Refusal) → 1 ≤ length t → length t ≤ longest → loadRefusal t room ≡ some r → member (r .number) later-numbers ≡ true
+-- A text of 1 to 57,720 bytes that is refused is refused after 20.
+after-20 : (t : List ℕ) (room : ℕ) (r : Refusal) → 1 ≤ length t → length t ≤ longestText → loadRefusal t room ≡ some r → member (r .number) later-numbers ≡ true
 unfolding loadRefusal all member later-numbers
-behind-20 t room r one most e =
-    let size = ask 20 (isElement longest (length t)) in
-    let passes : firstNo (size ∷ []) ≡ none = unfold firstOf orElse isElement in simp (le-leb 1 (length t) one, le-leb (length t) longest most) in
+after-20 t room r one most e =
+    let size = ask 20 (isElement longestText (length t)) in
+    let passes : firstNo (size ∷ []) ≡ none = unfold firstOf orElse isElement in simp (le-leb 1 (length t) one, le-leb (length t) longestText most) in
     later-listed later-numbers refl refl refl t room (listed later-numbers (sizeQuestions t room) refl) r (sym (passed-before (size ∷ []) (bytesQuestion t ∷ from-fields t room) passes) ∙ e)
 
 never-20 : (k : ℕ) → member k later-numbers ≡ true → k ≡ 20 → ⊥
@@ -57,12 +57,12 @@ never-22 t room r e h =
 
 -- ---- too long with its break alone
 
-some-byte : (t : List ℕ) → longest < length (closed t) → 1 ≤ length t
+some-byte : (t : List ℕ) → longestText < length (closed t) → 1 ≤ length t
 unfolding closed
 some-byte [] h = absurd (let z : ⊥ = omega arith in z)
 some-byte (b ∷ t) h = omega arith
 
-too-long-closed : (t cells : List ℕ) → length t ≤ longest → longest < length (closed t) → TooLongClosed t cells
+too-long-closed : (t cells : List ℕ) → length t ≤ longestText → longestText < length (closed t) → TooLongClosed t cells
 too-long-closed t cells most long = go (loadRefusal t (length cells)) refl
   where
     go : (o : Option Refusal) → loadRefusal t (length cells) ≡ o → TooLongClosed t cells
@@ -73,7 +73,7 @@ too-long-closed t cells most long = go (loadRefusal t (length cells)) refl
         record {
           by = r;
           refused-later = sym (open-text .0);
-          not-20 = never-20 (r .number) (behind-20 t (length cells) r (some-byte t long) most e);
+          not-20 = never-20 (r .number) (after-20 t (length cells) r (some-byte t long) most e);
           closed-20 = sym (closed-text .0);
           kept = sym (open-text .1);
           closed-kept = sym (closed-text .1);
@@ -81,7 +81,7 @@ too-long-closed t cells most long = go (loadRefusal t (length cells)) refl
 
 -- ---- a last comma
 
--- The fields of a record with a comma behind it: one more, with no byte.
+-- The fields of a record with a comma after it: one more, with no byte.
 fields-comma-last : (r : List ℕ) → fields (r ++ 44 ∷ []) ≡ fields r ++ [] ∷ []
 unfolding fields onto
 fields-comma-last [] = refl
@@ -91,7 +91,7 @@ fields-comma-last (b ∷ r) = rw (fields-comma-last r) (go (eqb b 44) (fields r)
     go true l c = refl
     go false l c = rw (c .2)
 
--- The last record of a text with a comma behind it ends in that comma.
+-- The last record of a text with a comma after it ends in that comma.
 abbrev EndsInComma : List (List ℕ) → Type 0
 EndsInComma l = (before : List (List ℕ)) × (r : List ℕ) × (l ≡ before ++ (r ++ 44 ∷ []) ∷ [])
 

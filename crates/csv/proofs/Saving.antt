@@ -90,27 +90,27 @@ module _ (n : ℕ) (cells : List ℕ) where
       let e : n + 1 - i ≡ 0 = omega arith in
       rw e
 
--- ---- a row is written: its first field, the fields behind it, the line break
+-- ---- a row is written: its first field, the fields after it, the line break
 
 module _ (n : ℕ) (cells : List ℕ) (i : ℕ) where
-  pub row-begun : (before : List ℕ) (start x : ℕ) {first : List ℕ} {behind : ℕ} → 1 ≤ n → x ≡ product n cells i 1
-      → first ≡ sets before start (numeral x) → behind ≡ start + length (numeral x)
-      → Writing before start (lineText (rowFields n cells i)) (fieldsLeft n cells i 2) first behind
+  pub row-begun : (before : List ℕ) (start x : ℕ) {first : List ℕ} {following : ℕ} → 1 ≤ n → x ≡ product n cells i 1
+      → first ≡ sets before start (numeral x) → following ≡ start + length (numeral x)
+      → Writing before start (lineText (rowFields n cells i)) (fieldsLeft n cells i 2) first following
   row-begun before start x one e placed next =
       rw (placed, next, e)
       (write-next (write-first before start (lineText (rowFields n cells i))) (numeral (product n cells i 1)) (fieldsLeft n cells i 2) (row-first n cells i one))
 
   -- A comma and field j.
-  pub row-more : {first text : List ℕ} {behind at : ℕ} (j x : ℕ) {later : List ℕ} {next : ℕ} → j ≤ n → x ≡ product n cells i j
-      → Writing first behind (fieldsLeft n cells i 2) (fieldsLeft n cells i j) text at
+  pub row-more : {first text : List ℕ} {following at : ℕ} (j x : ℕ) {later : List ℕ} {next : ℕ} → j ≤ n → x ≡ product n cells i j
+      → Writing first following (fieldsLeft n cells i 2) (fieldsLeft n cells i j) text at
       → later ≡ sets text at (44 ∷ numeral x) → next ≡ at + length (44 ∷ numeral x)
-      → Writing first behind (fieldsLeft n cells i 2) (fieldsLeft n cells i (j + 1)) later next
+      → Writing first following (fieldsLeft n cells i 2) (fieldsLeft n cells i (j + 1)) later next
   row-more j x h e w placed next = rw (placed, next, e) (write-next w (44 ∷ numeral (product n cells i j)) (fieldsLeft n cells i (j + 1)) (row-step n cells i j h))
 
   -- The line break.
-  pub row-done : {before first text : List ℕ} {start behind at : ℕ} (j : ℕ) {later : List ℕ} {next : ℕ} → n < j
-      → Writing before start (lineText (rowFields n cells i)) (fieldsLeft n cells i 2) first behind
-      → Writing first behind (fieldsLeft n cells i 2) (fieldsLeft n cells i j) text at
+  pub row-done : {before first text : List ℕ} {start following at : ℕ} (j : ℕ) {later : List ℕ} {next : ℕ} → n < j
+      → Writing before start (lineText (rowFields n cells i)) (fieldsLeft n cells i 2) first following
+      → Writing first following (fieldsLeft n cells i 2) (fieldsLeft n cells i j) text at
       → later ≡ sets text at (13 ∷ 10 ∷ []) → next ≡ at + 2
       → (next ≡ start + length (lineText (rowFields n cells i))) × (later ≡ sets before start (lineText (rowFields n cells i)))
   row-done j h b w placed next =

@@ -104,7 +104,7 @@ table-rows n cells h = map-rows n cells (elements n) ∙ ap (map (map numeral)) 
 
 -- ---- the length of a text
 
--- A field and the byte behind it.
+-- A field and the byte after it.
 abbrev pub width : List ℕ → ℕ
 width f = length f + 1
 
@@ -143,7 +143,7 @@ some-rows n (r ∷ rs) h e = (some-row r (e .0), some-rows n rs h (e .1))
     some-row [] q = let w : ⊥ = omega arith in w
     some-row (x ∷ r) q = tt
 
--- Each cell takes its digits and a byte behind them, each row one byte more.
+-- Each cell takes its digits and a byte after them, each row one byte more.
 pub text-length : (n : ℕ) (cells : List ℕ) → 1 ≤ n → length cells ≡ n * n → length (tableText n cells) ≡ n + sum (λ x. length (numeral x) + 1) cells
 unfolding tableText
 text-length n cells one size =

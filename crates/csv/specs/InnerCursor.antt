@@ -18,13 +18,13 @@ abbrev pub fieldEnd : List ℕ → ℕ → ℕ
 fieldEnd t at = at + length (digits (drop at t))
 
 -- Whether a comma stands after the field, so that its record goes on.
-unfoldable pub commaBehind : List ℕ → ℕ → Bool
-commaBehind t at = eqb (getD t (fieldEnd t at) 0) 44
+unfoldable pub commaFollows : List ℕ → ℕ → Bool
+commaFollows t at = eqb (getD t (fieldEnd t at) 0) 44
 
 -- Where the next field begins: after the comma, else after the line break. Where the text ends, no field begins there.
 unfoldable pub nextField : List ℕ → ℕ → ℕ
-nextField t at = cond (commaBehind t at) (fieldEnd t at + 1) (fieldEnd t at + 2)
+nextField t at = cond (commaFollows t at) (fieldEnd t at + 1) (fieldEnd t at + 2)
 
 -- Whether there is a next field. After a comma there always is one, though it may be empty at the end of the text; else there is one if bytes are left.
 unfoldable pub fieldFollows : List ℕ → ℕ → Bool
-fieldFollows t at = commaBehind t at || ltb (nextField t at) (length t)
+fieldFollows t at = commaFollows t at || ltb (nextField t at) (length t)

@@ -9,15 +9,15 @@ use Prim.Native.Nat.{ℕ, zero, suc, _*_}
 use lib.Dec.{eqb, leb}
 use lib.ListN.{length, getD}
 use Rattle.semigroups.specs.Lists.{range, all, find}
-use Rattle.semigroups.specs.Tables.{isElement}
+use Rattle.semigroups.specs.Tables.{largestOrder, isElement}
 use Rattle.semigroups.specs.Questions.{Question, ask, seek, Refusal, firstNo, cellsQuestions}
 use Rattle.csv.specs.Decimals.{isDigit, value}
 use Rattle.csv.specs.Records.{isBreak, rows}
 use Rattle.csv.specs.Tables.{fieldsOf, orderOf, tableText}
 
 -- The largest number of bytes that a text may have: those of a table of order 120 whose cells all take three digits.
-abbrev pub longest : ℕ
-longest = 57720
+abbrev pub longestText : ℕ
+longestText = 57720
 
 -- ---- the bytes of a text; places count from 0
 
@@ -47,7 +47,7 @@ bytesQuestion t = seek 21 (Option·map (λ p. p ∷ []) (firstOther t))
 -- The questions about a field: 24, is its first byte other than 0? An empty field has no first byte, and passes. 23, is it 1 to 3 bytes? 25, is it at most
 -- 120?
 abbrev pub fieldQuestions : List ℕ → List Question
-fieldQuestions f = ask 24 (not (eqb (getD f 0 0) 48)) ∷ ask 23 (isElement 3 (length f)) ∷ ask 25 (leb (value f) 120) ∷ []
+fieldQuestions f = ask 24 (not (eqb (getD f 0 0) 48)) ∷ ask 23 (isElement 3 (length f)) ∷ ask 25 (leb (value f) largestOrder) ∷ []
 
 -- The questions about the fields in reading order: the three about one field come before those about the next.
 unfoldable pub fieldsQuestions : List (List ℕ) → List Question
@@ -57,24 +57,20 @@ fieldsQuestions fs = flatMap fieldQuestions fs
 unfoldable pub isSquare : ℕ → List (List (List ℕ)) → Bool
 isSquare n rs = eqb (length rs) n && all (λ r. eqb (length r) n) rs
 
--- Question 26 for a given order n: are there n records, each with n fields?
-abbrev pub squareQuestion : ℕ → List ℕ → Question
-squareQuestion n t = ask 26 (isSquare n (rows t))
-
--- Questions 24, 23 and 25 about each field; then 26 for a given order n.
+-- Questions 24, 23 and 25 about each field; then 26 for a given order n: are there n records, each with n fields?
 abbrev pub gridQuestions : ℕ → List ℕ → List Question
-gridQuestions n t = fieldsQuestions (fieldsOf t) ++ squareQuestion n t ∷ []
+gridQuestions n t = fieldsQuestions (fieldsOf t) ++ ask 26 (isSquare n (rows t)) ∷ []
 
 -- ---- the calls
 
 -- The questions about a square text and a buffer of this many cells: 1, is the order at most 120? 27, has the buffer at least n × n bytes?
 abbrev pub sizeQuestions : List ℕ → ℕ → List Question
-sizeQuestions t room = ask 1 (leb (orderOf t) 120) ∷ ask 27 (leb (orderOf t * orderOf t) room) ∷ []
+sizeQuestions t room = ask 1 (leb (orderOf t) largestOrder) ∷ ask 27 (leb (orderOf t * orderOf t) room) ∷ []
 
 -- The questions about loading a text into a buffer of this many cells: 20, is it 1 to 57,720 bytes long? Then 21; 24, 23 and 25 about each field; 26, are
 -- there as many records as the first has fields, each with that many? Then 1 and 27. Neither 3 nor 4 is asked.
 abbrev pub loadQuestions : List ℕ → ℕ → List Question
-loadQuestions t room = ask 20 (isElement longest (length t)) ∷ bytesQuestion t ∷ (gridQuestions (orderOf t) t ++ sizeQuestions t room)
+loadQuestions t room = ask 20 (isElement longestText (length t)) ∷ bytesQuestion t ∷ (gridQuestions (orderOf t) t ++ sizeQuestions t room)
 
 -- The refusal of a call that loads, if a question fails.
 unfoldable pub loadRefusal : List ℕ → ℕ → Option Refusal

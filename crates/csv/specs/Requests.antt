@@ -9,7 +9,7 @@ use Rattle.semigroups.specs.QuestionsLaws.{no}
 use Rattle.semigroups.specs.Calls.{refused}
 use Rattle.csv.specs.RoundsLaws.{closed, LoadedSaves, LoadsClosed, Buffers, textHeld, rounds, RoundsClose}
 use Rattle.csv.specs.Tables.{fieldsOf, orderOf, cellsOf}
-use Rattle.csv.specs.Questions.{longest, firstOther, loadRefusal}
+use Rattle.csv.specs.Questions.{longestText, firstOther, loadRefusal}
 use Rattle.csv.specs.QuestionsLaws.{fieldRefusal}
 use Rattle.csv.specs.PassingLaws.{LoadPasses}
 use Rattle.csv.specs.Calls.{loadAnswer, cellsAfter}
@@ -27,11 +27,11 @@ pub record TooLongClosed (t cells : List ℕ) : Type 0 where
 -- What RULES 19.2 and 19.6 ask to be shown.
 pub record TextRequests : Type 0 where
   -- RULES 19.2: "Such a text now loads exactly as if CR LF followed": a text of at most 57,720 bytes with its last line break, and any text that loads.
-  pub as-closed : (t cells : List ℕ) → length (closed t) ≤ longest → LoadsClosed t cells
+  pub as-closed : (t cells : List ℕ) → length (closed t) ≤ longestText → LoadsClosed t cells
   pub loaded-as-closed : (t cells : List ℕ) → LoadPasses t (length cells) → LoadsClosed t cells
   -- "20 and 21 speak of the text as it came": so a text of 57,719 or 57,720 bytes that lacks its last line break is not refused by the question that refuses
   -- it with the line break; and the first other byte is the same.
-  pub too-long-closed : (t cells : List ℕ) → length t ≤ longest → longest < length (closed t) → TooLongClosed t cells
+  pub too-long-closed : (t cells : List ℕ) → length t ≤ longestText → longestText < length (closed t) → TooLongClosed t cells
   pub same-other-byte : (t : List ℕ) → firstOther (closed t) ≡ firstOther t
   -- "A text that ends in a comma has an empty last field."
   pub comma-last : (t : List ℕ) → (before : List (List ℕ)) × (fieldsOf (t ++ 44 ∷ []) ≡ before ++ [] ∷ [])

@@ -5,7 +5,7 @@ use lib.ListN.{length, replicate}
 use Rattle.semigroups.specs.Tables.{product}
 use Rattle.semigroups.specs.QuestionsLaws.{no, EarliestNo}
 use Rattle.semigroups.specs.Questions.{searchQuestions, searchRefusal}
-use Rattle.semigroups.specs.Calls.{refused, gives}
+use Rattle.semigroups.specs.Calls.{refused, gives, Answer}
 use Rattle.semigroups.specs.Maps.{Sought, first, sought}
 use Rattle.semigroups.specs.Trials as trials
 use Rattle.semigroups.specs.Generated.{generated}
@@ -29,8 +29,8 @@ use Rattle.sheets.specs.Questions.{loadNamesQuestions, loadNamesRefusal, saveNa
 use Rattle.sheets.specs.Calls.{loadNamesAnswer, saveNamesAnswer}
 use Rattle.sheets.proofs.Passing.{load-names-pass, save-names-pass, load-keeps, save-keeps}
 use Rattle.search.specs.Limited.{firstWork, limitedCall}
-use Rattle.search.specs.Calls.{Called}
-use Rattle.search.specs.Among.{amongQuestions, amongRefusal, answerAmong, callAmong}
+use Rattle.search.specs.Calls.{Called, marksOf}
+use Rattle.search.specs.Among.{amongQuestions, amongRefusal, answerAmong, marksAmong, callAmong}
 use Rattle.search.specs.AmongLaws.{leftInLeft}
 use Rattle.search.proofs.Limits.{limits-theorem}
 use Rattle.search.proofs.Among.{among-passes}
@@ -39,7 +39,7 @@ use Rattle.search.proofs.AmongExamples.{among-examples}
 use Rattle.copies.specs.Calls.{copiesSays, copiesScratch}
 use Rattle.copies.proofs.Answering.{copies-keep}
 use Rattle.demands.specs.Added.{AddedCalls}
-use Rattle.demands.proofs.Answers.{asks, answers}
+use Rattle.demands.proofs.Answers.{asks, answers, search-answers}
 
 pub added-calls : AddedCalls
 unfolding loadNamesAnswer loadNamesRefusal saveNamesAnswer saveNamesRefusal limitedCall searchRefusal generatorsRefusal subsemigroupSays subsemigroupRefusal degreeSays degreeRefusal copiesSays copiesRefusal callAmong amongRefusal
@@ -48,7 +48,7 @@ added-calls =
       load-names = λ w names lengths. answers (loadNamesQuestions w (length names) (length lengths)) (load-names-pass (length names) (length lengths) w) (length (namesIn w));
       save-names = λ names lengths text. answers (saveNamesQuestions names lengths (length text)) (save-names-pass names lengths (length text)) (length (namesText (namesAt names lengths)));
       limited = λ kind limit l.
-          answers (searchQuestions (l .m) (l .source) (l .n) (l .target) (length (l .mapBytes)) (length (l .scratch)))
+          search-answers (marksOf kind l) l (trials.foundWithin limit (firstWork kind l)) (searchQuestions (l .m) (l .source) (l .n) (l .target) (length (l .mapBytes)) (length (l .scratch)))
           (search-passes (l .m) (l .source) (l .n) (l .target) (length (l .mapBytes)) (length (l .scratch))) (trials.limited limit (firstWork kind l));
       generators = λ n cells l. asks (generatorsQuestions n cells l) (generators-pass n cells l);
       generators-meant = λ n cells l r. generators-refused n cells l r;
@@ -56,7 +56,7 @@ added-calls =
       least-degree = λ m cells size. answers (degreeQuestions m cells size) (degree-passes m cells size) (leastDegree m (product m cells));
       copies = λ m source n target k. answers (copiesQuestions m source n target k) (copies-pass m source n target k) (copiesCapped m (product m source) n (product n target));
       among = λ ask pairs l.
-          answers (amongQuestions (l .m) (l .source) (l .n) (l .target) (length (l .mapBytes)) (length (l .scratch)) (length pairs)) (among-passes pairs l) (sought (answerAmong ask pairs l));
+          search-answers (marksAmong pairs l) l (answerAmong ask pairs l) (amongQuestions (l .m) (l .source) (l .n) (l .target) (length (l .mapBytes)) (length (l .scratch)) (length pairs)) (among-passes pairs l) (sought (answerAmong ask pairs l));
       load-names-refused = load-keeps;
       save-names-refused = save-keeps;
       limited-refused = limits-theorem .refused-unchanged;
@@ -94,4 +94,4 @@ copies-kept = added-calls .copies-refused 1 (one .cells) 2 (left .cells) [] (no 
 pairs-short : EarliestNo (amongQuestions 2 (left .cells) 2 (left .cells) 2 2 0) (no 70 [])
 pairs-short =
     added-calls .among first [] (leftInLeft (0 ∷ 0 ∷ [])) .refused-exactly (no 70 []) .0
-    (ap (λ (c : Called Sought). c .says) (among-examples .4))
+    (ap (λ (c : Called (Answer Sought)). c .says) (among-examples .4))

@@ -3,51 +3,31 @@
 use mathlib.Core.List.{List, [], _∷_}
 use mathlib.Core.Option.{Option, none, some}
 use Prim.Native.Nat.{ℕ}
-use Rattle.semigroups.specs.Questions.{Refusal, sideOf}
+use Rattle.semigroups.specs.Questions.{Refusal}
 use Rattle.semigroups.specs.Calls.{Answer, refused, gives}
 use Rattle.semigroups.specs.Invariants.{IndexPeriod, Profile}
 use Rattle.semigroups.specs.MapCheck.{Checked, holds, outside, equalImages, wrongProduct}
 use Rattle.semigroups.specs.Maps.{Sought, found, nothing}
 use Rattle.semigroups.specs.Trials.{Limited, stopped, ended}
 use Rattle.semigroups.specs.Copies as copies
-use Rattle.search.specs.Calls.{Called}
+use Rattle.search.specs.Calls.{Called, called}
 use Rattle.exports.specs.Words.{words}
-
--- ---- the layout
-
--- The sixteen numbers of a refusal.
-abbrev pub refusalWords : Refusal → List ℕ
-refusalWords r = words (r .number) (sideOf (r .side)) (r .values)
-
--- The sixteen numbers of a call that is not refused: number 0, no side, and these values.
-abbrev pub valueWords : List ℕ → List ℕ
-valueWords values = words 0 0 values
 
 -- ---- what a call says
 
+-- The sixteen numbers of an answer: those of the refusal; or 0, no side, and the values of what is given.
+abbrev pub answerWords : {A : Type 0} → (A → List ℕ) → Answer A → List ℕ
+answerWords values (refused r) = words (r .number) (r .side) (r .values)
+answerWords values (gives x) = words 0 0 (values x)
+
 -- The sixteen numbers of a call that only asks questions. It has no values.
 abbrev pub questionWords : Option Refusal → List ℕ
-questionWords none = valueWords []
-questionWords (some r) = refusalWords r
+questionWords (some r) = words (r .number) (r .side) (r .values)
+questionWords none = words 0 0 []
 
--- The sixteen numbers of an answer: a refusal, or what is given, by its values.
-abbrev pub answerWords : {A : Type 0} → (A → List ℕ) → Answer A → List ℕ
-answerWords values (refused r) = refusalWords r
-answerWords values (gives x) = valueWords (values x)
-
--- What a search returns: the sixteen numbers of its answer, and the two buffers.
-pub record Returned : Type 0 where
-  pub answer : List ℕ
-  pub mapBytes : List ℕ
-  pub scratch : List ℕ
-
--- The record of these sixteen numbers and two buffers.
-abbrev pub returned : List ℕ → List ℕ → List ℕ → Returned
-returned answer mapBytes scratch = record { answer = answer; mapBytes = mapBytes; scratch = scratch }
-
--- What a search returns to another language, from what it says and leaves.
-abbrev pub wordsOf : {A : Type 0} → (A → List ℕ) → Called A → Returned
-wordsOf values c = returned (answerWords values (c .says)) (c .mapBytes) (c .scratch)
+-- What a search says and leaves, with its answer as sixteen numbers.
+abbrev pub wordsOf : {A : Type 0} → (A → List ℕ) → Called (Answer A) → Called (List ℕ)
+wordsOf values c = called (answerWords values (c .says)) (c .mapBytes) (c .scratch)
 
 -- ---- values
 

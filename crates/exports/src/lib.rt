@@ -17,7 +17,7 @@ ghost use Rattle.generated.specs.Answers.{generatorsVerdictRefusal};
 ghost use Rattle.generated.specs.Calls.{subsemigroupSays, partAfter, elementsAfter};
 ghost use Rattle.copies.specs.Calls.{copiesSays, copiesScratch};
 ghost use Rattle.copies.specs.Answers.{copiesAnswerSays};
-ghost use Rattle.search.specs.Calls.{lend, call};
+ghost use Rattle.search.specs.Calls.{lend, called, call};
 ghost use Rattle.search.specs.Answers.{searchAnswerSays, limitedAnswerSays};
 ghost use Rattle.search.specs.Limited.{limitedCall};
 ghost use Rattle.search.specs.Among.{callAmong};
@@ -25,7 +25,7 @@ ghost use Rattle.transformations.specs.Calls.{transformationSays, transformatio
 ghost use Rattle.csv.specs.Calls.{loadAnswer, cellsAfter, saveAnswer, textAfter};
 ghost use Rattle.exports.specs.Words.{words};
 ghost use Rattle.exports.specs.Answers.{numbersWords};
-ghost use Rattle.exports.specs.Numbers.{questionWords, valueWords, answerWords, returned, wordsOf, indexPeriodValues, profileValues, checkedValues, soughtValues, limitedValues, numberValues, degreeValues, copiesValues};
+ghost use Rattle.exports.specs.Numbers.{questionWords, answerWords, wordsOf, indexPeriodValues, profileValues, checkedValues, soughtValues, limitedValues, numberValues, degreeValues, copiesValues};
 ghost use Rattle.planning.specs.Calls.{degreeSays, positionsAfter};
 ghost use Rattle.planning.specs.Answers.{degreeAnswerSays};
 ghost use Rattle.sheets.specs.Readings.{Reading};
@@ -252,7 +252,7 @@ pub extern "C" fn tickdrizzle_first_embedding(
     scratch: &mut [u8],
     answer: &mut [u64; 16],
 )
-    ensures call { λ _. ⌜ returned (now (answer .exit)) (now (map .exit)) (now (scratch .exit)) ≡ wordsOf soughtValues (call embeddings first (lend (now (source .entry)) m (now (target .entry)) n (now (map .entry)) (now (scratch .entry)))) ⌝ }
+    ensures call { λ _. ⌜ called (now (answer .exit)) (now (map .exit)) (now (scratch .exit)) ≡ wordsOf soughtValues (call embeddings first (lend (now (source .entry)) m (now (target .entry)) n (now (map .entry)) (now (scratch .entry)))) ⌝ }
 {
     *answer = search_words(search::first(Kind::Embeddings, source, m, target, n, map, scratch));
 }
@@ -268,7 +268,7 @@ pub extern "C" fn tickdrizzle_next_embedding(
     scratch: &mut [u8],
     answer: &mut [u64; 16],
 )
-    ensures call { λ _. ⌜ returned (now (answer .exit)) (now (map .exit)) (now (scratch .exit)) ≡ wordsOf soughtValues (call embeddings (next (now (map .entry))) (lend (now (source .entry)) m (now (target .entry)) n (now (map .entry)) (now (scratch .entry)))) ⌝ }
+    ensures call { λ _. ⌜ called (now (answer .exit)) (now (map .exit)) (now (scratch .exit)) ≡ wordsOf soughtValues (call embeddings (next (now (map .entry))) (lend (now (source .entry)) m (now (target .entry)) n (now (map .entry)) (now (scratch .entry)))) ⌝ }
 {
     *answer = search_words(search::next(Kind::Embeddings, source, m, target, n, map, scratch));
 }
@@ -284,7 +284,7 @@ pub extern "C" fn tickdrizzle_first_isomorphism(
     scratch: &mut [u8],
     answer: &mut [u64; 16],
 )
-    ensures call { λ _. ⌜ returned (now (answer .exit)) (now (map .exit)) (now (scratch .exit)) ≡ wordsOf soughtValues (call isomorphisms first (lend (now (source .entry)) m (now (target .entry)) n (now (map .entry)) (now (scratch .entry)))) ⌝ }
+    ensures call { λ _. ⌜ called (now (answer .exit)) (now (map .exit)) (now (scratch .exit)) ≡ wordsOf soughtValues (call isomorphisms first (lend (now (source .entry)) m (now (target .entry)) n (now (map .entry)) (now (scratch .entry)))) ⌝ }
 {
     *answer = search_words(search::first(Kind::Isomorphisms, source, m, target, n, map, scratch));
 }
@@ -300,7 +300,7 @@ pub extern "C" fn tickdrizzle_next_isomorphism(
     scratch: &mut [u8],
     answer: &mut [u64; 16],
 )
-    ensures call { λ _. ⌜ returned (now (answer .exit)) (now (map .exit)) (now (scratch .exit)) ≡ wordsOf soughtValues (call isomorphisms (next (now (map .entry))) (lend (now (source .entry)) m (now (target .entry)) n (now (map .entry)) (now (scratch .entry)))) ⌝ }
+    ensures call { λ _. ⌜ called (now (answer .exit)) (now (map .exit)) (now (scratch .exit)) ≡ wordsOf soughtValues (call isomorphisms (next (now (map .entry))) (lend (now (source .entry)) m (now (target .entry)) n (now (map .entry)) (now (scratch .entry)))) ⌝ }
 {
     *answer = search_words(search::next(Kind::Isomorphisms, source, m, target, n, map, scratch));
 }
@@ -316,7 +316,7 @@ pub extern "C" fn tickdrizzle_first_reversed_isomorphism(
     scratch: &mut [u8],
     answer: &mut [u64; 16],
 )
-    ensures call { λ _. ⌜ returned (now (answer .exit)) (now (map .exit)) (now (scratch .exit)) ≡ wordsOf soughtValues (call reversed first (lend (now (source .entry)) m (now (target .entry)) n (now (map .entry)) (now (scratch .entry)))) ⌝ }
+    ensures call { λ _. ⌜ called (now (answer .exit)) (now (map .exit)) (now (scratch .exit)) ≡ wordsOf soughtValues (call reversed first (lend (now (source .entry)) m (now (target .entry)) n (now (map .entry)) (now (scratch .entry)))) ⌝ }
 {
     *answer = search_words(search::first(Kind::Reversed, source, m, target, n, map, scratch));
 }
@@ -332,7 +332,7 @@ pub extern "C" fn tickdrizzle_next_reversed_isomorphism(
     scratch: &mut [u8],
     answer: &mut [u64; 16],
 )
-    ensures call { λ _. ⌜ returned (now (answer .exit)) (now (map .exit)) (now (scratch .exit)) ≡ wordsOf soughtValues (call reversed (next (now (map .entry))) (lend (now (source .entry)) m (now (target .entry)) n (now (map .entry)) (now (scratch .entry)))) ⌝ }
+    ensures call { λ _. ⌜ called (now (answer .exit)) (now (map .exit)) (now (scratch .exit)) ≡ wordsOf soughtValues (call reversed (next (now (map .entry))) (lend (now (source .entry)) m (now (target .entry)) n (now (map .entry)) (now (scratch .entry)))) ⌝ }
 {
     *answer = search_words(search::next(Kind::Reversed, source, m, target, n, map, scratch));
 }
@@ -424,7 +424,7 @@ pub extern "C" fn tickdrizzle_first_embedding_among(
     scratch: &mut [u8],
     answer: &mut [u64; 16],
 )
-    ensures call { λ _. ⌜ returned (now (answer .exit)) (now (map .exit)) (now (scratch .exit)) ≡ wordsOf soughtValues (callAmong first (now (pairs .entry)) (lend (now (source .entry)) m (now (target .entry)) n (now (map .entry)) (now (scratch .entry)))) ⌝ }
+    ensures call { λ _. ⌜ called (now (answer .exit)) (now (map .exit)) (now (scratch .exit)) ≡ wordsOf soughtValues (callAmong first (now (pairs .entry)) (lend (now (source .entry)) m (now (target .entry)) n (now (map .entry)) (now (scratch .entry)))) ⌝ }
 {
     *answer = search_words(search::first_among(source, m, target, n, pairs, map, scratch));
 }
@@ -441,7 +441,7 @@ pub extern "C" fn tickdrizzle_next_embedding_among(
     scratch: &mut [u8],
     answer: &mut [u64; 16],
 )
-    ensures call { λ _. ⌜ returned (now (answer .exit)) (now (map .exit)) (now (scratch .exit)) ≡ wordsOf soughtValues (callAmong (next (now (map .entry))) (now (pairs .entry)) (lend (now (source .entry)) m (now (target .entry)) n (now (map .entry)) (now (scratch .entry)))) ⌝ }
+    ensures call { λ _. ⌜ called (now (answer .exit)) (now (map .exit)) (now (scratch .exit)) ≡ wordsOf soughtValues (callAmong (next (now (map .entry))) (now (pairs .entry)) (lend (now (source .entry)) m (now (target .entry)) n (now (map .entry)) (now (scratch .entry)))) ⌝ }
 {
     *answer = search_words(search::next_among(source, m, target, n, pairs, map, scratch));
 }
@@ -461,7 +461,7 @@ pub extern "C" fn tickdrizzle_first_embedding_within(
     limit: u32,
     answer: &mut [u64; 16],
 )
-    ensures call { λ _. ⌜ returned (now (answer .exit)) (now (map .exit)) (now (scratch .exit)) ≡ wordsOf limitedValues (limitedCall embeddings limit (lend (now (source .entry)) m (now (target .entry)) n (now (map .entry)) (now (scratch .entry)))) ⌝ }
+    ensures call { λ _. ⌜ called (now (answer .exit)) (now (map .exit)) (now (scratch .exit)) ≡ wordsOf limitedValues (limitedCall embeddings limit (lend (now (source .entry)) m (now (target .entry)) n (now (map .entry)) (now (scratch .entry)))) ⌝ }
 {
     *answer = limited_words(search::first_within(
         Kind::Embeddings,
@@ -488,7 +488,7 @@ pub extern "C" fn tickdrizzle_first_isomorphism_within(
     limit: u32,
     answer: &mut [u64; 16],
 )
-    ensures call { λ _. ⌜ returned (now (answer .exit)) (now (map .exit)) (now (scratch .exit)) ≡ wordsOf limitedValues (limitedCall isomorphisms limit (lend (now (source .entry)) m (now (target .entry)) n (now (map .entry)) (now (scratch .entry)))) ⌝ }
+    ensures call { λ _. ⌜ called (now (answer .exit)) (now (map .exit)) (now (scratch .exit)) ≡ wordsOf limitedValues (limitedCall isomorphisms limit (lend (now (source .entry)) m (now (target .entry)) n (now (map .entry)) (now (scratch .entry)))) ⌝ }
 {
     *answer = limited_words(search::first_within(
         Kind::Isomorphisms,
@@ -515,7 +515,7 @@ pub extern "C" fn tickdrizzle_first_reversed_isomorphism_within(
     limit: u32,
     answer: &mut [u64; 16],
 )
-    ensures call { λ _. ⌜ returned (now (answer .exit)) (now (map .exit)) (now (scratch .exit)) ≡ wordsOf limitedValues (limitedCall reversed limit (lend (now (source .entry)) m (now (target .entry)) n (now (map .entry)) (now (scratch .entry)))) ⌝ }
+    ensures call { λ _. ⌜ called (now (answer .exit)) (now (map .exit)) (now (scratch .exit)) ≡ wordsOf limitedValues (limitedCall reversed limit (lend (now (source .entry)) m (now (target .entry)) n (now (map .entry)) (now (scratch .entry)))) ⌝ }
 {
     *answer = limited_words(search::first_within(
         Kind::Reversed,

@@ -1,7 +1,8 @@
 -- What is said of a file that holds a table (RULES 21.1): its bytes are loaded as text, and questions 3 and 4 are asked of the table. Assumes nothing.
 use mathlib.Core.List.{List, [], _∷_, _++_}
 use mathlib.Core.Option.{Option}
-use Prim.Native.Nat.{ℕ}
+use Prim.Native.Nat.{ℕ, _*_}
+use Rattle.semigroups.specs.Tables.{largestOrder}
 use Rattle.semigroups.specs.Questions.{Question, Refusal, firstNo, cellQuestion, tripleQuestion}
 use Rattle.csv.specs.Tables.{orderOf, cellsOf}
 use Rattle.csv.specs.Questions.{loadQuestions}
@@ -18,6 +19,6 @@ fileQuestions t room = loadQuestions t room ++ loadedQuestions t
 unfoldable pub fileRefusal : List ℕ → ℕ → Option Refusal
 fileRefusal t room = firstNo (fileQuestions t room)
 
--- The number of cells that has room for every table: that of order 120.
+-- The number of cells that has room for every table: those of the largest order.
 abbrev pub room : ℕ
-room = 14400
+room = largestOrder * largestOrder

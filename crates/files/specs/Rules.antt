@@ -4,13 +4,14 @@ use mathlib.Core.Bool.{true}
 use mathlib.Core.Logic.{_↔_}
 use mathlib.Core.List.{List, [], _∷_}
 use mathlib.Core.Option.{none, some}
-use Prim.Native.Nat.{ℕ, _<_}
-use lib.ListN.{length, take}
+use Prim.Native.Nat.{ℕ, _+_, _<_}
+use lib.ListN.{length}
 use Rattle.semigroups.specs.Lists.{member}
 use Rattle.semigroups.specs.Questions.{Refusal}
 use Rattle.semigroups.specs.QuestionsLaws.{no}
+use Rattle.csv.specs.Questions.{longestText}
 use Rattle.files.specs.Files.{fileRefusal, room}
-use Rattle.files.specs.FilesLaws.{FilePasses}
+use Rattle.files.specs.FilesLaws.{FilePasses, firstBytes}
 
 -- The numbers that a refused file can get if there is room for every table. 2 is not one of them, since a text that loads has a cell for each pair; nor is
 -- 22, which is never asked; nor is 27, since there is room.
@@ -21,11 +22,11 @@ fileNumbers = 1 ∷ 3 ∷ 4 ∷ 20 ∷ 21 ∷ 23 ∷ 24 ∷ 25 ∷ 26 ∷ []
 pub record FileRules : Type 0 where
   -- No question fails exactly if the file loads and its table is accepted.
   pub passes : (t : List ℕ) (room : ℕ) → (fileRefusal t room ≡ none) ↔ FilePasses t room
-  -- "A file that can't be opened counts as empty": 20.
+  -- RULES 21.2: "A file that cannot be opened counts as empty": 20.
   pub empty : fileRefusal [] room ≡ some (no 20 [])
-  -- "One longer than 57,720 bytes gets 20", whatever its bytes;
-  pub longer : (t : List ℕ) → 57720 < length t → fileRefusal t room ≡ some (no 20 [])
+  -- RULES 21.2: "one longer than 57,720 bytes gets 20", whatever its bytes;
+  pub longer : (t : List ℕ) → longestText < length t → fileRefusal t room ≡ some (no 20 [])
   -- so its first 57,721 bytes decide, and they are the whole of any shorter file.
-  pub first-bytes : (t : List ℕ) → fileRefusal (take 57721 t) room ≡ fileRefusal t room
-  pub whole : (t : List ℕ) → length t < 57722 → take 57721 t ≡ t
+  pub first-bytes : (t : List ℕ) → fileRefusal (firstBytes t) room ≡ fileRefusal t room
+  pub whole : (t : List ℕ) → length t < longestText + 2 → firstBytes t ≡ t
   pub numbers : (t : List ℕ) (r : Refusal) → fileRefusal t room ≡ some r → member (r .number) fileNumbers ≡ true

@@ -6,7 +6,7 @@ ghost use mathlib.Core.Option.{Option·map};
 ghost use Prim.Native.Nat.{_*_, _≤_, _<_};
 ghost use lib.ListN.{length, take};
 ghost use Rattle.semigroups.specs.ListsLaws.{NoRepeats};
-ghost use Rattle.semigroups.specs.Tables.{Element, Filled, product};
+ghost use Rattle.semigroups.specs.Tables.{largestOrder, Element, Filled, product};
 ghost use Rattle.semigroups.specs.QuestionsLaws.{no};
 ghost use Rattle.semigroups.specs.Calls.{overwritten};
 ghost use Rattle.semigroups.specs.GeneratedLaws.{Inside};
@@ -113,7 +113,7 @@ pub enum GeneratorsVerdict {
 
 // Returns which elements the list holds: place x is 1 where x stands in it, else 0.
 fn marked(list: &[u8]) -> [u8; 121]
-    requires { ⌜ Inside 120 (now list) ⌝ }
+    requires { ⌜ Inside largestOrder (now list) ⌝ }
     ensures answer { λ r. ⌜ r ≡ indicator (now (list .entry)) ⌝ }
 {
     let mut marks = [0u8; 121];
@@ -179,7 +179,7 @@ pub fn check(cells: &[u8], n: usize, generators: &[u8]) -> GeneratorsVerdict
 
 // Writes the marked elements in rising order.
 fn write_elements(marks: &[u8; 121], n: usize, elements: &mut [u8])
-    requires { ⌜ n ≤ 120 ⌝ ∗ ⌜ length (markedElements n (now marks)) ≤ length (now elements) ⌝ }
+    requires { ⌜ n ≤ largestOrder ⌝ ∗ ⌜ length (markedElements n (now marks)) ≤ length (now elements) ⌝ }
     ensures elements { λ r. ⌜ now (elements .exit) ≡ overwritten (markedElements n (now (marks .entry))) (now (elements .entry)) ⌝ }
 {
     let mut place: usize = 0;
@@ -195,7 +195,7 @@ fn write_elements(marks: &[u8; 121], n: usize, elements: &mut [u8])
 
 // Returns the new numbers of the first k elements: place x holds that of x where x is one of them, else 0.
 fn numbers_of(elements: &[u8], k: usize) -> [u8; 121]
-    requires { ⌜ k ≤ length (now elements) ⌝ ∗ ⌜ Inside 120 (take k (now elements)) ⌝ ∗ ⌜ NoRepeats (take k (now elements)) ⌝ }
+    requires { ⌜ k ≤ length (now elements) ⌝ ∗ ⌜ Inside largestOrder (take k (now elements)) ⌝ ∗ ⌜ NoRepeats (take k (now elements)) ⌝ }
     ensures answer { λ r. ⌜ r ≡ numbering (take k (now (elements .entry))) ⌝ }
 {
     let mut numbers = [0u8; 121];

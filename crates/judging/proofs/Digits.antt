@@ -45,7 +45,7 @@ more-digits k l h =
     let q : k / 10 < 10000000000000000000 = omega arith in
     last-digit 19 k l ∙ ap (λ (s : List ℕ). s ++ (48 + k % 10) ∷ []) (room-enough 18 (k / 10) q)
 
--- The last digit is written behind the others.
+-- The last digit is written after the others.
 pub digits-written : (out : List ℕ) (at k : ℕ) → 10 ≤ k → k < 18446744073709551616 → {place : ℕ} {o : List ℕ} → place ≡ at + length (decimal (k / 10)) → o ≡ sets out at (decimal (k / 10))
     → (place + 1 ≡ at + length (decimal k)) × (set o place (48 + k % 10) ≡ sets out at (decimal k))
 digits-written out at k l h q e =

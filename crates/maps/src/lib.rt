@@ -9,7 +9,7 @@ ghost use mathlib.Core.Path.{_≡_};
 ghost use Prim.Native.Nat.{ℕ, _≤_};
 ghost use lib.ListN.{length, take};
 ghost use Rattle.semigroups.specs.Lists.{at};
-ghost use Rattle.semigroups.specs.Tables.{Product, Element, Filled, product};
+ghost use Rattle.semigroups.specs.Tables.{largestOrder, Product, Element, Filled, product};
 ghost use Rattle.semigroups.specs.TablesLaws.{IsList};
 ghost use Rattle.semigroups.specs.Maps.{isEmbedding};
 ghost use Rattle.semigroups.specs.MapCheck.{firstEqual, firstWrong, checkMap};
@@ -133,7 +133,7 @@ pub fn check(source: &[u8], m: usize, target: &[u8], n: usize, map: &[u8]) -> Ma
 
 // Writes the images of the m elements to `map`.
 pub fn write_images(map: &mut [u8], image: &[u8; ORDER], m: usize)
-    requires { ⌜ (length (now map) ≡ m) × (m ≤ 120) × (length (now image) ≡ 120) ⌝ }
+    requires { ⌜ (length (now map) ≡ m) × (m ≤ largestOrder) × (length (now image) ≡ 120) ⌝ }
     ensures map { λ _. ⌜ now (map .exit) ≡ take m (now (image .entry)) ⌝ }
 {
     let mut i: usize = 0;

@@ -4,6 +4,7 @@ use mathlib.Core.List.{List, flatten}
 use mathlib.Core.Option.{Option, none, some}
 use Prim.Native.Nat.{ℕ, _≤_}
 use lib.ListN.{length, take}
+use Rattle.semigroups.specs.Tables.{largestOrder}
 use Rattle.semigroups.specs.Questions.{firstNo}
 use Rattle.tables.specs.Answers.{noRefusal}
 use Rattle.sheets.specs.Grammar.{Row}
@@ -69,5 +70,5 @@ JudgesNames bytes lengths (Failed fault) = firstNo (namesQuestions 1 bytes lengt
 
 -- There are at most 120 names, and each passes.
 pub record Nameable (bytes lengths : List ℕ) : Type 0 where
-  pub few : length lengths ≤ 120
+  pub few : length lengths ≤ largestOrder
   pub passed : firstNo (namesQuestions 1 bytes lengths) ≡ none

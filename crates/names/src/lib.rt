@@ -8,6 +8,7 @@ ghost use mathlib.Core.Option.{none, some};
 ghost use Prim.Native.Nat.{ℕ, _+_, _≤_};
 ghost use lib.ListN.{length, drop};
 ghost use lib.Seq.{sets};
+ghost use Rattle.semigroups.specs.Tables.{largestOrder};
 ghost use Rattle.semigroups.specs.Calls.{overwritten};
 ghost use Rattle.tables.specs.Answers.{numberedSays};
 ghost use Rattle.sheets.specs.Grammar.{isPrintable, isTextData, isQuotable, IsSheet, sheetRows};
@@ -609,7 +610,7 @@ fn put_name(text: &mut [u8], start: usize, name: &[u8]) -> usize
 
 // Asks question 41 of each name. Returns the first that fails; or how many names there are, and the length of their text.
 fn judge_names(names: &[u8], lengths: &[u8]) -> Judged
-    requires { ⌜ length (now lengths) ≤ 120 ⌝ }
+    requires { ⌜ length (now lengths) ≤ largestOrder ⌝ }
     ensures answer { λ r. ⌜ JudgesNames (now (names .entry)) (now (lengths .entry)) r ⌝ }
 {
     let mut start: usize = 0;

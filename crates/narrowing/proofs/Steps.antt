@@ -17,8 +17,8 @@ use Rattle.semigroups.specs.InnerSearch.{isWanted}
 use Rattle.semigroups.proofs.Booleans.{clash}
 use Rattle.semigroups.proofs.Lists.{find-same}
 use Rattle.semigroups.proofs.ListOrder.{earlier-irreflexive, earlier-skip, earlier-head, earlier-above}
-use Rattle.semigroups.proofs.Completions.{behind, findBehind, find-entry, firstFrom, first-start, first-skip, first-hit, first-end}
-use Rattle.semigroups.proofs.Search.{nothing-behind, whole-behind}
+use Rattle.semigroups.proofs.Completions.{extensions, findExtension, find-entry, firstFrom, first-start, first-skip, first-hit, first-end}
+use Rattle.semigroups.proofs.Search.{no-extension, whole-extension}
 use Rattle.backtrack.specs.InnerState.{bounded}
 use Rattle.backtrack.proofs.Steps.{lowest}
 
@@ -30,8 +30,8 @@ module _ (m : ℕ) (s : Product) (n : ℕ) (t : Product) (start : ℕ → ℕ �
 
   module _ (after p : List ℕ) (tight : Bool) (same : tight ≡ true → take (length p) after ≡ p) where
     -- A whole list is found if it is an embedding and not the bound itself.
-    pub whole : length after ≡ length p → Among m start p → findBehind (want (bounded tight after)) n 0 p ≡ cond (isEmbedding m s n t p && not tight) (some p) none
-    whole l among = whole-behind m s n t start (bounded tight after) p among ∙ ap {B = Option (List ℕ)} (λ (b : Bool). cond (isEmbedding m s n t p && b) (some p) none) (go tight refl)
+    pub whole : length after ≡ length p → Among m start p → findExtension (want (bounded tight after)) n 0 p ≡ cond (isEmbedding m s n t p && not tight) (some p) none
+    whole l among = whole-extension m s n t start (bounded tight after) p among ∙ ap {B = Option (List ℕ)} (λ (b : Bool). cond (isEmbedding m s n t p && b) (some p) none) (go tight refl)
       where
         go : (b : Bool) → tight ≡ b → beyond (bounded b after) p ≡ not b
         go false e = refl
@@ -41,12 +41,12 @@ module _ (m : ℕ) (s : Product) (n : ℕ) (t : Product) (start : ℕ → ℕ �
 
     module _ (d : ℕ) (room : length p < length after) where
       abbrev here : ℕ → Option (List ℕ)
-      here x = findBehind (want (bounded tight after)) n d (p ++ x ∷ [])
+      here x = findExtension (want (bounded tight after)) n d (p ++ x ∷ [])
 
       abbrev pub left : ℕ → Option (List ℕ)
       left x = firstFrom here n x
 
-      pub begin : findBehind (want (bounded tight after)) n (suc d) p ≡ left 1
+      pub begin : findExtension (want (bounded tight after)) n (suc d) p ≡ left 1
       begin = find-entry (want (bounded tight after)) n d p ∙ first-start here n
 
       pub end : (x : ℕ) → n < x → left x ≡ none
@@ -64,7 +64,7 @@ module _ (m : ℕ) (s : Product) (n : ℕ) (t : Product) (start : ℕ → ℕ �
 
         -- No map bounded for begins with p and x.
         pub skip : ((q : List ℕ) → Embedding m s n t ((p ++ x ∷ []) ++ q) → Among m start ((p ++ x ∷ []) ++ q) → ⊥) → left x ≡ left (x + 1)
-        skip h = first-skip here n x (hx .1) (nothing-behind m s n t start (bounded tight after) d (p ++ x ∷ []) (λ q F among b. h q F among))
+        skip h = first-skip here n x (hx .1) (no-extension m s n t start (bounded tight after) d (p ++ x ∷ []) (λ q F among b. h q F among))
 
         pub too-early : x < low → left x ≡ left (x + 1)
         too-early h = go tight refl h
@@ -72,34 +72,34 @@ module _ (m : ℕ) (s : Product) (n : ℕ) (t : Product) (start : ℕ → ℕ �
             go : (b : Bool) → tight ≡ b → x < lowest b after (length p) → left x ≡ left (x + 1)
             go false e l = absurd (let z : ⊥ = omega arith in z)
             go true e l =
-                first-skip here n x (hx .1) (nothing-behind m s n t start (bounded tight after) d (p ++ x ∷ []) (λ q F among b.
+                first-skip here n x (hx .1) (no-extension m s n t start (bounded tight after) d (p ++ x ∷ []) (λ q F among b.
                 clash {b = beyond (next after) ((p ++ x ∷ []) ++ q)} (subst (λ (c : Bool). beyond (bounded c after) ((p ++ x ∷ []) ++ q) ≡ true) e b)
                 (seen e q ∙ earlier-above (getD after (length p) 0) (drop (suc (length p)) after) x q l)))
 
         -- The call for the next element is bound on only where x is the bound's own entry.
-        inner : low ≤ x → here x ≡ findBehind (want (bounded (eqb x low) after)) n d (p ++ x ∷ [])
+        inner : low ≤ x → here x ≡ findExtension (want (bounded (eqb x low) after)) n d (p ++ x ∷ [])
         inner h = go tight refl h
           where
-            loosed : (e : tight ≡ true) → getD after (length p) 0 < x → findBehind (want (next after)) n d (p ++ x ∷ []) ≡ findBehind (want first) n d (p ++ x ∷ [])
+            loosed : (e : tight ≡ true) → getD after (length p) 0 < x → findExtension (want (next after)) n d (p ++ x ∷ []) ≡ findExtension (want first) n d (p ++ x ∷ [])
             loosed e l =
-                unfold findBehind behind isWanted in
-                find-same (want (next after)) (want first) (behind (p ++ x ∷ []) (lists d n)) (λ f k.
+                unfold findExtension extensions isWanted in
+                find-same (want (next after)) (want first) (extensions (p ++ x ∷ []) (lists d n)) (λ f k.
                 let r = Memᴰ·of-map {A = List ℕ} {B = List ℕ} (λ q. (p ++ x ∷ []) ++ q) (lists d n) k in
                 ap (λ (b : Bool). isEmbedding m s n t f && (all (λ i. start i (at f i)) (elements m) && b))
                 (ap (earlier after) (sym (r .2)) ∙ seen e (r .0) ∙ earlier-head (getD after (length p) 0) (drop (suc (length p)) after) x (r .0) l))
 
-            bound : (e : tight ≡ true) → (b : Bool) → eqb x (getD after (length p) 0) ≡ b → getD after (length p) 0 ≤ x → findBehind (want (next after)) n d (p ++ x ∷ []) ≡ findBehind (want (bounded b after)) n d (p ++ x ∷ [])
+            bound : (e : tight ≡ true) → (b : Bool) → eqb x (getD after (length p) 0) ≡ b → getD after (length p) 0 ≤ x → findExtension (want (next after)) n d (p ++ x ∷ []) ≡ findExtension (want (bounded b after)) n d (p ++ x ∷ [])
             bound e true q g = refl
             bound e false q g = let ne = eqb-false x (getD after (length p) 0) q in loosed e (omega arith)
 
-            go : (b : Bool) → tight ≡ b → lowest b after (length p) ≤ x → findBehind (want (bounded b after)) n d (p ++ x ∷ []) ≡ findBehind (want (bounded (eqb x (lowest b after (length p))) after)) n d (p ++ x ∷ [])
-            go false e g = ap (λ (b : Bool). findBehind (want (bounded b after)) n d (p ++ x ∷ [])) (sym (ne-eqb x 0 (λ q. let z : ⊥ = omega arith in z)))
+            go : (b : Bool) → tight ≡ b → lowest b after (length p) ≤ x → findExtension (want (bounded b after)) n d (p ++ x ∷ []) ≡ findExtension (want (bounded (eqb x (lowest b after (length p))) after)) n d (p ++ x ∷ [])
+            go false e g = ap (λ (b : Bool). findExtension (want (bounded b after)) n d (p ++ x ∷ [])) (sym (ne-eqb x 0 (λ q. let z : ⊥ = omega arith in z)))
             go true e g = bound e (eqb x (getD after (length p) 0)) refl g
 
-        pub back : low ≤ x → findBehind (want (bounded (eqb x low) after)) n d (p ++ x ∷ []) ≡ none → left x ≡ left (x + 1)
+        pub back : low ≤ x → findExtension (want (bounded (eqb x low) after)) n d (p ++ x ∷ []) ≡ none → left x ≡ left (x + 1)
         back l e = first-skip here n x (hx .1) (inner l ∙ e)
 
-        pub hit : low ≤ x → (f : List ℕ) → findBehind (want (bounded (eqb x low) after)) n d (p ++ x ∷ []) ≡ some f → left x ≡ some f
+        pub hit : low ≤ x → (f : List ℕ) → findExtension (want (bounded (eqb x low) after)) n d (p ++ x ∷ []) ≡ some f → left x ≡ some f
         hit l f e = first-hit here n x f (hx .1) (inner l ∙ e)
 
         pub still : eqb x low ≡ true → take (suc (length p)) after ≡ p ++ x ∷ []

@@ -10,7 +10,7 @@ use Rattle.semigroups.specs.Tables.{Product, Element}
 use Rattle.semigroups.specs.Scratch.{scratchSize, marked}
 use Rattle.semigroups.specs.MapsLaws.{Embedding, Among}
 use Rattle.semigroups.specs.Trials.{passes}
-use Rattle.semigroups.specs.InnerSearch.{earliestBehind, Placed}
+use Rattle.semigroups.specs.InnerSearch.{earliestExtension, Placed}
 use Rattle.backtrack.specs.InnerState.{bounded}
 use Rattle.rows.specs.InnerRows.{has, Only}
 use Rattle.narrowing.specs.InnerRows.{Begins, Images}
@@ -25,7 +25,7 @@ rowsIn p = has (p .lo) (p .hi)
 
 -- What a call must return.
 abbrev pub Due : Product → ℕ → Product → ℕ → List ℕ → List ℕ → Bool → Partial → Option (List ℕ)
-Due s m t n scratch after tight p = earliestBehind m s n t (marked n scratch) (bounded tight after) (m - p .len) (prefix p)
+Due s m t n scratch after tight p = earliestExtension m s n t (marked n scratch) (bounded tight after) (m - p .len) (prefix p)
 
 -- The images placed are elements, and zeros follow them.
 pub record PlacedImages (n : ℕ) (image : List ℕ) (len : ℕ) : Type 0 where

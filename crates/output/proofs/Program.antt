@@ -16,7 +16,7 @@ use Rattle.csv.specs.Records.{isBreak, onto, records, fields, rows, recordText,
 use Rattle.csv.specs.Tables.{fieldsOf, orderOf, cellsOf}
 use Rattle.csv.specs.Questions.{breakAt, inBreak, isAllowed, firstOther, fieldsQuestions, isSquare}
 use Rattle.semigroups.specs.Calls.{refused, overwritten}
-use Rattle.output.specs.Records.{firstRecord, pairRecord, pairRecords, foundRecords, noneRecords, refusedRecord, refusedRecords}
+use Rattle.output.specs.Records.{firstRecord, pairRecord, pairRecords, foundRecords, refusedRecords}
 use Rattle.files.specs.Files.{fileRefusal, room}
 use Rattle.files.specs.Answers.{fileAnswer}
 use Rattle.files.proofs.Files.{Holds, refused-file}
@@ -84,5 +84,5 @@ first-bytes-decide source target = by-source (cut source)
 -- ---- the example of RULES 21.4
 
 pub example : RecueExample
-unfolding recueOutput recueRecords answerRecords sourceFile targetFile recuePrinted fileRefusal firstRecord pairRecord pairRecords foundRecords noneRecords refusedRecord refusedRecords isDigit value valueFrom numeralWithin numeral isBreak onto records fields rows recordText lineText rowsText fieldsOf orderOf cellsOf breakAt inBreak isAllowed firstOther fieldsQuestions isSquare range elements at all find keep member distinct lists product isElement associates badCell badTriple firstOf isHomomorphism isEmbedding maps earliest orElse flatMap flatten
+unfolding recueOutput recueRecords answerRecords sourceFile targetFile recuePrinted fileRefusal firstRecord pairRecord pairRecords foundRecords refusedRecords isDigit value valueFrom numeralWithin numeral isBreak onto records fields rows recordText lineText rowsText fieldsOf orderOf cellsOf breakAt inBreak isAllowed firstOther fieldsQuestions isSquare range elements at all find keep member distinct lists product isElement associates badCell badTriple firstOf isHomomorphism isEmbedding maps earliest orElse flatMap flatten
 example = refl

@@ -16,7 +16,7 @@ use Rattle.csv.proofs.Decimals.{digits-few}
 use Rattle.csv.proofs.Writing.{Writing, write-first, write-last, sets-overwritten}
 use Rattle.lines.proofs.Lines.{written, three-fields, two-fields}
 use Rattle.files.specs.Answers.{refusedWord}
-use Rattle.output.specs.Records.{foundWord, firstRecord, pairRecord, pairRecords, foundRecords, refusedRecord, refusedRecords}
+use Rattle.output.specs.Records.{foundWord, firstRecord, pairRecord, pairRecords, foundRecords, refusedRecords}
 
 -- ---- a record
 
@@ -144,7 +144,7 @@ found-short m n f h = omega (arith, simp length-append at (ap length (found-text
 pub refused-written : (before : List ℕ) (side number : ℕ) (r : Refusal) → number ≡ r .number → 1095 ≤ length before
     → {p : ℕ} {out : List ℕ} → p ≡ length (lineText (firstRecord refusedWord side number)) → out ≡ sets before 0 (lineText (firstRecord refusedWord side number))
     → Written before (refusedRecords side r) p out
-unfolding refusedRecords refusedRecord
+unfolding refusedRecords
 refused-written before side number r e room q w =
     one-written before (firstRecord refusedWord side number) (refusedRecords side r) (rw e) (first-short refusedWord side number) room q w
 

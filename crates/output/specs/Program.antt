@@ -1,6 +1,6 @@
 -- The whole output of the program, from the bytes of its two files (RULES 21). A file that can't be opened counts as empty.
 -- Assumes nothing.
-use mathlib.Core.List.{List}
+use mathlib.Core.List.{List, [], _∷_}
 use mathlib.Core.Option.{Option, none, some}
 use Prim.Native.Nat.{ℕ}
 use Rattle.semigroups.specs.Tables.{product}
@@ -8,13 +8,13 @@ use Rattle.semigroups.specs.Questions.{Refusal}
 use Rattle.semigroups.specs.Maps.{embeddings, maps, first, earliest}
 use Rattle.csv.specs.Records.{rowsText}
 use Rattle.csv.specs.Tables.{orderOf, cellsOf}
-use Rattle.output.specs.Records.{foundRecords, noneRecords, refusedRecords}
+use Rattle.output.specs.Records.{noneWord, firstRecord, foundRecords, refusedRecords}
 use Rattle.files.specs.Files.{fileRefusal, room}
 
--- The records of a map that is found, or of none.
+-- The records of a map that is found; if there is none, the first record alone.
 abbrev pub mapRecords : ℕ → ℕ → Option (List ℕ) → List (List (List ℕ))
 mapRecords m n (some f) = foundRecords m n f
-mapRecords m n none = noneRecords m n
+mapRecords m n none = firstRecord noneWord m n ∷ []
 
 -- The records of the answer: the first embedding of one table in another, or none.
 unfoldable pub answerRecords : ℕ → List ℕ → ℕ → List ℕ → List (List (List ℕ))

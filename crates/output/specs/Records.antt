@@ -27,10 +27,6 @@ firstRecord word a b = word ∷ numeral a ∷ numeral b ∷ []
 unfoldable pub pairRecord : List ℕ → ℕ → List (List ℕ)
 pairRecord f i = numeral i ∷ numeral (at f i) ∷ []
 
--- The record of a refusal: the word, 1 or 2 for the file, and the number of the question.
-unfoldable pub refusedRecord : ℕ → Refusal → List (List ℕ)
-refusedRecord side r = firstRecord refusedWord side (r .number)
-
 -- ---- all records of an answer
 
 -- A record for each of m elements: the element and its image.
@@ -41,10 +37,6 @@ pairRecords m f = map (pairRecord f) (elements m)
 unfoldable pub foundRecords : ℕ → ℕ → List ℕ → List (List (List ℕ))
 foundRecords m n f = firstRecord foundWord m n ∷ pairRecords m f
 
--- The records where there is no embedding: the first record alone.
-unfoldable pub noneRecords : ℕ → ℕ → List (List (List ℕ))
-noneRecords m n = firstRecord noneWord m n ∷ []
-
--- The records of a refusal: one.
+-- The records of a refusal: the word, 1 or 2 for the file, and the number of the question.
 unfoldable pub refusedRecords : ℕ → Refusal → List (List (List ℕ))
-refusedRecords side r = refusedRecord side r ∷ []
+refusedRecords side r = firstRecord refusedWord side (r .number) ∷ []

@@ -5,12 +5,13 @@ ghost use mathlib.Core.List.{_∷_, []};
 ghost use Prim.Native.Nat.{_+_, _*_, _≤_, _<_};
 ghost use lib.ListN.{length};
 ghost use lib.Seq.{sets};
-ghost use Rattle.semigroups.specs.Tables.{Accepted};
+ghost use Rattle.semigroups.specs.Tables.{largestOrder, Accepted};
 ghost use Rattle.semigroups.specs.Calls.{overwritten};
 ghost use Rattle.csv.specs.Decimals.{numeral};
 ghost use Rattle.csv.specs.Records.{lineText, rowsText};
 ghost use Rattle.output.specs.Records.{firstRecord, pairRecords, foundRecords};
 ghost use Rattle.output.specs.Program.{answerRecords, recueOutput};
+ghost use Rattle.output.specs.ProgramLaws.{longestOutput};
 use files::failed_question;
 use files::load_then_check;
 use lines::put_break;
@@ -51,7 +52,7 @@ fn put_pair(out: &mut [u8], at: usize, i: usize, image: usize) -> usize
 
 // Writes a record for each element of the map at `start`. Returns the place after them.
 fn put_pairs(out: &mut [u8], start: usize, map: &[u8]) -> usize
-    requires small { ⌜ length (now map) ≤ 120 ⌝ }
+    requires small { ⌜ length (now map) ≤ largestOrder ⌝ }
     requires room { ⌜ start + 9 * length (now map) ≤ length (now out) ⌝ }
     ensures answer { λ r. ⌜ r ≡ start + length (rowsText (pairRecords (length (now (map .entry))) (now (map .entry)))) ⌝ }
     ensures out { λ _. ⌜ now (out .exit) ≡ sets (now (out .entry)) start (rowsText (pairRecords (length (now (map .entry))) (now (map .entry)))) ⌝ }
@@ -67,8 +68,8 @@ fn put_pairs(out: &mut [u8], start: usize, map: &[u8]) -> usize
 
 // Writes the records of a map that was found, into a table of order n, to the start of `out`. Returns their length.
 fn put_found(out: &mut [u8], n: usize, map: &[u8]) -> usize
-    requires small { ⌜ (length (now map) ≤ 120) × (n ≤ 120) ⌝ }
-    requires room { ⌜ 1095 ≤ length (now out) ⌝ }
+    requires small { ⌜ (length (now map) ≤ largestOrder) × (n ≤ largestOrder) ⌝ }
+    requires room { ⌜ longestOutput ≤ length (now out) ⌝ }
     ensures answer { λ r. ⌜ r ≡ length (rowsText (foundRecords (length (now (map .entry))) n (now (map .entry)))) ⌝ }
     ensures out { λ _. ⌜ now (out .exit) ≡ overwritten (rowsText (foundRecords (length (now (map .entry))) n (now (map .entry)))) (now (out .entry)) ⌝ }
 {

@@ -4,11 +4,11 @@ use mathlib.Core.Bool.{Bool, true, false, _&&_, _||_, not}
 use mathlib.Core.List.{List}
 use Prim.Native.Nat.{ℕ}
 use lib.Dec.{eqb}
+use Rattle.semigroups.specs.InnerSearch.{plainKind}
 use Rattle.semigroups.specs.Lists.{find, earlier, lists}
 use Rattle.semigroups.specs.Tables.{Product}
 use Rattle.semigroups.specs.Maps.{Kind, isEmbedding, isIsomorphism, isMap, maps, next, earliest}
 use Rattle.semigroups.proofs.Lists.{find-keep}
-use Rattle.plain.specs.InnerEnumeration.{plainKind}
 
 module _ (m : ℕ) (s : Product) (n : ℕ) (t : Product) where
   pub kind-test : (isomorphisms : Bool) (f : List ℕ) → ((not isomorphisms || eqb m n) && isEmbedding m s n t f) ≡ isMap (plainKind isomorphisms) m s n t f

@@ -1,13 +1,11 @@
 -- What the second search uses: lists by their number, and the test of a pair of elements (RULES 5). Assumes nothing.
-use mathlib.Core.Bool.{Bool, true, false, _&&_, _||_, not}
+use mathlib.Core.Bool.{Bool, _&&_, _||_, not}
 use mathlib.Core.List.{List, []}
-use mathlib.Core.Option.{Option, none, some}
 use Prim.Native.Nat.{ℕ}
 use lib.Dec.{eqb}
 use lib.ListN.{getD}
 use Rattle.semigroups.specs.Lists.{at, lists}
 use Rattle.semigroups.specs.Tables.{Product}
-use Rattle.semigroups.specs.Maps.{Kind, embeddings, isomorphisms}
 
 -- List number k, counted from 0, of all lists of m entries from 1 to n.
 unfoldable pub numbered : ℕ → ℕ → ℕ → List ℕ
@@ -18,13 +16,3 @@ unfoldable pub keeps : Product → Product → List ℕ → List ℕ → Bool
 keeps s t f l =
     let products = eqb (at f (s (at l 1) (at l 2))) (t (at f (at l 1)) (at f (at l 2))) in
     (eqb (at l 1) (at l 2) || not (eqb (at f (at l 1)) (at f (at l 2)))) && products
-
--- Whether a list was found.
-abbrev pub isFound : Option (List ℕ) → Bool
-isFound (some f) = true
-isFound none = false
-
--- The kind of maps that is asked for.
-abbrev pub plainKind : Bool → Kind
-plainKind true = isomorphisms
-plainKind false = embeddings

@@ -5,13 +5,14 @@ ghost use mathlib.Core.List.{_++_};
 ghost use mathlib.Core.Option.{Option·map, Option·getD};
 ghost use Prim.Native.Nat.{_^_, _≤_, _<_};
 ghost use lib.ListN.{length, drop, replicate};
-ghost use Rattle.semigroups.specs.Lists.{at, earlier};
+ghost use Rattle.semigroups.specs.InnerSearch.{plainKind};
+ghost use Rattle.semigroups.specs.Lists.{at, earlier, isSome};
 ghost use Rattle.semigroups.specs.Tables.{Element, Filled, product, associates, badCell, badTriple};
 ghost use Rattle.semigroups.specs.TablesLaws.{IsList};
 ghost use Rattle.semigroups.specs.QuestionsLaws.{no};
 ghost use Rattle.semigroups.specs.Questions.{tableRefusal};
 ghost use Rattle.semigroups.specs.Maps.{isEmbedding, isMap, maps, next, earliest};
-ghost use Rattle.plain.specs.InnerEnumeration.{numbered, keeps, isFound, plainKind};
+ghost use Rattle.plain.specs.InnerEnumeration.{numbered, keeps};
 ghost use Rattle.plain.specs.InnerSaid.{saidOf};
 
 // Returns the product i·j: rows and columns count from 1.
@@ -256,7 +257,7 @@ pub fn next_map(
 ) -> bool
     requires { ⌜ Filled m (now source) ⌝ ∗ ⌜ Filled n (now target) ⌝ ∗ ⌜ m ≤ 9 ⌝ }
     requires { ⌜ (length (now after) ≡ m) × (length (now map) ≡ m) ⌝ }
-    ensures found { λ r. ⌜ r ≡ isFound (earliest (next (now (after .entry))) (maps (plainKind isomorphisms) m (product m (now (source .entry))) n (product n (now (target .entry))))) ⌝ }
+    ensures found { λ r. ⌜ r ≡ isSome (earliest (next (now (after .entry))) (maps (plainKind isomorphisms) m (product m (now (source .entry))) n (product n (now (target .entry))))) ⌝ }
     ensures map { λ _. ⌜ now (map .exit) ≡ Option·getD (earliest (next (now (after .entry))) (maps (plainKind isomorphisms) m (product m (now (source .entry))) n (product n (now (target .entry))))) (now (map .entry)) ⌝ }
 {
     let total = number_of_lists(m, n);

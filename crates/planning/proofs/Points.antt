@@ -32,7 +32,7 @@ module _ (d k : ℕ) (h : Element (transformationOrder d) k) where
       let numbered : i ≡ k = sym (number-transformation d i (omega arith)) ∙ ap (numberOf d) same ∙ number-transformation d k h in
       omega arith
 
-  -- What is left of the number where the points behind `point` are dropped, and x is none of these.
+  -- What is left of the number where the points after `point` are dropped, and x is none of these.
   pub record Left (x rest point : ℕ) : Type 0 where
     pub digits-left : rest ≡ digits d 0 (take point (transformation d k))
     pub not-dropped : x ≤ point

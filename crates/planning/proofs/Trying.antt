@@ -2,12 +2,12 @@
 use mathlib.Core.Path.{_≡_, refl, sym, ap, _∙_}
 use mathlib.Core.Bool.{Bool, true, false, cond}
 use mathlib.Core.List.{List}
-use mathlib.Core.Option.{Option, none, some, Option·map}
+use mathlib.Core.Option.{Option, none, some, Option·map, Option·getD}
 use Prim.Native.Nat.{ℕ, _+_, _*_, _≤_, _<_}
 use native.Mathlib.Omega.{arith}
 use lib.ListN.{length}
 use Rattle.semigroups.specs.Tables.{Product, Element}
-use Rattle.semigroups.specs.Calls.{Answer, gives, overwritten, mapUnless}
+use Rattle.semigroups.specs.Calls.{Answer, gives, overwritten}
 use Rattle.semigroups.proofs.Completions.{firstFrom, first-start, first-skip, first-hit, first-end}
 use Rattle.planning.specs.Degrees.{Fit, fit, firstAt, leastFit, leastDegree, landings, fitPositions}
 use Rattle.planning.specs.InnerDegrees.{leastEmbedding}
@@ -35,7 +35,7 @@ module _ (m : ℕ) (s : Product) where
   -- What is to be said and left in the image and the position buffer.
   abbrev pub Placed : List ℕ → List ℕ → Answer (Option ℕ) → List ℕ → List ℕ → Type 0
   Placed image₀ positions₀ says image positions =
-      (says ≡ gives (leastDegree m s)) × ((image ≡ mapUnless none (leastEmbedding m s) image₀) × (positions ≡ overwritten (fitPositions m (leastFit m s)) positions₀))
+      (says ≡ gives (leastDegree m s)) × ((image ≡ Option·getD (leastEmbedding m s) image₀) × (positions ≡ overwritten (fitPositions m (leastFit m s)) positions₀))
 
   pub try-begin : (image positions : List ℕ) → Trying image positions 1 image positions
   try-begin image positions = record { from-here = unfold leastFit in first-start fitAt 3; from-one = omega arith; to-end = omega arith; image-kept = refl; unwritten = refl }
@@ -51,13 +51,13 @@ module _ (m : ℕ) (s : Product) where
     room-still h = let e = ap length (t .unwritten) in omega arith
 
     -- No embedding at this degree: the next one is tried.
-    pub try-next : degree ≤ 3 → none ≡ firstAt m s degree → (left : List ℕ) → left ≡ mapUnless none (firstAt m s degree) image → Trying image₀ positions₀ (degree + 1) left positions
+    pub try-next : degree ≤ 3 → none ≡ firstAt m s degree → (left : List ℕ) → left ≡ Option·getD (firstAt m s degree) image → Trying image₀ positions₀ (degree + 1) left positions
     try-next h e left w =
         record {
           from-here = t .from-here ∙ first-skip fitAt 3 degree h (ap (Option·map (fit degree)) (sym e));
           from-one = omega arith;
           to-end = omega arith;
-          image-kept = w ∙ ap (λ (o : Option (List ℕ)). mapUnless none o image) (sym e) ∙ t .image-kept;
+          image-kept = w ∙ ap (λ (o : Option (List ℕ)). Option·getD o image) (sym e) ∙ t .image-kept;
           unwritten = t .unwritten;
         }
 
@@ -69,7 +69,7 @@ module _ (m : ℕ) (s : Product) where
         let hit : leastFit m s ≡ some (fit degree f) = t .from-here ∙ first-hit fitAt 3 degree (fit degree f) h (ap (Option·map (fit degree)) (sym e)) in (
           ap (λ (o : Option Fit). gives (Option·map (λ (x : Fit). x .degree) o)) (sym hit),
           (
-            ap (λ (o : Option Fit). mapUnless none (Option·map (λ (x : Fit). x .embedding) o) image₀) (sym hit),
+            ap (λ (o : Option Fit). Option·getD (Option·map (λ (x : Fit). x .embedding) o) image₀) (sym hit),
             w ∙ ap (overwritten (landings m degree f)) (t .unwritten) ∙ ap (λ (o : Option Fit). overwritten (fitPositions m o) positions₀) (sym hit),
           ),
         )
@@ -81,7 +81,7 @@ module _ (m : ℕ) (s : Product) where
         let end : leastFit m s ≡ none = t .from-here ∙ first-end fitAt 3 degree h in (
           ap (λ (o : Option Fit). gives (Option·map (λ (x : Fit). x .degree) o)) (sym end),
           (
-            t .image-kept ∙ ap (λ (o : Option Fit). mapUnless none (Option·map (λ (x : Fit). x .embedding) o) image₀) (sym end),
+            t .image-kept ∙ ap (λ (o : Option Fit). Option·getD (Option·map (λ (x : Fit). x .embedding) o) image₀) (sym end),
             t .unwritten ∙ ap (λ (o : Option Fit). overwritten (fitPositions m o) positions₀) (sym end),
           ),
         )

@@ -3,13 +3,13 @@
 // have any content; the first "no" is the answer, and the buffer then keeps its bytes.
 ghost use mathlib.Core.Path.{_≡_};
 ghost use mathlib.Core.Bool.{cond};
-ghost use mathlib.Core.Option.{none, some};
+ghost use mathlib.Core.Option.{none, some, Option·getD};
 ghost use Prim.Native.Nat.{_*_, _≤_};
 ghost use lib.ListN.{length};
 ghost use Rattle.semigroups.specs.Lists.{at};
-ghost use Rattle.semigroups.specs.Tables.{product, Element, Accepted};
+ghost use Rattle.semigroups.specs.Tables.{largestOrder, product, Element, Accepted};
 ghost use Rattle.semigroups.specs.TablesLaws.{IsList};
-ghost use Rattle.semigroups.specs.Calls.{gives, overwritten, mapUnless};
+ghost use Rattle.semigroups.specs.Calls.{gives, overwritten};
 ghost use Rattle.semigroups.specs.Transformations.{transformationOrder, transformation};
 ghost use Rattle.planning.specs.Degrees.{firstAt, leastFit, leastDegree, landings, fitPositions};
 ghost use Rattle.planning.specs.InnerDegrees.{leastEmbedding};
@@ -38,7 +38,7 @@ fn landing(degree: usize, k: usize, x: usize) -> usize
 
 // Writes the landing positions of the image of each of m elements in turn.
 fn write_positions(image: &[u8], m: usize, degree: usize, positions: &mut [u8])
-    requires { ⌜ m ≤ 120 ⌝ ∗ ⌜ Element 3 degree ⌝ ∗ ⌜ IsList m (transformationOrder degree) (now image) ⌝ ∗ ⌜ m * 3 ≤ length (now positions) ⌝ }
+    requires { ⌜ m ≤ largestOrder ⌝ ∗ ⌜ Element 3 degree ⌝ ∗ ⌜ IsList m (transformationOrder degree) (now image) ⌝ ∗ ⌜ m * 3 ≤ length (now positions) ⌝ }
     ensures positions { λ _. ⌜ now (positions .exit) ≡ overwritten (landings m degree (now (image .entry))) (now (positions .entry)) ⌝ }
 {
     let mut place: usize = 0;
@@ -62,7 +62,7 @@ fn write_positions(image: &[u8], m: usize, degree: usize, positions: &mut [u8])
 fn fits(cells: &[u8], m: usize, degree: usize, image: &mut [u8]) -> bool
     requires { ⌜ Accepted m (now cells) ⌝ ∗ ⌜ m ≤ 27 ⌝ ∗ ⌜ Element 3 degree ⌝ ∗ ⌜ length (now image) ≡ m ⌝ }
     ensures first { λ r. ⌜ cond r (some (now (image .exit))) none ≡ firstAt m (product m (now (cells .entry))) degree ⌝ }
-    ensures image { λ _. ⌜ now (image .exit) ≡ mapUnless none (firstAt m (product m (now (cells .entry))) degree) (now (image .entry)) ⌝ }
+    ensures image { λ _. ⌜ now (image .exit) ≡ Option·getD (firstAt m (product m (now (cells .entry))) degree) (now (image .entry)) ⌝ }
 {
     let mut target = [0u8; 729];
     let filled = transformations::fill(degree, &mut target);
@@ -96,7 +96,7 @@ pub enum DegreeAnswer {
 fn place(cells: &[u8], m: usize, image: &mut [u8], positions: &mut [u8]) -> DegreeAnswer
     requires { ⌜ Accepted m (now cells) ⌝ ∗ ⌜ m ≤ 27 ⌝ ∗ ⌜ length (now image) ≡ m ⌝ ∗ ⌜ m * 3 ≤ length (now positions) ⌝ }
     ensures answer { λ r. ⌜ degreeAnswerSays r ≡ gives (leastDegree m (product m (now (cells .entry)))) ⌝ }
-    ensures image { λ _. ⌜ now (image .exit) ≡ mapUnless none (leastEmbedding m (product m (now (cells .entry)))) (now (image .entry)) ⌝ }
+    ensures image { λ _. ⌜ now (image .exit) ≡ Option·getD (leastEmbedding m (product m (now (cells .entry)))) (now (image .entry)) ⌝ }
     ensures positions { λ _. ⌜ now (positions .exit) ≡ overwritten (fitPositions m (leastFit m (product m (now (cells .entry))))) (now (positions .entry)) ⌝ }
 {
     let mut degree: usize = 1;

@@ -3,14 +3,14 @@
 ghost use Prim.Native.Nat.{_<_};
 ghost use lib.ListN.{length};
 ghost use Rattle.io.specs.Counts.{Counts};
-ghost use Rattle.csv.specs.Questions.{longest};
+ghost use Rattle.csv.specs.Questions.{longestText};
 use libc::STDOUT_FILENO;
 use tables::limits::FILE;
 use tables::limits::OUTPUT;
 
 // Reads a file to `text` and returns how many bytes were read. A file that can't be opened or read counts as empty.
 fn read_file(name: &[u8], text: &mut [u8; FILE]) -> usize
-    requires room { ⌜ longest < length (now text) ⌝ }
+    requires room { ⌜ longestText < length (now text) ⌝ }
     ensures count { λ r. ⌜ Counts r (now (text .exit)) ⌝ }
 {
     let fd = os::open_read(name);

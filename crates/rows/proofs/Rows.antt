@@ -18,7 +18,7 @@ use Rattle.semigroups.specs.Tables.{Element}
 use Rattle.semigroups.specs.Scratch.{marked}
 use Rattle.semigroups.proofs.Booleans.{and-left, and-right, at-most-or-above, equal-or-not}
 use Rattle.rows.specs.declared.Row.{Row}
-use Rattle.rows.specs.InnerRows.{hasBit, inRow, isEmpty, rowOf, has, packedRow, masked, singleRow, Inside, Only, Shrinks, Forced, Marked}
+use Rattle.rows.specs.InnerRows.{hasBit, inRow, isEmpty, rowOf, has, packedRow, masked, singleRow, RowInside, Only, Shrinks, Forced, Marked}
 use Rattle.rows.proofs.Words.{bit-of-word, bit-past, single-word, other-word}
 use Rattle.rows.proofs.Masks.{and-bit, inside-inside, inside-mask, inside-old, inside-bit, ones-zero, ones-power}
 
@@ -45,7 +45,7 @@ in-packed-row n p y hy =
     (λ (h : 60 < y). sym (row-high (packedRow n p) y h) ∙ bit-of-word p 61 (n - 60) (y - 61) (omega arith) ∙ ap p (let z : 61 + (y - 61) ≡ y = omega arith in z))
     (at-most-or-above y 60)
 
--- It holds nothing behind.
+-- It holds nothing after them.
 pub all-packed-row : (n : ℕ) (p : ℕ → Bool) (y : ℕ) → Element 120 y → inRow (packedRow n p) y ≡ (leb y n && p y)
 unfolding packedRow
 all-packed-row n p y hy =
@@ -100,7 +100,7 @@ module _ (v : ℕ) (hv : Element 120 v) where
       (at-most-or-above v 60)
 
   -- A row inside it that has a bit is the same row.
-  pub inside-single : (r : Row) → Inside r (singleRow v) → 1 ≤ ones (r .lo) + ones (r .hi) → r ≡ singleRow v
+  pub inside-single : (r : Row) → RowInside r (singleRow v) → 1 ≤ ones (r .lo) + ones (r .hi) → r ≡ singleRow v
   inside-single r i h = ⊎-elim low high (at-most-or-above v 60)
     where
       nothing : (w : ℕ) → bitAnd w 0 ≡ w → w ≡ 0
@@ -172,7 +172,7 @@ forced-has lo hi newLo newHi c v hc hv F d y hd hy = ap₂ (λ (l h : List ℕ).
 
 -- ---- rows inside rows
 
-pub inside-trans : (a b c : Row) → Inside a b → Inside b c → Inside a c
+pub inside-trans : (a b c : Row) → RowInside a b → RowInside b c → RowInside a c
 inside-trans a b c i j = (inside-inside (a .lo) (b .lo) (c .lo) (i .0) (j .0), inside-inside (a .hi) (b .hi) (c .hi) (i .1) (j .1))
 
 pub shrinks-none : (lo hi : List ℕ) → Shrinks lo hi lo hi
@@ -187,7 +187,7 @@ module _ (lo hi : List ℕ) (c : ℕ) (hc : Element 120 c) (r : Row) where
   unfolding at masked
   other l w d hd ne = getD-set-other l (c - 1) (d - 1) (bitAnd (getD l (c - 1) 0) w) 0 (λ q. ne (omega arith))
 
-  pub masked-inside : Inside (rowOf (masked lo c (r .lo)) (masked hi c (r .hi)) c) r
+  pub masked-inside : RowInside (rowOf (masked lo c (r .lo)) (masked hi c (r .hi)) c) r
   masked-inside = (ap (λ (x : ℕ). bitAnd x (r .lo)) (entry lo (r .lo)) ∙ inside-mask (at lo c) (r .lo) ∙ sym (entry lo (r .lo)), ap (λ (x : ℕ). bitAnd x (r .hi)) (entry hi (r .hi)) ∙ inside-mask (at hi c) (r .hi) ∙ sym (entry hi (r .hi)))
 
   word-shrinks : (l : List ℕ) (w d : ℕ) → Element 120 d → bitAnd (at (masked l c w) d) (at l d) ≡ at (masked l c w) d

@@ -8,7 +8,7 @@ use lib.Bits.{bitAnd}
 use lib.Dec.{eqb, leb}
 use lib.ListN.{set}
 use Rattle.semigroups.specs.Lists.{at}
-use Rattle.semigroups.specs.Tables.{Element}
+use Rattle.semigroups.specs.Tables.{largestOrder, Element}
 use Rattle.semigroups.specs.Scratch.{marked}
 use Rattle.rows.specs.declared.Row.{Row}
 
@@ -50,16 +50,16 @@ unfoldable pub singleRow : ℕ → Row
 singleRow v = packedRow 120 (λ y. eqb y v)
 
 -- Every bit of row a is also in row b.
-abbrev pub Inside : Row → Row → Type 0
-Inside a b = (bitAnd (a .lo) (b .lo) ≡ a .lo) × (bitAnd (a .hi) (b .hi) ≡ a .hi)
+abbrev pub RowInside : Row → Row → Type 0
+RowInside a b = (bitAnd (a .lo) (b .lo) ≡ a .lo) × (bitAnd (a .hi) (b .hi) ≡ a .hi)
 
 -- Row c has at most v.
 abbrev pub Only : List ℕ → List ℕ → ℕ → ℕ → Type 0
-Only lo hi c v = Inside (rowOf lo hi c) (singleRow v)
+Only lo hi c v = RowInside (rowOf lo hi c) (singleRow v)
 
 -- No row has gained a bit.
 abbrev pub Shrinks : List ℕ → List ℕ → List ℕ → List ℕ → Type 0
-Shrinks lo hi newLo newHi = (c : ℕ) → Element 120 c → Inside (rowOf newLo newHi c) (rowOf lo hi c)
+Shrinks lo hi newLo newHi = (c : ℕ) → Element largestOrder c → RowInside (rowOf newLo newHi c) (rowOf lo hi c)
 
 -- Row c is masked by the row of v alone, and no other word has changed.
 abbrev pub Forced : ℕ → ℕ → List ℕ → List ℕ → List ℕ → List ℕ → Type 0
@@ -67,4 +67,4 @@ Forced c v lo hi newLo newHi = (newLo ≡ masked lo c (singleRow v .lo)) × (new
 
 -- Each of the first m rows has exactly those of its elements that are at most n and marked; the rows above m are as they were.
 abbrev pub Marked : ℕ → ℕ → List ℕ → (ℕ → ℕ → Bool) → (ℕ → ℕ → Bool) → Type 0
-Marked m n scratch old new = (c y : ℕ) → Element 120 c → Element 120 y → new c y ≡ (old c y && cond (leb c m) (leb y n && marked n scratch c y) true)
+Marked m n scratch old new = (c y : ℕ) → Element largestOrder c → Element largestOrder y → new c y ≡ (old c y && cond (leb c m) (leb y n && marked n scratch c y) true)

@@ -17,7 +17,7 @@ use Rattle.semigroups.proofs.Lists.{each-at, each-of, find-keep, keep-agree}
 use Rattle.semigroups.proofs.Tables.{accepted-closed}
 use Rattle.semigroups.proofs.Completions.{find-all}
 use Rattle.semigroups.proofs.Maps.{mem-maps, no-embedding}
-use Rattle.semigroups.proofs.Search.{search-behind}
+use Rattle.semigroups.proofs.Search.{search-extension}
 use Rattle.semigroups.proofs.Candidates.{index-period-sound, marked-candidate}
 use Rattle.semigroups.proofs.Trials.{counted-finds}
 use Rattle.backtrack.specs.InnerState.{bounded}
@@ -38,7 +38,7 @@ search-kept : (m : ℕ) (s : Product) (n : ℕ) (t : Product) → Closed m s →
 unfolding earliest maps isWanted
 search-kept m s n t closed c ask =
     let inside : List ℕ → Bool = λ f. all (λ i. c i (at f i)) (elements m) in
-    search-behind m s n t c ask closed ∙ sym (find-all (isWanted m s n t c ask) n m)
+    search-extension m s n t c ask closed ∙ sym (find-all (isWanted m s n t c ask) n m)
     ∙ sym (find-keep (isEmbedding m s n t) (λ f. inside f && beyond ask f) (lists m n))
     ∙ sym (find-keep inside (beyond ask) (keep (isEmbedding m s n t) (lists m n)))
 

@@ -3,7 +3,7 @@ use mathlib.Core.Path.{_≡_, refl, sym, ap, ap₂, _∙_}
 use mathlib.Core.Bool.{Bool}
 use mathlib.Core.Logic.{_↔_}
 use mathlib.Core.List.{List, [], _∷_}
-use mathlib.Core.Option.{Option, none, some, orElse}
+use mathlib.Core.Option.{Option, none, some, orElse, Option·getD}
 use Prim.Native.Nat.{ℕ, _≤_, _<_}
 use borrow.Author.Tests.{lt-leb}
 use lib.Dec.{leb}
@@ -14,7 +14,7 @@ use Rattle.semigroups.specs.Scratch.{scratchSize}
 use Rattle.semigroups.specs.Questions.{Question, ask, Refusal, searchQuestions, searchRefusal}
 use Rattle.semigroups.specs.QuestionsLaws.{no}
 use Rattle.semigroups.specs.PassingLaws.{SearchPasses}
-use Rattle.semigroups.specs.Calls.{refused, gives, mapUnless}
+use Rattle.semigroups.specs.Calls.{refused, gives}
 use Rattle.semigroups.specs.InnerCalls.{scratchAfter}
 use Rattle.semigroups.specs.Maps.{Ask, sought}
 use Rattle.semigroups.proofs.Questions.{failed-before, passed-before}
@@ -22,8 +22,8 @@ use Rattle.semigroups.proofs.Passing.{search-passes, room-asked, joined}
 use Rattle.search.specs.Answers.{soughtIf}
 use Rattle.search.specs.Calls.{Lent, called}
 use Rattle.search.specs.Allowed.{allowedCandidate}
-use Rattle.search.specs.Among.{amongRefusal, refusalAmong, answerAmong, leavingAmong, callAmong}
-use Rattle.search.specs.InnerAmong.{answeredAmong}
+use Rattle.search.specs.Among.{amongRefusal, refusalAmong, answerAmong, callAmong}
+use Rattle.search.specs.InnerAmong.{leavingAmong, answeredAmong}
 use Rattle.search.specs.AmongLaws.{PassesAmong}
 
 -- ---- the questions
@@ -75,7 +75,7 @@ module _ (ask : Ask) (pairs : List ℕ) (l : Lent) where
   not-refused-among e o f = ap₂ (leavingAmong pairs l) e f
 
   -- From what is said, the map and the marks, by the embedding asked for.
-  pub as-answered-among : (r : Bool) {bytes scratch : List ℕ} (o : Option (List ℕ)) → answerAmong ask pairs l ≡ o → soughtIf r ≡ sought o → bytes ≡ mapUnless none o (l .mapBytes)
+  pub as-answered-among : (r : Bool) {bytes scratch : List ℕ} (o : Option (List ℕ)) → answerAmong ask pairs l ≡ o → soughtIf r ≡ sought o → bytes ≡ Option·getD o (l .mapBytes)
       → scratch ≡ scratchAfter (l .m) (l .n) (allowedCandidate (l .m) (product (l .m) (l .source)) (l .n) (product (l .n) (l .target)) pairs) (l .scratch)
       → called (gives (soughtIf r)) bytes scratch ≡ answeredAmong ask pairs l
   unfolding answeredAmong scratchAfter

@@ -11,9 +11,9 @@ use lib.Dec.{eqb}
 use Rattle.semigroups.specs.Lists.{range, elements, at, all, find, keep, sum, firstOf, least, member, distinct, earlier, lists, count}
 use Rattle.semigroups.specs.ListsLaws.{Earliest}
 use Rattle.semigroups.specs.Tables.{product, grid, isElement, associates, badCell, badTriple}
-use Rattle.semigroups.specs.Scratch.{packedByte, bit, scratchSize, pairMarks, marks, marked}
+use Rattle.semigroups.specs.Scratch.{packedByte, bit, scratchSize, marks, marked}
 use Rattle.semigroups.specs.Invariants.{power, periodFrom, index, period, idempotentPower, indexPeriod, sameIndexPeriod}
-use Rattle.semigroups.specs.Calls.{gives}
+use Rattle.semigroups.specs.Calls.{gives, Answer}
 use Rattle.semigroups.specs.Maps.{isHomomorphism, isEmbedding, embeddings, maps, first, earliest, Sought, found}
 use Rattle.semigroups.specs.Candidates.{candidate}
 use Rattle.semigroups.proofs.Lists.{pairs-at}
@@ -25,7 +25,7 @@ use Rattle.search.proofs.Among.{among-passes}
 use Rattle.search.proofs.AmongLaws.{among-laws}
 
 pub among-examples : AmongExamples
-unfolding callAmong amongRefusal allowed allows earliest maps isEmbedding isHomomorphism candidate marks marked packedByte bit scratchSize pairMarks grid product isElement badCell badTriple power periodFrom index period idempotentPower indexPeriod sameIndexPeriod range elements at all find keep sum firstOf least member distinct earlier lists count orElse flatMap associates
+unfolding callAmong amongRefusal allowed allows earliest maps isEmbedding isHomomorphism candidate marks marked packedByte bit scratchSize grid product isElement badCell badTriple power periodFrom index period idempotentPower indexPeriod sameIndexPeriod range elements at all find keep sum firstOf least member distinct earlier lists count orElse flatMap associates
 among-examples = (refl, refl, refl, refl, refl)
 
 -- ---- instances of the laws
@@ -48,13 +48,13 @@ passes-all : PassesAmong (15 ∷ []) l
 passes-all = among-passes (15 ∷ []) l .0 (none-refused .1 .1)
 
 exchange-says : callAmong first (6 ∷ []) l .says ≡ gives found
-exchange-says = ap (λ (c : Called Sought). c .says) (among-examples .0)
+exchange-says = ap (λ (c : Called (Answer Sought)). c .says) (among-examples .0)
 
 pub exchange-earliest : Earliest (WantedAmong (6 ∷ []) l first) exchange
-exchange-earliest = among-laws .found-exactly first (6 ∷ []) l passes-exchange exchange .0 (exchange-says, ap (λ (c : Called Sought). c .mapBytes) (among-examples .0))
+exchange-earliest = among-laws .found-exactly first (6 ∷ []) l passes-exchange exchange .0 (exchange-says, ap (λ (c : Called (Answer Sought)). c .mapBytes) (among-examples .0))
 
 pub none-allowed : (f : List ℕ) → WantedAmong (3 ∷ []) l first f → ⊥
-none-allowed = among-laws .nothing-exactly first (3 ∷ []) l (among-passes (3 ∷ []) l .0 (none-refused .1 .0)) .0 (ap (λ (c : Called Sought). c .says) (among-examples .3))
+none-allowed = among-laws .nothing-exactly first (3 ∷ []) l (among-passes (3 ∷ []) l .0 (none-refused .1 .0)) .0 (ap (λ (c : Called (Answer Sought)). c .says) (among-examples .3))
 
 all-marked : AllMarked (15 ∷ []) l
 unfolding marked bit all elements range

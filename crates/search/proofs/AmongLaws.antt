@@ -3,7 +3,7 @@ use mathlib.Core.Path.{_≡_, refl, sym, ap, ap₂, _∙_, subst}
 use mathlib.Core.Bool.{Bool, true, _&&_, and-true, cond}
 use mathlib.Core.Logic.{_⊎_, inl, inr, ⊎-elim, _↔_}
 use mathlib.Core.List.{List, [], _∷_, List·Memᴰ, List·Memᴰ·head, List·Memᴰ·tail}
-use mathlib.Core.Option.{Option, none, some}
+use mathlib.Core.Option.{Option, none, some, Option·getD}
 use Prim.Native.Nat.{ℕ, suc, _+_, _-_, _*_, _/_, _%_, _^_, _≤_, _<_}
 use native.Mathlib.Nat.{suc-mul, zero-mul, mul-zero, zero-div}
 use native.Mathlib.Omega.{arith}
@@ -14,7 +14,7 @@ use Rattle.semigroups.specs.ListsLaws.{Sorted, Earliest}
 use Rattle.semigroups.specs.Tables.{Product, product, cellPlace}
 use Rattle.semigroups.specs.Scratch.{bit, scratchSize, marked}
 use Rattle.semigroups.specs.Questions.{Refusal}
-use Rattle.semigroups.specs.Calls.{refused, gives, mapUnless, overwritten}
+use Rattle.semigroups.specs.Calls.{refused, gives, overwritten, Answer}
 use Rattle.semigroups.specs.InnerCalls.{scratchAfter}
 use Rattle.semigroups.specs.MapsLaws.{Embedding}
 use Rattle.semigroups.specs.Maps.{embeddings, maps, Ask, first, next, beyond, earliest, Sought, found, nothing, sought}
@@ -23,12 +23,13 @@ use Rattle.semigroups.proofs.Booleans.{clash, at-most-or-above}
 use Rattle.semigroups.proofs.Lists.{ext-at, each-at, each-of, find-some, find-none, find-first, mem-keep, keep-mem, sorted-keep, keep-agree}
 use Rattle.semigroups.proofs.ListOrder.{earliest-same, earliest-unique}
 use Rattle.semigroups.proofs.Maps.{maps-increasing, mem-maps, maps-mem}
-use Rattle.semigroups.proofs.Calls.{found-ne-nothing, gives-ne-refused, refused-by}
+use Rattle.semigroups.proofs.Calls.{found-ne-nothing, gives-ne-refused}
 use Rattle.candidates.proofs.Marks.{scratch-same}
 use Rattle.search.specs.Calls.{Lent, Called, called, refusalOf, answerOf, marksOf, call}
 use Rattle.search.specs.WantedLaws.{Wanted}
 use Rattle.search.specs.Allowed.{allows, allowed}
-use Rattle.search.specs.Among.{refusalAmong, answerAmong, marksAmong, leavingAmong, callAmong}
+use Rattle.search.specs.Among.{refusalAmong, answerAmong, marksAmong, callAmong}
+use Rattle.search.specs.InnerAmong.{leavingAmong}
 use Rattle.search.specs.AmongLaws.{PassesAmong, Allows, WantedAmong, AllMarked, OnlyOf, Fewer, SamePairs, AmongLaws}
 use Rattle.search.proofs.Calls as calls
 use Rattle.search.proofs.Allowed.{allows-alike}
@@ -90,7 +91,7 @@ module _ (ask : Ask) (pairs : List ℕ) (l : Lent) where
 
   refused-exactly : (r : Refusal) → (callAmong ask pairs l .says ≡ refused r) ↔ (refusalAmong pairs l ≡ some r)
   unfolding callAmong
-  refused-exactly r = refused-by (sought (answerAmong ask pairs l)) (refusalAmong pairs l) r
+  refused-exactly r = calls.leaving-refused (marksAmong pairs l) l (sought (answerAmong ask pairs l)) (answerAmong ask pairs l) (refusalAmong pairs l) r
 
   found-answer : callAmong ask pairs l .says ≡ gives found → answerAmong ask pairs l ≡ some (callAmong ask pairs l .mapBytes)
   unfolding callAmong
@@ -129,10 +130,10 @@ module _ (ask : Ask) (pairs : List ℕ) (l : Lent) where
       from : Earliest (WantedAmong pairs l ask) f → (callAmong ask pairs l .says ≡ gives found) × (callAmong ask pairs l .mapBytes ≡ f)
       from h =
           let e = answered p (some f) (late-exactly (l .m) s (l .n) t pairs ask f (earliest-same late-wanted .1 h)) in
-          (ap (λ (c : Called Sought). c .says) e, ap (λ (c : Called Sought). c .mapBytes) e)
+          (ap (λ (c : Called (Answer Sought)). c .says) e, ap (λ (c : Called (Answer Sought)). c .mapBytes) e)
 
   nothing-exactly : PassesAmong pairs l → (callAmong ask pairs l .says ≡ gives nothing) ↔ ((f : List ℕ) → WantedAmong pairs l ask f → ⊥)
-  nothing-exactly p = ((λ e f w. late-none (l .m) s (l .n) t pairs ask (nothing-answer e) f (late-wanted f .1 w)), λ h. ap (λ (c : Called Sought). c .says) (answered p none (without h (answerAmong ask pairs l) refl)))
+  nothing-exactly p = ((λ e f w. late-none (l .m) s (l .n) t pairs ask (nothing-answer e) f (late-wanted f .1 w)), λ h. ap (λ (c : Called (Answer Sought)). c .says) (answered p none (without h (answerAmong ask pairs l) refl)))
     where
       without : ((f : List ℕ) → WantedAmong pairs l ask f → ⊥) → (o : Option (List ℕ)) → answerAmong ask pairs l ≡ o → answerAmong ask pairs l ≡ none
       without h none e = e
@@ -140,7 +141,7 @@ module _ (ask : Ask) (pairs : List ℕ) (l : Lent) where
 
   -- A map that is wanted and allowed is found, or an earlier one.
   wanted-found : PassesAmong pairs l → (f : List ℕ) → WantedAmong pairs l ask f → callAmong ask pairs l .says ≡ gives found
-  wanted-found p f w = let r = late-found (l .m) s (l .n) t pairs ask f (late-wanted f .1 w) in ap (λ (c : Called Sought). c .says) (answered p (some (r .0)) (r .1))
+  wanted-found p f w = let r = late-found (l .m) s (l .n) t pairs ask f (late-wanted f .1 w) in ap (λ (c : Called (Answer Sought)). c .says) (answered p (some (r .0)) (r .1))
 
 -- A map that is wanted is an embedding.
 wanted-embedding : (ask : Ask) (l : Lent) (f : List ℕ) → Wanted embeddings l ask f → Embedding (l .m) (product (l .m) (l .source)) (l .n) (product (l .n) (l .target)) f
@@ -230,7 +231,7 @@ module _ (pairs : List ℕ) (l : Lent) (h : AllMarked pairs l) where
       go none e =
           let o = answerOf embeddings ask l in
           not-refused-among ask pairs l (pairs-passed (l .m) (l .source) (l .n) (l .target) (length (l .mapBytes)) (length (l .scratch)) (length pairs) e room) o (same-answer ask)
-          ∙ ap (λ (b : List ℕ). called (gives (sought o)) (mapUnless none o (l .mapBytes)) b) same-marks
+          ∙ ap (λ (b : List ℕ). called (gives (sought o)) (Option·getD o (l .mapBytes)) b) same-marks
           ∙ sym (calls.not-refused embeddings l ask e o refl)
 
 -- ---- pairs that mark the same
@@ -261,7 +262,7 @@ module _ (ask : Ask) (one other : List ℕ) (l : Lent) (h : SamePairs one other 
       go none e =
           let o = answerAmong ask other l in
           not-refused-among ask one l (pairs-passed (l .m) (l .source) (l .n) (l .target) (length (l .mapBytes)) (length (l .scratch)) (length one) e u) o same-allowed
-          ∙ ap (λ (b : List ℕ). called (gives (sought o)) (mapUnless none o (l .mapBytes)) b) same-kept
+          ∙ ap (λ (b : List ℕ). called (gives (sought o)) (Option·getD o (l .mapBytes)) b) same-kept
           ∙ sym (not-refused-among ask other l (pairs-passed (l .m) (l .source) (l .n) (l .target) (length (l .mapBytes)) (length (l .scratch)) (length other) e v) o refl)
 
 -- ---- the laws

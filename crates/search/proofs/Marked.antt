@@ -2,14 +2,13 @@
 use mathlib.Core.Path.{_≡_, refl, sym, ap, ap₂, _∙_}
 use mathlib.Core.Bool.{Bool, true, false, false≢true}
 use mathlib.Core.List.{List, []}
-use mathlib.Core.Option.{Option, none, some}
+use mathlib.Core.Option.{Option, none, some, Option·getD}
 use Prim.Native.Nat.{ℕ, _-_, _≤_}
 use native.Mathlib.Omega.{arith}
 use lib.ListN.{length, take, replicate}
 use lib.Seq.{take-at}
 use Rattle.semigroups.specs.Tables.{product, Filled}
 use Rattle.semigroups.specs.Scratch.{marked}
-use Rattle.semigroups.specs.Calls.{mapUnless}
 use Rattle.semigroups.specs.Maps.{sought}
 use Rattle.semigroups.specs.Trials.{Work, Limited, stopped, ended}
 use Rattle.semigroups.proofs.Tables.{product-element}
@@ -52,18 +51,18 @@ module _ (next : Bool) (m : ℕ) (source : List ℕ) (n : ℕ) (target bytes scr
 -- ---- what is said and the map that is left
 
 -- Without a limit.
-pub leaves-found : (w : Work) (bytes : List ℕ) (o : Option (List ℕ)) → w .found ≡ o → (sought o ≡ sought (w .found)) × (mapUnless none o bytes ≡ mapUnless none (w .found) bytes)
-leaves-found w bytes o e = (ap sought (sym e), ap (λ (q : Option (List ℕ)). mapUnless none q bytes) (sym e))
+pub leaves-found : (w : Work) (bytes : List ℕ) (o : Option (List ℕ)) → w .found ≡ o → (sought o ≡ sought (w .found)) × (Option·getD o bytes ≡ Option·getD (w .found) bytes)
+leaves-found w bytes o e = (ap sought (sym e), ap (λ (q : Option (List ℕ)). Option·getD q bytes) (sym e))
 
 -- With a limit.
 abbrev pub Leaves : Limit → Work → List ℕ → Limited → Option (List ℕ) → Type 0
-Leaves limit w bytes a o = (a ≡ saidUnder limit w) × (mapUnless none o bytes ≡ mapUnless none (foundUnder limit w) bytes)
+Leaves limit w bytes a o = (a ≡ saidUnder limit w) × (Option·getD o bytes ≡ Option·getD (foundUnder limit w) bytes)
 
 module _ (limit : ℕ) (w : Work) (bytes : List ℕ) (r : Outcome) (finding : r ≡ outcomeOf (within limit w)) where
   pub leaves-stopped : r .stopped ≡ true → Leaves (Trials limit) w bytes stopped none
   leaves-stopped e =
       let z = limited-stops w limit (within-stopped limit w (ap (λ (q : Outcome). q .stopped) (sym finding) ∙ e)) in
-      (sym (z .0), ap (λ (q : Option (List ℕ)). mapUnless none q bytes) (sym (z .1)))
+      (sym (z .0), ap (λ (q : Option (List ℕ)). Option·getD q bytes) (sym (z .1)))
 
   module _ (e : r .stopped ≡ false) where
     ended-here : (w .trials ≤ limit) × (within limit w ≡ remaining (limit - w .trials) (w .found))
@@ -90,5 +89,5 @@ module _ (limit : ℕ) (w : Work) (bytes : List ℕ) (r : Outcome) (finding : r 
     leaves-ended o q =
         let z = limited-ends w limit (ended-here .0) in (
           sym (z .0 ∙ ap₂ (λ (p : Option (List ℕ)) (k : ℕ). ended (sought p) k) q spent),
-          ap (λ (p : Option (List ℕ)). mapUnless none p bytes) (sym (z .1 ∙ q)),
+          ap (λ (p : Option (List ℕ)). Option·getD p bytes) (sym (z .1 ∙ q)),
         )

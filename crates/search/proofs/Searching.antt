@@ -2,11 +2,11 @@
 use mathlib.Core.Path.{_≡_, refl, sym, ap, ap₂, _∙_}
 use mathlib.Core.Bool.{Bool, true, false}
 use mathlib.Core.List.{List}
-use mathlib.Core.Option.{Option, none}
+use mathlib.Core.Option.{Option, none, Option·getD}
 use Prim.Native.Nat.{ℕ}
 use native.Mathlib.Omega.{arith}
 use Rattle.semigroups.specs.Tables.{product, Accepted}
-use Rattle.semigroups.specs.Calls.{Answer, gives, mapUnless}
+use Rattle.semigroups.specs.Calls.{Answer, gives}
 use Rattle.semigroups.specs.InnerCalls.{scratchAfter}
 use Rattle.semigroups.specs.Maps.{Kind, Sought, nothing, sought}
 use Rattle.semigroups.specs.Candidates.{candidate}
@@ -18,9 +18,8 @@ use Rattle.search.specs.declared.Limit.{Limit}
 use Rattle.search.specs.declared.Limit.the-variants.{Unlimited, Trials}
 use Rattle.search.specs.declared.Searched.{Searched}
 use Rattle.search.specs.Answers.{soughtIf}
-use Rattle.search.specs.Calls.{Lent, Called, called, leaving, answerOf}
-use Rattle.search.specs.InnerSearching.{answered, endedUnless, searchedSays, saidUnder, foundUnder, searched}
-use Rattle.search.specs.Limited.{workOf}
+use Rattle.search.specs.Calls.{Lent, Called, called, leaving, answerOf, marksOf}
+use Rattle.search.specs.InnerSearching.{answered, workOf, endedUnless, searchedSays, saidUnder, foundUnder, searched}
 use Rattle.search.proofs.Works.{work-finds}
 
 -- Where no work is done there is nothing, whatever the limit.
@@ -31,13 +30,13 @@ no-work (Trials limit) = let e = limited-ends (work none 0) limit (omega arith) 
 module _ (kind : Kind) (next : Bool) (limit : Limit) (l : Lent) where
   -- From what is said, the map and the marks, by the limit and the work.
   pub as-searched : {said : Limited} {bytes scratch : List ℕ} (k : Limit) → limit ≡ k → (w : Work) → workOf kind (bounded next (l .mapBytes)) (l .m) (l .source) (l .n) (l .target) ≡ w
-      → said ≡ saidUnder k w → bytes ≡ mapUnless none (foundUnder k w) (l .mapBytes)
+      → said ≡ saidUnder k w → bytes ≡ Option·getD (foundUnder k w) (l .mapBytes)
       → scratch ≡ scratchAfter (l .m) (l .n) (candidate kind (l .m) (product (l .m) (l .source)) (l .n) (product (l .n) (l .target))) (l .scratch)
       → called (gives said) bytes scratch ≡ searched kind next limit l
   unfolding searched scratchAfter
   as-searched {said = said} {bytes = bytes} {scratch = scratch} k same w e f g h =
-      let made : called (gives said) bytes scratch ≡ leaving kind l none (saidUnder k w) (foundUnder k w) = cc in
-      made ∙ ap₂ (λ (k : Limit) (w : Work). leaving kind l none (saidUnder k w) (foundUnder k w)) (sym same) (sym e)
+      let made : called (gives said) bytes scratch ≡ leaving (marksOf kind l) l none (saidUnder k w) (foundUnder k w) = cc in
+      made ∙ ap₂ (λ (k : Limit) (w : Work). leaving (marksOf kind l) l none (saidUnder k w) (foundUnder k w)) (sym same) (sym e)
 
 -- ---- without a limit
 
@@ -59,8 +58,8 @@ module _ (kind : Kind) (next : Bool) (l : Lent) (a : Accepted (l .m) (l .source)
   unfolding searched answered
   as-answered r {bytes = bytes} {scratch = scratch} e =
       let w = workOf kind (bounded next (l .mapBytes)) (l .m) (l .source) (l .n) (l .target) in
-      let says = ended-says r (sought (w .found)) 0 (given (ap (λ (c : Called Limited). c .says) e)) in
-      let map = ap (λ (c : Called Limited). c .mapBytes) e in
-      let marks = ap (λ (c : Called Limited). c .scratch) e in
-      let made : called (gives (soughtIf (r .found))) bytes scratch ≡ leaving kind l none (sought (w .found)) (w .found) = cc in
-      made ∙ ap (λ (o : Option (List ℕ)). leaving kind l none (sought o) o) (work-finds kind (bounded next (l .mapBytes)) (l .m) (l .source) (l .n) (l .target) a b)
+      let says = ended-says r (sought (w .found)) 0 (given (ap (λ (c : Called (Answer Limited)). c .says) e)) in
+      let map = ap (λ (c : Called (Answer Limited)). c .mapBytes) e in
+      let marks = ap (λ (c : Called (Answer Limited)). c .scratch) e in
+      let made : called (gives (soughtIf (r .found))) bytes scratch ≡ leaving (marksOf kind l) l none (sought (w .found)) (w .found) = cc in
+      made ∙ ap (λ (o : Option (List ℕ)). leaving (marksOf kind l) l none (sought o) o) (work-finds kind (bounded next (l .mapBytes)) (l .m) (l .source) (l .n) (l .target) a b)

@@ -2,13 +2,13 @@
 use mathlib.Core.Path.{_≡_, sym, ap, ap₂, subst, _∙_}
 use mathlib.Core.Bool.{Bool}
 use mathlib.Core.List.{List}
-use mathlib.Core.Option.{none}
+use mathlib.Core.Option.{none, Option·getD}
 use Prim.Native.Nat.{ℕ, _*_, _≤_}
 use lib.ListN.{length, take}
 use lib.Seq.{length-take-le}
 use Rattle.semigroups.specs.Tables.{product, Accepted}
 use Rattle.semigroups.specs.TablesLaws.{turnedCells}
-use Rattle.semigroups.specs.Calls.{gives, overwritten, mapUnless}
+use Rattle.semigroups.specs.Calls.{gives, overwritten}
 use Rattle.semigroups.specs.InnerCalls.{scratchAfter}
 use Rattle.semigroups.specs.Maps.{isomorphisms, reversed}
 use Rattle.semigroups.specs.Trials.{Work}
@@ -26,7 +26,7 @@ pub turned-call : (next : Bool) (limit : Limit) (m : ℕ) (source : List ℕ) (n
 unfolding searched scratchAfter
 turned-call next limit m source n target bytes scratch accepted =
     let s = product m source in
-    ap₂ (λ (w : Work) (b : List ℕ). called (gives (saidUnder limit w)) (mapUnless none (foundUnder limit w) bytes) b) (turned-work m source n target accepted (bounded next bytes))
+    ap₂ (λ (w : Work) (b : List ℕ). called (gives (saidUnder limit w)) (Option·getD (foundUnder limit w) bytes) b) (turned-work m source n target accepted (bounded next bytes))
     (scratch-same m n (candidate isomorphisms m s n (product n (turnedCells n target))) (candidate reversed m s n (product n target)) (same-candidate m source n target accepted) scratch)
 
 -- ---- the room that the turned target is written to

@@ -11,21 +11,23 @@ use Rattle.semigroups.specs.Tables.{Product, product, turned, Element, Accepted
 use Rattle.semigroups.specs.TablesLaws.{turnedCells, Closed}
 use Rattle.semigroups.specs.Scratch.{marked}
 use Rattle.semigroups.specs.InnerCalls.{scratchAfter}
-use Rattle.semigroups.specs.Maps.{Kind, embeddings, isomorphisms, reversed, maps, Ask, earliest}
+use Rattle.semigroups.specs.Maps.{Kind, embeddings, isomorphisms, reversed, maps, Ask, first, earliest}
 use Rattle.semigroups.specs.Candidates.{candidate}
-use Rattle.semigroups.specs.InnerSearch.{search}
-use Rattle.semigroups.specs.Trials.{Work, work, counted}
+use Rattle.semigroups.specs.InnerSearch.{search, plainKind}
+use Rattle.semigroups.specs.Trials.{Work, work}
+use Rattle.semigroups.specs.InnerTrials.{counted}
 use Rattle.semigroups.proofs.Tables.{accepted-closed}
 use Rattle.semigroups.proofs.Turned.{cells-turn, turned-accepted}
 use Rattle.semigroups.proofs.Maps.{no-embedding, no-isomorphism, one-order}
 use Rattle.semigroups.proofs.Reversed.{no-reversed, reversed-maps, reversed-candidate}
 use Rattle.semigroups.proofs.Candidates.{index-period-sound, profile-sound, marked-candidate}
 use Rattle.semigroups.proofs.Search.{search-earliest}
-use Rattle.semigroups.proofs.Trials.{counted-finds, counted-same, counted-agrees}
+use Rattle.semigroups.proofs.Trials.{search-first, counted-finds, counted-same, counted-agrees}
 use Rattle.backtrack.specs.InnerState.{bounded}
-use Rattle.search.specs.InnerSearching.{straight, markedWork}
+use Rattle.search.specs.Calls.{Lent}
+use Rattle.search.specs.InnerSearching.{workOf, markedWork}
 use Rattle.search.specs.Kinds.{orderFits}
-use Rattle.search.specs.Limited.{readBy, workOf}
+use Rattle.search.specs.Limited.{readBy, firstWork}
 
 -- ---- where the orders rule a map out
 
@@ -60,19 +62,27 @@ module _ (kind : Kind) (ask : Ask) (m : ℕ) (source : List ℕ) (n : ℕ) (targ
       go true e = ap (λ (w : Work). w .found) (work-by true e) ∙ fit e
       go false e = ap (λ (w : Work). w .found) (work-unfit e) ∙ sym (unfit kind m (product m source) n (product n target) e ask)
 
+-- The work for the first map.
+pub first-work : (kind : Kind) (l : Lent) → firstWork kind l ≡ workOf kind first (l .m) (l .source) (l .n) (l .target)
+unfolding firstWork workOf
+first-work kind l =
+    let s = product (l .m) (l .source) in
+    let t = product (l .n) (l .target) in
+    ap (λ (w : Work). cond (orderFits kind (l .m) (l .n)) w (work none 0)) (search-first s (readBy kind t) (candidate kind (l .m) s (l .n) t) (l .n) (l .m) [])
+
 -- Products are tested as they stand.
-read-straight : (onto : Bool) (t : Product) → t ≡ readBy (straight onto) t
+read-straight : (onto : Bool) (t : Product) → t ≡ readBy (plainKind onto) t
 read-straight true t = refl
 read-straight false t = refl
 
 -- Marks read back as the candidates, so the search over them does the work of the kind.
-pub work-marked : (onto next : Bool) (m : ℕ) (source : List ℕ) (n : ℕ) (target bytes before scratch : List ℕ) → scratch ≡ scratchAfter m n (candidate (straight onto) m (product m source) n (product n target)) before → orderFits (straight onto) m n ≡ true
-    → workOf (straight onto) (bounded next bytes) m source n target ≡ markedWork next m source n target bytes scratch
+pub work-marked : (onto next : Bool) (m : ℕ) (source : List ℕ) (n : ℕ) (target bytes before scratch : List ℕ) → scratch ≡ scratchAfter m n (candidate (plainKind onto) m (product m source) n (product n target)) before → orderFits (plainKind onto) m n ≡ true
+    → workOf (plainKind onto) (bounded next bytes) m source n target ≡ markedWork next m source n target bytes scratch
 work-marked onto next m source n target bytes before scratch filled e =
     let s = product m source in
     let t = product n target in
-    let c = candidate (straight onto) m s n t in
-    work-by (straight onto) (bounded next bytes) m source n target true e ∙ ap (searched (straight onto) (bounded next bytes) m source n target) (sym (read-straight onto t))
+    let c = candidate (plainKind onto) m s n t in
+    work-by (plainKind onto) (bounded next bytes) m source n target true e ∙ ap (searched (plainKind onto) (bounded next bytes) m source n target) (sym (read-straight onto t))
     ∙ sym (ap (markedWork next m source n target bytes) filled
     ∙ counted-same s t m n (marked n (scratchAfter m n c before)) c (marked-candidate m n c before) (bounded next bytes) m [] (let z : 0 + m ≡ m = omega arith in z))
 

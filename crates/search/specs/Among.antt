@@ -9,9 +9,9 @@ use lib.ListN.{length}
 use Rattle.semigroups.specs.Tables.{product}
 use Rattle.semigroups.specs.Scratch.{scratchSize, marks}
 use Rattle.semigroups.specs.Questions.{Question, ask, Refusal, firstNo, searchQuestions}
-use Rattle.semigroups.specs.Calls.{givenUnless, writtenUnless, mapUnless}
+use Rattle.semigroups.specs.Calls.{Answer}
 use Rattle.semigroups.specs.Maps.{Ask, earliest, Sought, sought}
-use Rattle.search.specs.Calls.{Lent, Called, called}
+use Rattle.search.specs.Calls.{Lent, Called, leaving}
 use Rattle.search.specs.Allowed.{allowed, allowedCandidate}
 
 -- The questions of a search among given pairs: those of a search; then 70, do the pairs have at least the bytes that m × n bits take?
@@ -34,10 +34,6 @@ answerAmong ask pairs l = earliest ask (allowed (l .m) (product (l .m) (l .sourc
 abbrev pub marksAmong : List ℕ → Lent → List ℕ
 marksAmong pairs l = marks (l .m) (l .n) (allowedCandidate (l .m) (product (l .m) (l .source)) (l .n) (product (l .n) (l .target)) pairs)
 
--- What a call says and leaves: its refusal, or whether there is the embedding asked for, that embedding, and the marks.
-abbrev pub leavingAmong : List ℕ → Lent → Option Refusal → Option (List ℕ) → Called Sought
-leavingAmong pairs l refusal answer = called (givenUnless refusal (sought answer)) (mapUnless refusal answer (l .mapBytes)) (writtenUnless refusal (marksAmong pairs l) (l .scratch))
-
 -- A call of a search among given pairs.
-unfoldable pub callAmong : Ask → List ℕ → Lent → Called Sought
-callAmong ask pairs l = leavingAmong pairs l (refusalAmong pairs l) (answerAmong ask pairs l)
+unfoldable pub callAmong : Ask → List ℕ → Lent → Called (Answer Sought)
+callAmong ask pairs l = leaving (marksAmong pairs l) l (refusalAmong pairs l) (sought (answerAmong ask pairs l)) (answerAmong ask pairs l)

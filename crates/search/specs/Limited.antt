@@ -1,14 +1,15 @@
 -- A call of a search with a limit (RULES 9.4), and the work that it takes. There is one definition for every kind. Assumes nothing.
 use mathlib.Core.Bool.{cond}
-use mathlib.Core.List.{List, []}
+use mathlib.Core.List.{[]}
 use mathlib.Core.Option.{none}
 use Prim.Native.Nat.{ℕ}
 use Rattle.semigroups.specs.Tables.{Product, product, turned}
-use Rattle.semigroups.specs.Maps.{Kind, embeddings, isomorphisms, reversed, Ask, first}
+use Rattle.semigroups.specs.Calls.{Answer}
+use Rattle.semigroups.specs.Maps.{Kind, embeddings, isomorphisms, reversed}
 use Rattle.semigroups.specs.Candidates.{candidate}
-use Rattle.semigroups.specs.Trials.{Work, work, counted, Limited, limited, foundWithin}
+use Rattle.semigroups.specs.Trials.{Work, work, searchWork, Limited, limited, foundWithin}
 use Rattle.search.specs.Kinds.{orderFits}
-use Rattle.search.specs.Calls.{Lent, Called, refusalOf, leaving}
+use Rattle.search.specs.Calls.{Lent, Called, refusalOf, marksOf, leaving}
 
 -- The target's product as a search of the kind tests it: for reversed maps, with its factors exchanged (RULES 10).
 abbrev pub readBy : Kind → Product → Product
@@ -16,18 +17,15 @@ readBy embeddings t = t
 readBy isomorphisms t = t
 readBy reversed t = turned t
 
--- The work of the search for a map of the kind. If the orders rule a map out (m > n, or for isomorphisms m different from n), there is no trial and no map.
-unfoldable pub workOf : Kind → Ask → ℕ → List ℕ → ℕ → List ℕ → Work
-workOf kind ask m source n target =
-    let s = product m source in
-    let t = product n target in
-    let searched = counted s (readBy kind t) (candidate kind m s n t) ask n m [] in
-    cond (orderFits kind m n) searched (work none 0)
-
--- The work of the search for the first map of the kind.
-abbrev pub firstWork : Kind → Lent → Work
-firstWork kind l = workOf kind first (l .m) (l .source) (l .n) (l .target)
+-- The work of the search for the first map of the kind. If the orders rule a map out (m > n, or for isomorphisms m different from n), there is no trial and no
+-- map.
+unfoldable pub firstWork : Kind → Lent → Work
+firstWork kind l =
+    let s = product (l .m) (l .source) in
+    let t = product (l .n) (l .target) in
+    let searched = searchWork s (readBy kind t) (candidate kind (l .m) s (l .n) t) (l .n) (l .m) [] in
+    cond (orderFits kind (l .m) (l .n)) searched (work none 0)
 
 -- A call of a search with a limit.
-unfoldable pub limitedCall : Kind → ℕ → Lent → Called Limited
-limitedCall kind limit l = let w = firstWork kind l in leaving kind l (refusalOf l) (limited limit w) (foundWithin limit w)
+unfoldable pub limitedCall : Kind → ℕ → Lent → Called (Answer Limited)
+limitedCall kind limit l = let w = firstWork kind l in leaving (marksOf kind l) l (refusalOf l) (limited limit w) (foundWithin limit w)

@@ -6,14 +6,15 @@
 // Pairs are bits, laid out as those of the scratch buffer are: bit (i - 1) * n + (j - 1) is set where i may go to j. An embedding is allowed if the bit of
 // each element with its image is set. No byte of the pairs changes.
 ghost use mathlib.Core.Path.{_≡_};
-ghost use mathlib.Core.Option.{none};
+ghost use mathlib.Core.Option.{none, Option·getD};
 ghost use Prim.Native.Nat.{_*_, _≤_};
 ghost use lib.ListN.{length};
+ghost use Rattle.semigroups.specs.InnerSearch.{plainKind};
 ghost use Rattle.semigroups.specs.Tables.{product, Filled, Accepted};
 ghost use Rattle.semigroups.specs.TablesLaws.{turnedCells};
 ghost use Rattle.semigroups.specs.Scratch.{scratchSize};
 ghost use Rattle.semigroups.specs.Questions.{searchRefusal};
-ghost use Rattle.semigroups.specs.Calls.{gives, overwritten, mapUnless};
+ghost use Rattle.semigroups.specs.Calls.{gives, overwritten};
 ghost use Rattle.semigroups.specs.InnerCalls.{scratchAfter};
 ghost use Rattle.semigroups.specs.Maps.{reversed, first, next, sought};
 ghost use Rattle.semigroups.specs.Candidates.{candidate};
@@ -21,7 +22,7 @@ ghost use Rattle.backtrack.specs.InnerState.{bounded};
 ghost use Rattle.tables.specs.Answers.{refusalNumbers};
 ghost use Rattle.search.specs.declared.Limit.the-variants.{Unlimited, Trials};
 ghost use Rattle.search.specs.Answers.{kindOf, searchFaultRefusal, questionsRefusal, soughtIf, searchAnswerSays, limitedAnswerSays};
-ghost use Rattle.search.specs.InnerSearching.{straight, answered, searchedSays, saidUnder, foundUnder, searched, markedWork};
+ghost use Rattle.search.specs.InnerSearching.{answered, searchedSays, saidUnder, foundUnder, searched, markedWork};
 ghost use Rattle.search.specs.Kinds.{orderFits};
 ghost use Rattle.search.specs.Calls.{lend, called, call};
 ghost use Rattle.search.specs.Limited.{limitedCall};
@@ -107,7 +108,7 @@ fn find_marked(
     requires { ⌜ Filled m (now source) × Filled n (now target) ⌝ }
     requires { ⌜ (length (now map) ≡ m) × (scratchSize m n ≤ length (now scratch)) ⌝ }
     ensures answer { λ r. ⌜ soughtIf r ≡ sought (markedWork next m (now (source .entry)) n (now (target .entry)) (now (map .entry)) (now (scratch .entry)) .found) ⌝ }
-    ensures map { λ _. ⌜ now (map .exit) ≡ mapUnless none (markedWork next m (now (source .entry)) n (now (target .entry)) (now (map .entry)) (now (scratch .entry)) .found) (now (map .entry)) ⌝ }
+    ensures map { λ _. ⌜ now (map .exit) ≡ Option·getD (markedWork next m (now (source .entry)) n (now (target .entry)) (now (map .entry)) (now (scratch .entry)) .found) (now (map .entry)) ⌝ }
 {
     let result = narrowing::find(source, m, target, n, scratch, &*map, next);
     if !result.ok {
@@ -132,7 +133,7 @@ fn find_marked_within(
     requires { ⌜ Filled m (now source) × Filled n (now target) ⌝ }
     requires { ⌜ (length (now map) ≡ m) × (scratchSize m n ≤ length (now scratch)) ⌝ }
     ensures answer { λ r. ⌜ searchedSays r ≡ saidUnder (Trials limit) (markedWork next m (now (source .entry)) n (now (target .entry)) (now (map .entry)) (now (scratch .entry))) ⌝ }
-    ensures map { λ _. ⌜ now (map .exit) ≡ mapUnless none (foundUnder (Trials limit) (markedWork next m (now (source .entry)) n (now (target .entry)) (now (map .entry)) (now (scratch .entry)))) (now (map .entry)) ⌝ }
+    ensures map { λ _. ⌜ now (map .exit) ≡ Option·getD (foundUnder (Trials limit) (markedWork next m (now (source .entry)) n (now (target .entry)) (now (map .entry)) (now (scratch .entry)))) (now (map .entry)) ⌝ }
 {
     let result = backtrack::find_within(source, m, target, n, scratch, &*map, next, limit);
     if result.stopped {
@@ -163,7 +164,7 @@ fn find_marked_within(
 
 // Returns whether tables of orders m and n can have an embedding, or with `onto` an isomorphism.
 fn order_fits(onto: bool, m: usize, n: usize) -> bool
-    ensures answer { λ r. ⌜ r ≡ orderFits (straight onto) m n ⌝ }
+    ensures answer { λ r. ⌜ r ≡ orderFits (plainKind onto) m n ⌝ }
 {
     if onto {
         return m == n;
@@ -175,7 +176,7 @@ fn order_fits(onto: bool, m: usize, n: usize) -> bool
 fn mark(onto: bool, source: &[u8], m: usize, target: &[u8], n: usize, scratch: &mut [u8])
     requires { ⌜ Accepted m (now source) × Accepted n (now target) ⌝ }
     requires { ⌜ scratchSize m n ≤ length (now scratch) ⌝ }
-    ensures scratch { λ _. ⌜ now (scratch .exit) ≡ scratchAfter m n (candidate (straight onto) m (product m (now (source .entry))) n (product n (now (target .entry)))) (now (scratch .entry)) ⌝ }
+    ensures scratch { λ _. ⌜ now (scratch .exit) ≡ scratchAfter m n (candidate (plainKind onto) m (product m (now (source .entry))) n (product n (now (target .entry)))) (now (scratch .entry)) ⌝ }
 {
     if onto {
         candidates::fill_isomorphisms(source, m, target, n, scratch);
@@ -198,7 +199,7 @@ fn search_straight(
 ) -> Searched
     requires { ⌜ Accepted m (now source) × Accepted n (now target) ⌝ }
     requires { ⌜ (length (now map) ≡ m) × (scratchSize m n ≤ length (now scratch)) ⌝ }
-    ensures call { λ r. ⌜ called (gives (searchedSays r)) (now (map .exit)) (now (scratch .exit)) ≡ searched (straight onto) next limit (lend (now (source .entry)) m (now (target .entry)) n (now (map .entry)) (now (scratch .entry))) ⌝ }
+    ensures call { λ r. ⌜ called (gives (searchedSays r)) (now (map .exit)) (now (scratch .exit)) ≡ searched (plainKind onto) next limit (lend (now (source .entry)) m (now (target .entry)) n (now (map .entry)) (now (scratch .entry))) ⌝ }
 {
     mark(onto, source, m, target, n, scratch);
     if !order_fits(onto, m, n) {

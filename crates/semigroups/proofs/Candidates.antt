@@ -13,7 +13,8 @@ use lib.Seq.{ext-getD}
 use Rattle.semigroups.specs.Lists.{range, elements, sum}
 use Rattle.semigroups.specs.Tables.{Product, Element, cellPlace, grid}
 use Rattle.semigroups.specs.TablesLaws.{Closed}
-use Rattle.semigroups.specs.Scratch.{packedByte, bit, scratchSize, pairMarks, marks, marked}
+use Rattle.semigroups.specs.Scratch.{packedByte, bit, scratchSize, marks, marked}
+use Rattle.semigroups.specs.InnerScratch.{pairMarks}
 use Rattle.semigroups.specs.ScratchLaws.{AreMarks}
 use Rattle.semigroups.specs.InnerCalls.{scratchAfter}
 use Rattle.semigroups.specs.CallsExamples.{ScratchExamples}
@@ -104,12 +105,12 @@ module _ (m n : ℕ) (p : ℕ → ℕ → Bool) where
       (at-most-or-above (m * n) k)
 
   pub length-marks : length (marks m n p) ≡ scratchSize m n
-  unfolding marks
+  unfolding marks pairMarks
   length-marks = length-map (range 0 (scratchSize m n)) (packedByte (pairMarks m n p)) ∙ length-range 0 (scratchSize m n)
 
   -- Byte b of the marks.
   pub marks-byte : (b : ℕ) → b < scratchSize m n → getD (marks m n p) b 0 ≡ packedByte (pairMarks m n p) b
-  unfolding marks
+  unfolding marks pairMarks
   marks-byte b h =
       getD-map (packedByte (pairMarks m n p)) (range 0 (scratchSize m n)) 0 b (omega (arith, length-range 0 (scratchSize m n)))
       ∙ ap (packedByte (pairMarks m n p)) (getD-range 0 (scratchSize m n) b h ∙ (let z : 0 + b ≡ b = omega arith in z))
@@ -117,7 +118,7 @@ module _ (m n : ℕ) (p : ℕ → ℕ → Bool) where
   marks-bit : (b r : ℕ) → b < scratchSize m n → r < 8 → bit (getD (marks m n p) b 0) r ≡ getD (pairMarks m n p) (8 * b + r) 0
   marks-bit b r hb hr = ap (λ (x : ℕ). bit x r) (marks-byte b hb) ∙ packed-bit (pairMarks m n p) mark-small b r hr
 
-  -- A mark reads back as the candidate that it stands for, whatever bytes come behind the marks.
+  -- A mark reads back as the candidate that it stands for, whatever bytes come after the marks.
   marked-front : (later : List ℕ) (i j : ℕ) → Element m i → Element n j → marked n (marks m n p ++ later) i j ≡ p i j
   unfolding marked
   marked-front later i j hi hj =
@@ -189,5 +190,5 @@ module _ (m n : ℕ) (p : ℕ → ℕ → Bool) where
 -- ---- examples
 
 scratch-examples : ScratchExamples
-unfolding scratchAfter marks marked packedByte bit scratchSize pairMarks grid range elements sum flatMap
+unfolding scratchAfter marks marked packedByte bit scratchSize grid range elements sum flatMap
 scratch-examples = (refl, refl, refl, refl, refl, refl, refl, refl, refl)

@@ -13,51 +13,51 @@ use Rattle.semigroups.specs.Lists.{range, elements, all, find, firstOf, 
 use Rattle.semigroups.specs.ListsLaws.{Sorted}
 use Rattle.semigroups.proofs.FlatMap.{find-flatMap}
 
--- Every list of the given ones behind p.
-unfoldable pub behind : List ℕ → List (List ℕ) → List (List ℕ)
-behind p l = map (λ q. p ++ q) l
+-- p, extended by each of the given lists.
+unfoldable pub extensions : List ℕ → List (List ℕ) → List (List ℕ)
+extensions p l = map (λ q. p ++ q) l
 
 -- The first that passes among all lists that go on from p by d entries from 1 to n.
-unfoldable pub findBehind : (List ℕ → Bool) → ℕ → ℕ → List ℕ → Option (List ℕ)
-findBehind test n d p = find test (behind p (lists d n))
+unfoldable pub findExtension : (List ℕ → Bool) → ℕ → ℕ → List ℕ → Option (List ℕ)
+findExtension test n d p = find test (extensions p (lists d n))
 
-behind-nil : (l : List (List ℕ)) → behind [] l ≡ l
-unfolding behind
-behind-nil [] = refl
-behind-nil (q ∷ l) = ap {B = List (List ℕ)} (λ (r : List (List ℕ)). q ∷ r) (behind-nil l)
+extensions-nil : (l : List (List ℕ)) → extensions [] l ≡ l
+unfolding extensions
+extensions-nil [] = refl
+extensions-nil (q ∷ l) = ap {B = List (List ℕ)} (λ (r : List (List ℕ)). q ∷ r) (extensions-nil l)
 
-behind-append : (p : List ℕ) (l r : List (List ℕ)) → behind p (l ++ r) ≡ behind p l ++ behind p r
-unfolding behind
-behind-append p [] r = refl
-behind-append p (q ∷ l) r = ap {B = List (List ℕ)} (λ (s : List (List ℕ)). (p ++ q) ∷ s) (behind-append p l r)
+extensions-append : (p : List ℕ) (l r : List (List ℕ)) → extensions p (l ++ r) ≡ extensions p l ++ extensions p r
+unfolding extensions
+extensions-append p [] r = refl
+extensions-append p (q ∷ l) r = ap {B = List (List ℕ)} (λ (s : List (List ℕ)). (p ++ q) ∷ s) (extensions-append p l r)
 
-behind-beginning : (p : List ℕ) (x : ℕ) (l : List (List ℕ)) → behind p (map (λ q. x ∷ q) l) ≡ behind (p ++ x ∷ []) l
-unfolding behind
-behind-beginning p x [] = refl
-behind-beginning p x (q ∷ l) = ap₂ {C = List (List ℕ)} (λ (a : List ℕ) (r : List (List ℕ)). a ∷ r) (sym (append-assoc p (x ∷ []) q)) (behind-beginning p x l)
+extensions-beginning : (p : List ℕ) (x : ℕ) (l : List (List ℕ)) → extensions p (map (λ q. x ∷ q) l) ≡ extensions (p ++ x ∷ []) l
+unfolding extensions
+extensions-beginning p x [] = refl
+extensions-beginning p x (q ∷ l) = ap₂ {C = List (List ℕ)} (λ (a : List ℕ) (r : List (List ℕ)). a ∷ r) (sym (append-assoc p (x ∷ []) q)) (extensions-beginning p x l)
 
-behind-flatMap : (p : List ℕ) (l : List (List ℕ)) (xs : List ℕ) → behind p (flatMap (λ x. map (λ q. x ∷ q) l) xs) ≡ flatMap (λ x. behind (p ++ x ∷ []) l) xs
+extensions-flatMap : (p : List ℕ) (l : List (List ℕ)) (xs : List ℕ) → extensions p (flatMap (λ x. map (λ q. x ∷ q) l) xs) ≡ flatMap (λ x. extensions (p ++ x ∷ []) l) xs
 unfolding flatMap
-behind-flatMap p l [] = unfold behind in refl
-behind-flatMap p l (x ∷ xs) =
-    behind-append p (map (λ q. x ∷ q) l) (flatMap (λ x. map (λ q. x ∷ q) l) xs)
-    ∙ ap₂ {C = List (List ℕ)} (λ (a b : List (List ℕ)). a ++ b) (behind-beginning p x l) (behind-flatMap p l xs)
+extensions-flatMap p l [] = unfold extensions in refl
+extensions-flatMap p l (x ∷ xs) =
+    extensions-append p (map (λ q. x ∷ q) l) (flatMap (λ x. map (λ q. x ∷ q) l) xs)
+    ∙ ap₂ {C = List (List ℕ)} (λ (a b : List (List ℕ)). a ++ b) (extensions-beginning p x l) (extensions-flatMap p l xs)
 
 module _ (test : List ℕ → Bool) (n : ℕ) where
-  -- All lists are those behind the empty one.
-  pub find-all : (m : ℕ) → find test (lists m n) ≡ findBehind test n m []
-  unfolding findBehind
-  find-all m = ap (find test) (sym (behind-nil (lists m n)))
+  -- All lists are the extensions of the empty one.
+  pub find-all : (m : ℕ) → find test (lists m n) ≡ findExtension test n m []
+  unfolding findExtension
+  find-all m = ap (find test) (sym (extensions-nil (lists m n)))
 
   -- No entry left: the list itself is tested.
-  pub find-whole : (p : List ℕ) → findBehind test n 0 p ≡ cond (test p) (some p) none
-  unfolding findBehind behind lists find
+  pub find-whole : (p : List ℕ) → findExtension test n 0 p ≡ cond (test p) (some p) none
+  unfolding findExtension extensions lists find
   find-whole p = ap {B = Option (List ℕ)} (λ (q : List ℕ). cond (test q) (some q) none) (append-nil p)
 
   -- One entry more: its values are tried from 1 upward.
-  pub find-entry : (d : ℕ) (p : List ℕ) → findBehind test n (suc d) p ≡ firstOf (λ x. findBehind test n d (p ++ x ∷ [])) (elements n)
-  unfolding findBehind lists
-  find-entry d p = ap (find test) (behind-flatMap p (lists d n) (elements n)) ∙ find-flatMap (λ x. behind (p ++ x ∷ []) (lists d n)) test (elements n)
+  pub find-entry : (d : ℕ) (p : List ℕ) → findExtension test n (suc d) p ≡ firstOf (λ x. findExtension test n d (p ++ x ∷ [])) (elements n)
+  unfolding findExtension lists
+  find-entry d p = ap (find test) (extensions-flatMap p (lists d n) (elements n)) ∙ find-flatMap (λ x. extensions (p ++ x ∷ []) (lists d n)) test (elements n)
 
 -- The first entry that passes is the first that gives itself.
 pub find-firstOf : {A : Type 0} (p : A → Bool) (l : List A) → find p l ≡ firstOf (λ x. cond (p x) (some x) none) l

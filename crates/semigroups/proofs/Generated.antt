@@ -22,9 +22,9 @@ use Rattle.semigroups.proofs.NoRepeats.{length-inside, elements-no-repe
 pub rising-no-repeats : (r : List ℕ) → Sorted _<_ r → NoRepeats r
 rising-no-repeats r u = sorted-weaken _<_ (λ (x y : ℕ). x ≡ y → ⊥) (λ x y h e. let z : ⊥ = omega arith in z) r u
 
--- What stands behind the first of a rising list stands behind the first of another one that holds it, where both begin alike.
-rising-behind : (x y : ℕ) (p q : List ℕ) → x ≡ y → Sorted _<_ (x ∷ p) → ((z : ℕ) → List·Memᴰ z (x ∷ p) → List·Memᴰ z (y ∷ q)) → (z : ℕ) → List·Memᴰ z p → List·Memᴰ z q
-rising-behind x y p q e u to z k =
+-- What stands after the first of a rising list stands after the first of another one that holds it, where both begin alike.
+rising-tail : (x y : ℕ) (p q : List ℕ) → x ≡ y → Sorted _<_ (x ∷ p) → ((z : ℕ) → List·Memᴰ z (x ∷ p) → List·Memᴰ z (y ∷ q)) → (z : ℕ) → List·Memᴰ z p → List·Memᴰ z q
+rising-tail x y p q e u to z k =
     ⊎-elim (λ (h : z ≡ y). let l = u .0 z k in absurd (let c : ⊥ = omega arith in c)) (λ (h : List·Memᴰ z q). h) (List·Memᴰ·cases-cons (to z (List·Memᴰ·tail k)))
 
 -- Two rising lists with the same members are equal.
@@ -38,7 +38,7 @@ rising-same (x ∷ p) (y ∷ q) u v to from =
     (λ (k : List·Memᴰ x q).
     ⊎-elim (λ (e : y ≡ x). sym e) (λ (h : List·Memᴰ y p). let a = v .0 x k in let b = u .0 y h in omega arith) (List·Memᴰ·cases-cons (from y (List·Memᴰ·head refl))))
     (List·Memᴰ·cases-cons (to x (List·Memᴰ·head refl))) in
-    ap₂ (λ (z : ℕ) (r : List ℕ). z ∷ r) first (rising-same p q (u .1) (v .1) (rising-behind x y p q first u to) (rising-behind y x q p (sym first) v from))
+    ap₂ (λ (z : ℕ) (r : List ℕ). z ∷ r) first (rising-same p q (u .1) (v .1) (rising-tail x y p q first u to) (rising-tail y x q p (sym first) v from))
 
 -- A list inside one that is no longer is all of it.
 fills : (p q : List ℕ) → NoRepeats p → ((x : ℕ) → List·Memᴰ x p → List·Memᴰ x q) → length q ≤ length p → (x : ℕ) → List·Memᴰ x q → List·Memᴰ x p

@@ -133,7 +133,7 @@ module _ (n : ℕ) (cells l : List ℕ) where
 
   -- ---- each way out of the questions
 
-  -- What is asked behind the cells.
+  -- What is asked after the cells.
   abbrev more : List Question
   more = ask 50 (all (isElement n) l) ∷ ask 51 (eqb (length (generated n s l)) n) ∷ seek 4 (badTripleThrough n s l) ∷ []
 

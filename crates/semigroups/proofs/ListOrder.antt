@@ -42,8 +42,8 @@ earlier-cases x a y b e = go (eqb x y) refl e
     go false q r = inl (ltb-true x y r)
 
 -- Equal entries in front of lists one of which is earlier.
-earlier-behind : (x y : ℕ) (a b : List ℕ) → x ≡ y → Earlier a b → Earlier (x ∷ a) (y ∷ b)
-earlier-behind x y a b e w =
+earlier-after : (x y : ℕ) (a b : List ℕ) → x ≡ y → Earlier a b → Earlier (x ∷ a) (y ∷ b)
+earlier-after x y a b e w =
     let i = w .in-first in
     let j = w .in-second in
     record { place = suc (w .place); in-first = omega arith; in-second = omega arith; same-before = same; smaller = w .smaller }
@@ -60,7 +60,7 @@ earlier-place (x ∷ a) (y ∷ b) e = go (λ h. earlier-place a b h) (earlier-ca
   where
     go : (earlier a b ≡ true → Earlier a b) → (x < y) ⊎ ((x ≡ y) × (earlier a b ≡ true)) → Earlier (x ∷ a) (y ∷ b)
     go below (inl h) = record { place = 0; in-first = omega arith; in-second = omega arith; same-before = λ k l. absurd (let z : ⊥ = omega arith in z); smaller = h }
-    go below (inr h) = earlier-behind x y a b (h .0) (below (h .1))
+    go below (inr h) = earlier-after x y a b (h .0) (below (h .1))
 
 place-earlier : (a b : List ℕ) (p : ℕ) → p < length a → p < length b → ((k : ℕ) → k < p → getD a k 0 ≡ getD b k 0) → getD a p 0 < getD b p 0 → earlier a b ≡ true
 place-earlier [] b p h g s l = absurd (let z : ⊥ = omega arith in z)

@@ -55,26 +55,26 @@ first-no (q ∷ qs) r e = go (first-no qs r) (q .fails) refl e
         record {
           before = q ∷ n .before;
           question = n .question;
-          behind = n .behind;
+          following = n .following;
           place = ap {B = List Question} (λ (l : List Question). q ∷ l) (n .place);
           passed = (p, n .passed);
           fails = n .fails;
           number = n .number;
           side = n .side;
         }
-    go later (some values) p e = record { before = []; question = q; behind = qs; place = refl; passed = tt; fails = cc; number = cc; side = cc }
+    go later (some values) p e = record { before = []; question = q; following = qs; place = refl; passed = tt; fails = cc; number = cc; side = cc }
 
-at-place : (before : List Question) (q : Question) (behind : List Question) (r : Refusal) → Passed before
-    → q .fails ≡ some (r .values) → q .number ≡ r .number → q .side ≡ r .side → firstNo (before ++ q ∷ behind) ≡ some r
+at-place : (before : List Question) (q : Question) (following : List Question) (r : Refusal) → Passed before
+    → q .fails ≡ some (r .values) → q .number ≡ r .number → q .side ≡ r .side → firstNo (before ++ q ∷ following) ≡ some r
 unfolding firstOf orElse
-at-place [] q behind r passed fails number side = rw (fails, number, side)
-at-place (p ∷ before) q behind r passed fails number side = rw (passed .0) (at-place before q behind r (passed .1) fails number side)
+at-place [] q following r passed fails number side = rw (fails, number, side)
+at-place (p ∷ before) q following r passed fails number side = rw (passed .0) (at-place before q following r (passed .1) fails number side)
 
 -- What the first "no" says is what the earliest question that fails says.
 pub earliest-no : (qs : List Question) (r : Refusal) → (firstNo qs ≡ some r) ↔ EarliestNo qs r
 earliest-no qs r = (
   first-no qs r,
-  λ n. ap firstNo (n .place) ∙ at-place (n .before) (n .question) (n .behind) r (n .passed) (n .fails) (n .number) (n .side),
+  λ n. ap firstNo (n .place) ∙ at-place (n .before) (n .question) (n .following) r (n .passed) (n .fails) (n .number) (n .side),
 )
 
 -- ---- lists put together
@@ -93,7 +93,7 @@ module _ (qs more : List Question) where
   pub first-append : firstNo (qs ++ more) ≡ orElse (firstNo qs) (firstNo more)
   first-append = firstOf-append refusalBy qs more
 
-  -- Where one of the first fails, it decides; where they all pass, those behind them do.
+  -- Where one of the first fails, it decides; where they all pass, those after them do.
   pub failed-before : {r : Refusal} → firstNo qs ≡ some r → firstNo (qs ++ more) ≡ some r
   unfolding orElse
   failed-before e = first-append ∙ rw e

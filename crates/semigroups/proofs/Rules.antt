@@ -23,7 +23,7 @@ use Rattle.semigroups.specs.MapCheck.{Checked, holds, wrongProduct, firs
 use Rattle.semigroups.specs.MapCheckLaws.{IsChecked}
 use Rattle.semigroups.specs.Candidates.{candidate}
 use Rattle.semigroups.specs.Transformations.{transformations, transformationOrder}
-use Rattle.semigroups.specs.Rules.{MarkRules, MapRules, TransformationRules, TableRules}
+use Rattle.semigroups.specs.Rules.{InvariantRules, MapRules, TransformationRules, TableRules}
 use Rattle.semigroups.specs.Cases.{mat5}
 use Rattle.semigroups.proofs.Lists.{length-range, getD-range, mem-range, range-mem, mem-elements, elements-mem, getD-map, mem-keep, keep-mem, sorted-keep, sorted-range, sorted-weaken}
 use Rattle.semigroups.proofs.NoRepeats.{elements-no-repeats}
@@ -137,8 +137,8 @@ module _ (n : ℕ) (cells : List ℕ) (a : ℕ) (accepted : Accepted n cells) (h
   settles-at : (k t : ℕ) → index n s a ≤ k → k ≡ t * period n s a → power s a k ≡ idempotentPower n s a
   settles-at k t l e = sym (idempotent-power-at n s (accepted-closed n cells accepted) (accepted .associative) a h k t l e)
 
-mark-rules : (n : ℕ) (cells : List ℕ) → Accepted n cells → MarkRules n cells
-mark-rules n cells accepted =
+invariant-rules : (n : ℕ) (cells : List ℕ) → Accepted n cells → InvariantRules n cells
+invariant-rules n cells accepted =
     let s = product n cells in
     let closed = accepted-closed n cells accepted in
     record {
@@ -207,7 +207,7 @@ transformation-rules d =
     }
 
 pub table-rules : TableRules
-table-rules = record { refused = refused; marks-of = mark-rules; maps-between = map-rules; transformation-tables = transformation-rules }
+table-rules = record { refused = refused; invariants-of = invariant-rules; maps-between = map-rules; transformation-tables = transformation-rules }
 
 -- ---- instances
 
@@ -220,7 +220,7 @@ fourth = record { powers = record { index = 1; period = 1; idempotent = 4 }; fre
 
 fourth-counted : IsProfile (mat5 .order) (mat5 .cells) 4 fourth
 fourth-counted =
-    table-rules .marks-of (mat5 .order) (mat5 .cells) accepted-mat5 .counted 4 (omega arith, omega arith) fourth .0
+    table-rules .invariants-of (mat5 .order) (mat5 .cells) accepted-mat5 .counted 4 (omega arith, omega arith) fourth .0
     (unfold fourth range elements find sum count least product power periodFrom index period idempotentPower indexPeriod frequency diagonalFrequency rowFrequency columnFrequency commuting profile in refl)
 
 -- mat5 onto itself: the identity is an embedding; with the images of 1 and 2 exchanged 1·2 is the earliest product that fails.

@@ -16,13 +16,14 @@ use Rattle.semigroups.specs.Tables.{Product, Element}
 use Rattle.semigroups.specs.TablesLaws.{Closed}
 use Rattle.semigroups.specs.MapsLaws.{Embedding, Among}
 use Rattle.semigroups.specs.Maps.{isEmbedding, embeddings, maps, Ask, first, next, beyond, earliest}
-use Rattle.semigroups.specs.Trials.{notBefore, fits, passes}
-use Rattle.semigroups.specs.InnerSearch.{admits, search, isWanted, earliestBehind, Placed}
+use Rattle.semigroups.specs.Trials.{fits, passes}
+use Rattle.semigroups.specs.InnerTrials.{notBefore}
+use Rattle.semigroups.specs.InnerSearch.{admits, search, isWanted, earliestExtension, Placed}
 use Rattle.semigroups.proofs.Booleans.{clash, untrue, both, and-left, and-right, not-of-false}
 use Rattle.semigroups.proofs.Lists.{mem-elements, at-suc, at-front, at-seam, length-snoc, each-at, each-of, pairs-at, pairs-of, find-some, none-find, find-same, find-keep, sorted-append, not-member, unmember}
 use Rattle.semigroups.proofs.NoRepeats.{one-to-one, mem-place, place-mem}
 use Rattle.semigroups.proofs.ListOrder.{earlier-irreflexive, earlier-transitive, earlier-longer}
-use Rattle.semigroups.proofs.Completions.{behind, findBehind, find-all, find-whole, find-entry, firstOf-same}
+use Rattle.semigroups.proofs.Completions.{extensions, findExtension, find-all, find-whole, find-entry, firstOf-same}
 use Rattle.semigroups.proofs.Maps.{is-embedding, embedding-is}
 
 -- ---- a list placed so far
@@ -89,7 +90,7 @@ module _ (m : ℕ) (s : Product) (n : ℕ) (t : Product) (closed : Closed m s) w
         one-to-one = one-to-one m p e (P .apart);
       }
 
--- ---- what is found behind a list
+-- ---- what is found among the extensions of a list
 
 -- A list that is late enough begins late enough.
 late : (a : Ask) (p q : List ℕ) → beyond a (p ++ q) ≡ true → notBefore a p ≡ true
@@ -102,9 +103,9 @@ module _ (m : ℕ) (s : Product) (n : ℕ) (t : Product) (candidate : ℕ → �
   abbrev asked : List ℕ → Bool
   asked = isWanted m s n t candidate ask
 
-  pub as-behind : (d : ℕ) (p : List ℕ) → earliestBehind m s n t candidate ask d p ≡ findBehind asked n d p
-  unfolding earliestBehind findBehind behind
-  as-behind d p = refl
+  pub as-extension : (d : ℕ) (p : List ℕ) → earliestExtension m s n t candidate ask d p ≡ findExtension asked n d p
+  unfolding earliestExtension findExtension extensions
+  as-extension d p = refl
 
   wanted-parts : (f : List ℕ) → asked f ≡ true → Embedding m s n t f × Among m candidate f × (beyond ask f ≡ true)
   unfolding isWanted
@@ -115,20 +116,20 @@ module _ (m : ℕ) (s : Product) (n : ℕ) (t : Product) (candidate : ℕ → �
       let r = and-right a (b && c) w in
       (is-embedding m s n t f (and-left a (b && c) w), each-at m (λ i. candidate i (at f i)) (and-left b c r), and-right b c r)
 
-  -- Nothing is found behind a list that no map asked for begins with.
-  pub nothing-behind : (d : ℕ) (p : List ℕ) → ((q : List ℕ) → Embedding m s n t (p ++ q) → Among m candidate (p ++ q) → beyond ask (p ++ q) ≡ true → ⊥) → findBehind asked n d p ≡ none
-  unfolding findBehind behind
-  nothing-behind d p h =
-      none-find asked (behind p (lists d n)) (λ f k.
+  -- Nothing is found among the extensions of a list that no map asked for begins with.
+  pub no-extension : (d : ℕ) (p : List ℕ) → ((q : List ℕ) → Embedding m s n t (p ++ q) → Among m candidate (p ++ q) → beyond ask (p ++ q) ≡ true → ⊥) → findExtension asked n d p ≡ none
+  unfolding findExtension extensions
+  no-extension d p h =
+      none-find asked (extensions p (lists d n)) (λ f k.
       let r = Memᴰ·of-map {A = List ℕ} {B = List ℕ} (λ q. p ++ q) (lists d n) k in
       untrue (asked f) (λ w.
       let v = wanted-parts (p ++ r .0) (subst (λ (l : List ℕ). asked l ≡ true) (sym (r .2)) w) in
       h (r .0) (v .0) (v .1) (v .2)))
 
   -- A whole list with its images among the candidates.
-  pub whole-behind : (p : List ℕ) → Among m candidate p → findBehind asked n 0 p ≡ cond (isEmbedding m s n t p && beyond ask p) (some p) none
+  pub whole-extension : (p : List ℕ) → Among m candidate p → findExtension asked n 0 p ≡ cond (isEmbedding m s n t p && beyond ask p) (some p) none
   unfolding isWanted
-  whole-behind p among =
+  whole-extension p among =
       find-whole asked n p
       ∙ ap {B = Option (List ℕ)} (λ (b : Bool). cond (isEmbedding m s n t p && (b && beyond ask p)) (some p) none) (each-of m (λ i. candidate i (at p i)) among)
 
@@ -156,8 +157,8 @@ module _ (m : ℕ) (s : Product) (n : ℕ) (t : Product) (candidate : ℕ → �
         let o : ⊥ = omega arith in o)))
         (both passing late-enough (beginning-passes m s n t closed (p ++ x ∷ []) q F) (late ask (p ++ x ∷ []) q b)))
 
-    not-admitted : (d : ℕ) (p : List ℕ) (x : ℕ) → admits s t candidate ask p x ≡ false → findBehind asked n d (p ++ x ∷ []) ≡ none
-    not-admitted d p x e = nothing-behind d (p ++ x ∷ []) (λ q F among b. clash {b = admits s t candidate ask p x} (admitted p x q F among b) e)
+    not-admitted : (d : ℕ) (p : List ℕ) (x : ℕ) → admits s t candidate ask p x ≡ false → findExtension asked n d (p ++ x ∷ []) ≡ none
+    not-admitted d p x e = no-extension d (p ++ x ∷ []) (λ q F among b. clash {b = admits s t candidate ask p x} (admitted p x q F among b) e)
 
     -- What is placed so far.
     record Good (p : List ℕ) : Type 0 where
@@ -182,29 +183,29 @@ module _ (m : ℕ) (s : Product) (n : ℕ) (t : Product) (candidate : ℕ → �
         mark i hi mine (inl e) = ap₂ candidate e (at-seam p x [] i e) ∙ mine
         mark i hi mine (inr l) = ap (candidate i) (at-front p (x ∷ []) i (omega arith)) ∙ G .among i (omega arith)
 
-    -- From a list placed so far the search finds the earliest map behind it.
-    searches : (d : ℕ) (p : List ℕ) → length p + d ≡ m → Good p → search s t candidate ask n d p ≡ findBehind asked n d p
+    -- From a list placed so far the search finds the earliest map that extends it.
+    searches : (d : ℕ) (p : List ℕ) → length p + d ≡ m → Good p → search s t candidate ask n d p ≡ findExtension asked n d p
     unfolding search
     searches zero p e G =
-        sym (whole-behind p (λ i hi. G .among i (omega arith))
+        sym (whole-extension p (λ i hi. G .among i (omega arith))
         ∙ ap {B = Option (List ℕ)} (λ (c : Bool). cond (c && beyond ask p) (some p) none) (embedding-is m s n t p (whole-embeds m s n t closed p (omega arith) (G .placed) (G .passed))))
     searches (suc d) p e G =
-        firstOf-same (λ x. cond (admits s t candidate ask p x) (search s t candidate ask n d (p ++ x ∷ [])) none) (λ x. findBehind asked n d (p ++ x ∷ [])) (elements n)
+        firstOf-same (λ x. cond (admits s t candidate ask p x) (search s t candidate ask n d (p ++ x ∷ [])) none) (λ x. findExtension asked n d (p ++ x ∷ [])) (elements n)
         (λ x k. one x (admits s t candidate ask p x) refl (λ a. searches d (p ++ x ∷ []) (omega (arith, length-snoc p x)) (good-more p x G (mem-elements n x k) a)))
         ∙ sym (find-entry asked n d p)
       where
-        one : (x : ℕ) (c : Bool) → admits s t candidate ask p x ≡ c → (admits s t candidate ask p x ≡ true → search s t candidate ask n d (p ++ x ∷ []) ≡ findBehind asked n d (p ++ x ∷ [])) → cond c (search s t candidate ask n d (p ++ x ∷ [])) none ≡ findBehind asked n d (p ++ x ∷ [])
+        one : (x : ℕ) (c : Bool) → admits s t candidate ask p x ≡ c → (admits s t candidate ask p x ≡ true → search s t candidate ask n d (p ++ x ∷ []) ≡ findExtension asked n d (p ++ x ∷ [])) → cond c (search s t candidate ask n d (p ++ x ∷ [])) none ≡ findExtension asked n d (p ++ x ∷ [])
         one x true a below = below a
         one x false a below = sym (not-admitted d p x a)
 
-    pub search-behind : search s t candidate ask n m [] ≡ findBehind asked n m []
-    search-behind =
+    pub search-extension : search s t candidate ask n m [] ≡ findExtension asked n m []
+    search-extension =
         searches m [] (let z : 0 + m ≡ m = omega arith in z)
         (record { placed = placed-none n; passed = unfold passes all elements range in refl; among = λ i hi. absurd (let z : ⊥ = omega arith in z) })
 
     -- Whatever the candidates, what it finds is a map.
     pub search-map : (f : List ℕ) → search s t candidate ask n m [] ≡ some f → Embedding m s n t f
-    search-map f e = wanted-parts f (find-some asked (lists m n) f (find-all asked n m ∙ sym search-behind ∙ e) .1) .0
+    search-map f e = wanted-parts f (find-some asked (lists m n) f (find-all asked n m ∙ sym search-extension ∙ e) .1) .0
 
 -- ---- sound candidates
 
@@ -226,6 +227,6 @@ module _ (m : ℕ) (s : Product) (n : ℕ) (t : Product) (closed : Closed m s) w
     pub search-earliest : search s t candidate ask n m [] ≡ earliest ask (maps embeddings m s n t)
     unfolding earliest maps
     search-earliest =
-        search-behind m s n t candidate ask closed ∙ sym (find-all (isWanted m s n t candidate ask) n m)
+        search-extension m s n t candidate ask closed ∙ sym (find-all (isWanted m s n t candidate ask) n m)
         ∙ find-same (isWanted m s n t candidate ask) (λ f. isEmbedding m s n t f && beyond ask f) (lists m n) (λ f k. all-among f)
         ∙ sym (find-keep (isEmbedding m s n t) (beyond ask) (lists m n))

@@ -171,7 +171,7 @@ module _ (n : ℕ) (cells l : List ℕ) (cellsLength elementsLength : ℕ) where
   inside-chosen : (1 ≤ length l) × Inside n l → chosen ≡ true
   inside-chosen h = both (leb 1 (length l)) (all (isElement n) l) (le-leb 1 (length l) (h .0)) (all-of (isElement n) l (λ x m. element-is n x (h .1 x m)))
 
-  -- What is asked behind the table, and behind 60.
+  -- What is asked after the table, and after 60.
   abbrev rooms : List Question
   rooms = ask 61 (leb (order * order) cellsLength) ∷ ask 62 (leb order elementsLength) ∷ []
 

@@ -15,9 +15,10 @@ use lib.ListN.{length}
 use Rattle.semigroups.specs.Lists.{range, elements, at, all, find, firstOf, sum, count, least, member, earlier, lists}
 use Rattle.semigroups.specs.Tables.{Product, Element, product, grid}
 use Rattle.semigroups.specs.Invariants.{power, periodFrom, index, period, idempotentPower, indexPeriod, sameIndexPeriod}
-use Rattle.semigroups.specs.Maps.{Ask, after, sought}
+use Rattle.semigroups.specs.Maps.{Ask, first, after, sought}
 use Rattle.semigroups.specs.Candidates.{candidate}
-use Rattle.semigroups.specs.Trials.{notBefore, fits, passes, Work, work, followed, andThen, inTurn, tried, workAt, counted, stopped, ended, limited, foundWithin}
+use Rattle.semigroups.specs.Trials.{fits, passes, Work, work, followed, inTurn, trialWork, searchWork, stopped, ended, limited, foundWithin}
+use Rattle.semigroups.specs.InnerTrials.{notBefore, andThen, tried, workAt, counted}
 use Rattle.semigroups.specs.InnerSearch.{admits, search}
 use Rattle.semigroups.specs.Transformations.{transformations, transformationOrder, transformation, numberOf, transformationProduct, transformationCells}
 use Rattle.semigroups.specs.Cases.{two}
@@ -66,11 +67,11 @@ module _ (g : ℕ → Work) (n : ℕ) where
 -- ---- the counted search
 
 module _ (s t : Product) (candidate : ℕ → ℕ → Bool) (ask : Ask) where
-  work-finds : (p : List ℕ) (x : ℕ) (behind : Work) → workAt s t candidate ask p x behind .found ≡ cond (admits s t candidate ask p x) (behind .found) none
+  work-finds : (p : List ℕ) (x : ℕ) (following : Work) → workAt s t candidate ask p x following .found ≡ cond (admits s t candidate ask p x) (following .found) none
   unfolding workAt tried admits
-  work-finds p x behind = go (candidate (suc (length p)) x) (not (member x p)) (passes s t (p ++ x ∷ [])) (notBefore ask (p ++ x ∷ []))
+  work-finds p x following = go (candidate (suc (length p)) x) (not (member x p)) (passes s t (p ++ x ∷ [])) (notBefore ask (p ++ x ∷ []))
     where
-      go : (a b c d : Bool) → cond (a && (b && d)) (andThen (work none 1) (cond c behind (work none 0))) (work none 0) .found ≡ cond (a && (b && (c && d))) (behind .found) none
+      go : (a b c d : Bool) → cond (a && (b && d)) (andThen (work none 1) (cond c following (work none 0))) (work none 0) .found ≡ cond (a && (b && (c && d))) (following .found) none
       go true true true true = refl
       go true true true false = refl
       go true true false true = refl
@@ -87,6 +88,25 @@ module _ (s t : Product) (candidate : ℕ → ℕ → Bool) (ask : Ask) where
       (λ x. work-finds p x (counted s t candidate ask n d (p ++ x ∷ [])) ∙ ap {B = Option (List ℕ)} (λ (o : Option (List ℕ)). cond (admits s t candidate ask p x) o none) (counted-finds n d (p ++ x ∷ [])))
       (elements n)
 
+-- For the first map it is the search of Trials, in which no list is too early.
+module _ (s t : Product) (candidate : ℕ → ℕ → Bool) where
+  trial-first : (p : List ℕ) (x : ℕ) (later : Work) → trialWork s t candidate p x later ≡ workAt s t candidate first p x later
+  unfolding trialWork workAt tried
+  trial-first p x later = go (candidate (suc (length p)) x) (not (member x p))
+    where
+      go : (a b : Bool) → cond (a && b) (followed none 1 (cond (passes s t (p ++ x ∷ [])) later (work none 0))) (work none 0)
+          ≡ cond (a && (b && true)) (followed none 1 (cond (passes s t (p ++ x ∷ [])) later (work none 0))) (work none 0)
+      go true true = refl
+      go true false = refl
+      go false b = refl
+
+  pub search-first : (n d : ℕ) (p : List ℕ) → searchWork s t candidate n d p ≡ counted s t candidate first n d p
+  unfolding searchWork counted
+  search-first n zero p = refl
+  search-first n (suc d) p =
+      turns-same (λ x. trialWork s t candidate p x (searchWork s t candidate n d (p ++ x ∷ []))) (λ x. workAt s t candidate first p x (counted s t candidate first n d (p ++ x ∷ []))) (elements n)
+      (λ x m. trial-first p x (searchWork s t candidate n d (p ++ x ∷ [])) ∙ ap (workAt s t candidate first p x) (search-first n d (p ++ x ∷ [])))
+
 -- Candidates that agree on the elements of both tables make one search.
 pub counted-same : (s t : Product) (m n : ℕ) (c k : ℕ → ℕ → Bool) → ((i x : ℕ) → Element m i → Element n x → c i x ≡ k i x) → (ask : Ask) (d : ℕ) (p : List ℕ) → length p + d ≡ m
     → counted s t c ask n d p ≡ counted s t k ask n d p
@@ -97,10 +117,10 @@ counted-same s t m n c k same ask (suc d) p e =
     at-entry x (counted s t c ask n d (p ++ x ∷ [])) (same (suc (length p)) x (omega arith) (mem-elements n x h))
     ∙ ap (workAt s t k ask p x) (counted-same s t m n c k same ask d (p ++ x ∷ []) (omega (arith, length-snoc p x))))
   where
-    at-entry : (x : ℕ) (behind : Work) → c (suc (length p)) x ≡ k (suc (length p)) x → workAt s t c ask p x behind ≡ workAt s t k ask p x behind
-    at-entry x behind q =
+    at-entry : (x : ℕ) (following : Work) → c (suc (length p)) x ≡ k (suc (length p)) x → workAt s t c ask p x following ≡ workAt s t k ask p x following
+    at-entry x following q =
         unfold workAt tried in
-        ap {B = Work} (λ (b : Bool). cond (b && (not (member x p) && notBefore ask (p ++ x ∷ []))) (andThen (work none 1) (cond (passes s t (p ++ x ∷ [])) behind (work none 0))) (work none 0)) q
+        ap {B = Work} (λ (b : Bool). cond (b && (not (member x p) && notBefore ask (p ++ x ∷ []))) (andThen (work none 1) (cond (passes s t (p ++ x ∷ [])) following (work none 0))) (work none 0)) q
 
 -- Products that agree on the elements of the target make one search.
 module _ (s t t′ : Product) (n : ℕ) (agree : (i j : ℕ) → Element n i → Element n j → t i j ≡ t′ i j) where
@@ -128,10 +148,10 @@ module _ (s t t′ : Product) (n : ℕ) (agree : (i j : ℕ) → Element n i →
       let longer : Inside (p ++ x ∷ []) = (λ y m. ⊎-elim (h y) (λ z. subst (Element n) (sym (List·Memᴰ·eq-of-singleton z)) (mem-elements n x k)) (List·Memᴰ·append-cases p m)) in
       at-entry x (counted s t c ask n d (p ++ x ∷ [])) (passes-agrees (p ++ x ∷ []) longer) ∙ ap (workAt s t′ c ask p x) (counted-agrees c ask d (p ++ x ∷ []) longer))
     where
-      at-entry : (x : ℕ) (behind : Work) → passes s t (p ++ x ∷ []) ≡ passes s t′ (p ++ x ∷ []) → workAt s t c ask p x behind ≡ workAt s t′ c ask p x behind
-      at-entry x behind q =
+      at-entry : (x : ℕ) (following : Work) → passes s t (p ++ x ∷ []) ≡ passes s t′ (p ++ x ∷ []) → workAt s t c ask p x following ≡ workAt s t′ c ask p x following
+      at-entry x following q =
           unfold workAt tried in
-          ap {B = Work} (λ (b : Bool). cond (c (suc (length p)) x && (not (member x p) && notBefore ask (p ++ x ∷ []))) (andThen (work none 1) (cond b behind (work none 0))) (work none 0)) q
+          ap {B = Work} (λ (b : Bool). cond (c (suc (length p)) x && (not (member x p) && notBefore ask (p ++ x ∷ []))) (andThen (work none 1) (cond b following (work none 0))) (work none 0)) q
 
 -- ---- a limit
 
@@ -147,9 +167,9 @@ module _ (w : Work) (limit : ℕ) where
 -- ---- examples
 
 trials-examples : TrialsExamples
-unfolding limited counted workAt inTurn tried candidate passes fits product two grid range elements at all find sum count least member earlier lists power periodFrom index period idempotentPower indexPeriod sameIndexPeriod after transformations transformationOrder transformation numberOf transformationProduct transformationCells flatMap
-trials-examples = (refl, refl, refl, refl, refl, refl)
+unfolding limited searchWork trialWork inTurn candidate passes fits product two grid range elements at all find sum count least member earlier lists power periodFrom index period idempotentPower indexPeriod sameIndexPeriod after transformations transformationOrder transformation numberOf transformationProduct transformationCells flatMap
+trials-examples = (refl, refl, refl, refl, refl)
 
 outside-example : OutsideExample
-unfolding counted workAt inTurn tried candidate passes fits product range elements at all find least member power periodFrom index period idempotentPower indexPeriod sameIndexPeriod
+unfolding searchWork trialWork inTurn candidate passes fits product range elements at all find least member power periodFrom index period idempotentPower indexPeriod sameIndexPeriod
 outside-example = refl

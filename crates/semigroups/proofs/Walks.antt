@@ -3,7 +3,7 @@
 use mathlib.Core.Path.{_≡_, refl, sym, ap, _∙_}
 use mathlib.Core.Bool.{Bool, true, false, cond}
 use mathlib.Core.Logic.{_⊎_, inl, inr, ⊎-elim}
-use mathlib.Core.Option.{Option, none, some}
+use mathlib.Core.Option.{Option, none, some, Option·getD}
 use mathlib.Core.List.{List, [], _∷_, List·Memᴰ, List·Memᴰ·head, List·Memᴰ·tail, List·Memᴰ·cases-cons}
 use Prim.Native.Nat.{ℕ, zero, suc, _-_, _≤_, _<_, min}
 use native.Mathlib.Omega.{arith}
@@ -16,7 +16,7 @@ use Rattle.semigroups.specs.Tables.{Product, Element}
 use Rattle.semigroups.specs.TablesLaws.{IsList}
 use Rattle.semigroups.specs.Maps.{Kind, maps, next, earliest, found, nothing, sought}
 use Rattle.semigroups.specs.Questions.{Refusal}
-use Rattle.semigroups.specs.Calls.{gives, mapUnless}
+use Rattle.semigroups.specs.Calls.{gives}
 use Rattle.semigroups.specs.WalksLaws.{Outcome, held, nextOutcome, counted, claimed, walk, claim, answered, finally}
 use Rattle.semigroups.proofs.Booleans.{trichotomy}
 use Rattle.semigroups.proofs.Lists.{none-find}
@@ -95,7 +95,7 @@ module _ (z : List ℕ) (l : List (List ℕ)) (s : Increasing (z ∷ l)) where
   step k none = go (leb (suc k) (length l)) refl
     where
       left : Option (List ℕ) → List ℕ → Outcome
-      left f b = record { says = gives (sought f); buffer = mapUnless none f b }
+      left f b = record { says = gives (sought f); buffer = Option·getD f b }
 
       go : (b : Bool) → leb (suc k) (length l) ≡ b → nextOutcome none l (held z l k) ≡ record { says = gives (cond b found nothing); buffer = held z l (suc k) }
       go true e =

@@ -24,9 +24,3 @@ overwritten written before = written ++ drop (length written) before
 abbrev pub writtenUnless : Option Refusal → List ℕ → List ℕ → List ℕ
 writtenUnless none written before = overwritten written before
 writtenUnless (some r) written before = before
-
--- A map buffer after a search: it holds the map that is found; if there is none or the call is refused, no byte changes.
-abbrev pub mapUnless : Option Refusal → Option (List ℕ) → List ℕ → List ℕ
-mapUnless none (some f) before = f
-mapUnless none none before = before
-mapUnless (some r) answer before = before

@@ -1,7 +1,7 @@
 -- The backtrack search of arXiv 1603.06204, section 3, as a function: elements are placed from 1 upward, images are tried in rising order, and each placing
 -- is tested before the next. It takes any candidates. What it finds is a theorem about it and no part of what first and next mean. The paper prints φ(i)φ(k)
 -- for the undefined product, and means φ(i)φ(j). Assumes nothing.
-use mathlib.Core.Bool.{Bool, _&&_, not, cond}
+use mathlib.Core.Bool.{Bool, true, false, _&&_, not, cond}
 use mathlib.Core.List.{List, [], _∷_, _++_, map, List·Memᴰ}
 use mathlib.Core.Option.{Option, none, some}
 use Prim.Native.Nat.{ℕ, zero, suc}
@@ -9,8 +9,9 @@ use lib.ListN.{length}
 use Rattle.semigroups.specs.Lists.{elements, at, all, find, firstOf, member, lists}
 use Rattle.semigroups.specs.ListsLaws.{NoRepeats}
 use Rattle.semigroups.specs.Tables.{Product, Element}
-use Rattle.semigroups.specs.Maps.{isEmbedding, Ask, beyond}
-use Rattle.semigroups.specs.Trials.{notBefore, passes}
+use Rattle.semigroups.specs.Maps.{isEmbedding, Kind, embeddings, isomorphisms, Ask, beyond}
+use Rattle.semigroups.specs.Trials.{passes}
+use Rattle.semigroups.specs.InnerTrials.{notBefore}
 
 module _ (s t : Product) where
   module _ (candidate : ℕ → ℕ → Bool) (ask : Ask) where
@@ -38,8 +39,13 @@ module _ (m : ℕ) (s : Product) (n : ℕ) (t : Product) (candidate : ℕ → �
       isEmbedding m s n t f && among
 
   -- The earliest map asked for that begins with the list placed, where d elements are left to place. A search finds it with any test that loses no map.
-  unfoldable pub earliestBehind : ℕ → List ℕ → Option (List ℕ)
-  earliestBehind d p = find isWanted (map (λ q. p ++ q) (lists d n))
+  unfoldable pub earliestExtension : ℕ → List ℕ → Option (List ℕ)
+  earliestExtension d p = find isWanted (map (λ q. p ++ q) (lists d n))
+
+-- The kinds for which the target is searched as it is: embeddings, or with true isomorphisms.
+abbrev pub plainKind : Bool → Kind
+plainKind false = embeddings
+plainKind true = isomorphisms
 
 -- What holds of the list placed so far: its entries are elements of the target, and no two are equal.
 pub record Placed (n : ℕ) (p : List ℕ) : Type 0 where

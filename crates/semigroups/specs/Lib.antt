@@ -31,6 +31,8 @@ pub mod Requests
 pub mod InnerCalls
 pub mod CallsExamples
 pub mod CopiesExamples
+pub mod InnerScratch
+pub mod InnerTrials
 pub mod InnerSearch
 pub mod InvariantsExamples
 pub mod IsomorphismsLaws

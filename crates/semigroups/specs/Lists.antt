@@ -55,6 +55,11 @@ unfoldable pub firstOf : {A B : Type 0} → (A → Option B) → List A → Opti
 firstOf g [] = none
 firstOf g (x ∷ l) = let r = firstOf g l in orElse (g x) r
 
+-- Whether there is a value.
+abbrev pub isSome : {A : Type 0} → Option A → Bool
+isSome none = false
+isSome (some x) = true
+
 -- The first of 1 to n that passes, or n + 1 if none does.
 unfoldable pub least : ℕ → (ℕ → Bool) → ℕ
 least n p = Option·getD (find p (elements n)) (n + 1)

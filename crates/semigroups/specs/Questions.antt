@@ -8,35 +8,35 @@ use Prim.Native.Nat.{ℕ, _*_}
 use lib.Dec.{eqb, leb}
 use lib.ListN.{length}
 use Rattle.semigroups.specs.Lists.{firstOf}
-use Rattle.semigroups.specs.Tables.{product, isElement, badCell, badTriple}
+use Rattle.semigroups.specs.Tables.{largestOrder, product, isElement, badCell, badTriple}
 use Rattle.semigroups.specs.Scratch.{scratchSize}
 
 -- ---- a question
 
--- A question: its number; the side that it names (1 for source, 2 for target), if it names one; and how it fails: none if the answer is "yes", else the
--- values that the "no" carries.
+-- A question: its number; the side that it names, 1 for the source, 2 for the target, or 0 for none; and how it fails: none if the answer is "yes", else
+-- the values that the "no" carries.
 pub record Question : Type 0 where
   pub number : ℕ
-  pub side : Option ℕ
+  pub side : ℕ
   pub fails : Option (List ℕ)
 
 -- A question that carries nothing, and one that carries the values found.
 abbrev pub ask : ℕ → Bool → Question
-ask number passes = record { number = number; side = none; fails = cond passes none (some []) }
+ask number passes = record { number = number; side = 0; fails = cond passes none (some []) }
 
 abbrev pub seek : ℕ → Option (List ℕ) → Question
-seek number found = record { number = number; side = none; fails = found }
+seek number found = record { number = number; side = 0; fails = found }
 
 -- A question about one of two tables names its side.
 abbrev pub onSide : ℕ → Question → Question
-onSide side q = record { number = q .number; side = some side; fails = q .fails }
+onSide side q = record { number = q .number; side = side; fails = q .fails }
 
 -- ---- a refusal
 
--- A refusal: the number of the question that fails, the side that it names if it names one, and the values said with it.
+-- A refusal: the number of the question that fails, the side that it names or 0, and the values said with it.
 pub record Refusal : Type 0 where
   pub number : ℕ
-  pub side : Option ℕ
+  pub side : ℕ
   pub values : List ℕ
 
 -- The refusal by a question, if it fails.
@@ -59,7 +59,7 @@ tripleQuestion n cells = seek 4 (badTriple n (product n cells))
 
 -- The questions about cells and an order: 1, is the order 1 to 120? 2, are there n × n cells? Then 3. Saving a text asks only these.
 abbrev pub cellsQuestions : ℕ → List ℕ → List Question
-cellsQuestions n cells = ask 1 (isElement 120 n) ∷ ask 2 (eqb (length cells) (n * n)) ∷ cellQuestion n cells ∷ []
+cellsQuestions n cells = ask 1 (isElement largestOrder n) ∷ ask 2 (eqb (length cells) (n * n)) ∷ cellQuestion n cells ∷ []
 
 -- The questions about a table: 1 to 3, then 4.
 abbrev pub tableQuestions : ℕ → List ℕ → List Question
@@ -98,10 +98,3 @@ searchQuestions m source n target mapLength scratchLength = checkQuestions m sou
 -- The refusal of a search, if a question fails.
 unfoldable pub searchRefusal : ℕ → List ℕ → ℕ → List ℕ → ℕ → ℕ → Option Refusal
 searchRefusal m source n target mapLength scratchLength = firstNo (searchQuestions m source n target mapLength scratchLength)
-
--- ---- refusals as numbers
-
--- The side as a number; 0 stands for no side.
-abbrev pub sideOf : Option ℕ → ℕ
-sideOf none = 0
-sideOf (some side) = side

@@ -6,7 +6,7 @@ use Prim.Native.Nat.{ℕ, _*_, _≤_, _<_}
 use lib.ListN.{length, getD}
 use Rattle.semigroups.specs.Lists.{at}
 use Rattle.semigroups.specs.ListsLaws.{Earliest}
-use Rattle.semigroups.specs.Tables.{product, Element}
+use Rattle.semigroups.specs.Tables.{largestOrder, product, Element}
 use Rattle.semigroups.specs.TablesLaws.{FailingTriple}
 use Rattle.semigroups.specs.Questions.{Refusal, Question, firstNo, cellsQuestions, tablesQuestions}
 
@@ -14,11 +14,11 @@ use Rattle.semigroups.specs.Questions.{Refusal, Question, firstNo, cells
 
 -- The refusal with this number and these values that names no side.
 abbrev pub no : ℕ → List ℕ → Refusal
-no number values = record { number = number; side = none; values = values }
+no number values = record { number = number; side = 0; values = values }
 
 -- The refusal of one of two tables names its side.
 abbrev pub naming : ℕ → Refusal → Refusal
-naming side r = record { number = r .number; side = some side; values = r .values }
+naming side r = record { number = r .number; side = side; values = r .values }
 
 -- Every question of a list passes.
 abbrev pub Passed : List Question → Type 0
@@ -29,8 +29,8 @@ Passed (q ∷ qs) = (q .fails ≡ none) × Passed qs
 pub record EarliestNo (qs : List Question) (r : Refusal) : Type 0 where
   pub before : List Question
   pub question : Question
-  pub behind : List Question
-  pub place : qs ≡ before ++ question ∷ behind
+  pub following : List Question
+  pub place : qs ≡ before ++ question ∷ following
   pub passed : Passed before
   pub fails : question .fails ≡ some (r .values)
   pub number : question .number ≡ r .number
@@ -47,11 +47,11 @@ cellsRefusal n cells = firstNo (cellsQuestions n cells)
 
 -- What the refusal of a table means: the earliest question whose answer is "no", with the earliest cell or triple.
 pub data Refused (n : ℕ) (cells : List ℕ) : Refusal → Type 0 where
-  wrong-order : (Element 120 n → ⊥) → Refused n cells (no 1 [])
-  wrong-size : Element 120 n → (length cells ≡ n * n → ⊥) → Refused n cells (no 2 [])
-  wrong-cell : (k : ℕ) → Element 120 n → length cells ≡ n * n → Element (length cells) k → (Element n (at cells k) → ⊥) → ((j : ℕ) → 1 ≤ j → j < k → Element n (at cells j))
+  wrong-order : (Element largestOrder n → ⊥) → Refused n cells (no 1 [])
+  wrong-size : Element largestOrder n → (length cells ≡ n * n → ⊥) → Refused n cells (no 2 [])
+  wrong-cell : (k : ℕ) → Element largestOrder n → length cells ≡ n * n → Element (length cells) k → (Element n (at cells k) → ⊥) → ((j : ℕ) → 1 ≤ j → j < k → Element n (at cells j))
       → Refused n cells (no 3 (k ∷ []))
-  wrong-triple : (l : List ℕ) → Element 120 n → length cells ≡ n * n → ((k : ℕ) → k < length cells → Element n (getD cells k 0)) → Earliest (FailingTriple n (product n cells)) l
+  wrong-triple : (l : List ℕ) → Element largestOrder n → length cells ≡ n * n → ((k : ℕ) → k < length cells → Element n (getD cells k 0)) → Earliest (FailingTriple n (product n cells)) l
       → Refused n cells (no 4 l)
 
 -- ---- about an element, a map check, a search

@@ -24,21 +24,22 @@ use Rattle.semigroups.specs.CopiesLaws.{CopiesTheorem}
 pub record TableRequests : Type 1 where
   -- RULES 4.3: "The one power e of the element with e·e = e", whatever the exponents of the others.
   pub one-idempotent : (n : ℕ) (cells : List ℕ) (a : ℕ) → Accepted n cells → Element n a → TheIdempotentPower (product n cells) a (idempotentPower n (product n cells) a)
-  -- RULES 15: "The elements reached are the smallest set that holds the list and every product of the set's own members."
+  -- RULES 15.1: the elements that a list generates are "the smallest set that holds the list and every product of the set's own members".
   pub generated : GeneratedTheorem
-  -- "Associative or not must be what the full check says"; what passes, and what each refusal says.
+  -- RULES 15.2: associative or not is what the full check says; what passes, and what each refusal says.
   pub light : LightsLaw
   pub shorter-check : LightsTheorem
   pub generators-pass : (n : ℕ) (cells l : List ℕ) → (generatorsRefusal n cells l ≡ none) ↔ GeneratorsPass n cells l
   pub generators-refused : (n : ℕ) (cells l : List ℕ) (r : Refusal) → (generatorsRefusal n cells l ≡ some r) ↔ GeneratorsRefused n cells l r
-  -- RULES 10: Reversed isomorphisms: their full lists, their composites, their profiles.
+  -- RULES 10: reversed isomorphisms: their full lists, their composites, their profiles.
   pub reversed-maps : ReversedTheorem
-  -- RULES 4.5: "Isomorphism candidates, plain and reversed, now need this count equal as well"; "embedding candidates don't" change: index and period alone.
+  -- RULES 8.1: candidates for isomorphisms, plain and reversed, commute with equally many elements; those for embeddings have index and period equal, and
+  -- no more is asked.
   pub commuting-equal : (m : ℕ) (s : Product) (n : ℕ) (t : Product) (i j : ℕ) → candidate isomorphisms m s n t i j ≡ true → commuting m s i ≡ commuting n t j
   pub commuting-equal-reversed : (m : ℕ) (s : Product) (n : ℕ) (t : Product) (i j : ℕ) → candidate reversed m s n t i j ≡ true → commuting m s i ≡ commuting n t j
   pub embedding-candidates : (m : ℕ) (s : Product) (n : ℕ) (t : Product) (i j : ℕ)
       → candidate embeddings m s n t i j ≡ (eqb (index m s i) (index n t j) && eqb (period m s i) (period n t j))
-  -- RULES 16: "The smallest part", its elements in rising order, its table accepted, the list an embedding; and nothing else is given.
+  -- RULES 16: the smallest part, its elements in rising order, its table accepted, the list an embedding; and nothing else is given.
   pub part : SubsemigroupTheorem
-  -- RULES 18: The number of copies.
+  -- RULES 18: the number of copies.
   pub copies-counted : CopiesTheorem

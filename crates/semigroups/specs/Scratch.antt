@@ -25,13 +25,9 @@ bit byte r = byte / 2 ^ r % 2
 unfoldable pub scratchSize : ℕ → ℕ → ℕ
 scratchSize m n = (m * n + 7) / 8
 
--- A number for each pair, row after row: 1 where target element j is a candidate for source element i, else 0.
-unfoldable pub pairMarks : ℕ → ℕ → (ℕ → ℕ → Bool) → List ℕ
-pairMarks m n candidate = grid m n (λ i j. cond (candidate i j) 1 0)
-
--- The marks: the numbers of `pairMarks`, eight to a byte.
+-- The marks: for each pair, row after row, 1 if target element j is a candidate for source element i, else 0; eight to a byte.
 unfoldable pub marks : ℕ → ℕ → (ℕ → ℕ → Bool) → List ℕ
-marks m n candidate = map (packedByte (pairMarks m n candidate)) (range 0 (scratchSize m n))
+marks m n candidate = map (packedByte (grid m n (λ i j. cond (candidate i j) 1 0))) (range 0 (scratchSize m n))
 
 -- Whether the scratch bytes mark target element j, of n, as a candidate for source element i: pair number k stands in byte k / 8, at the bit worth 2
 -- to the power k modulo 8.

@@ -10,6 +10,10 @@ use lib.Dec.{eqb, leb}
 use lib.ListN.{length, getD}
 use Rattle.semigroups.specs.Lists.{range, elements, at, find, lists}
 
+-- The largest order of a table (RULES 3.1).
+abbrev pub largestOrder : ℕ
+largestOrder = 120
+
 -- A product of elements; i times j is `s i j`. Outside its order a product may be anything: no statement depends on it.
 abbrev pub Product : Type 0
 Product = ℕ → ℕ → ℕ
@@ -38,13 +42,13 @@ Element n i = (1 ≤ i) × (i ≤ n)
 abbrev pub Associative : ℕ → Product → Type 0
 Associative n s = (i j k : ℕ) → Element n i → Element n j → Element n k → s (s i j) k ≡ s i (s j k)
 
--- Cells that fill a table of order n: they pass the questions before associativity.
+-- Cells that fill a table of order n, which is 1 to 120: they pass the questions before associativity.
 pub record Filled (n : ℕ) (cells : List ℕ) : Type 0 where
-  pub order : Element 120 n
+  pub order : Element largestOrder n
   pub size : length cells ≡ n * n
   pub in-range : (k : ℕ) → k < length cells → Element n (getD cells k 0)
 
--- A table is accepted: its cells fill it, its order is 1 to 120, and it is associative (RULES 3.4).
+-- A table is accepted: its cells fill it, and it is associative (RULES 3.4).
 pub record Accepted (n : ℕ) (cells : List ℕ) : Type 0 where
   pub filled : Filled n cells
   pub associative : Associative n (product n cells)

@@ -3,12 +3,12 @@
 -- Assumes nothing.
 use mathlib.Core.Bool.{cond}
 use mathlib.Core.List.{List, [], _∷_}
-use mathlib.Core.Option.{Option, none, some}
+use mathlib.Core.Option.{Option, none, some, Option·getD}
 use Prim.Native.Nat.{ℕ, suc, min}
 use lib.Dec.{leb}
 use lib.ListN.{length, getD}
 use Rattle.semigroups.specs.Questions.{Refusal}
-use Rattle.semigroups.specs.Calls.{Answer, givenUnless, mapUnless}
+use Rattle.semigroups.specs.Calls.{Answer, refused, gives, givenUnless}
 use Rattle.semigroups.specs.Maps.{next, earliest, Sought, found, nothing, sought}
 
 -- What a call says, and the map buffer as it leaves it.
@@ -23,7 +23,8 @@ held z l k = getD (z ∷ l) (min k (length l)) z
 
 -- What a "next" call says and leaves in the buffer b, from its refusal, if there is one, and the full list of the tables that it lends.
 abbrev pub nextOutcome : Option Refusal → List (List ℕ) → List ℕ → Outcome
-nextOutcome o l b = let f = earliest (next b) l in record { says = givenUnless o (sought f); buffer = mapUnless o f b }
+nextOutcome none l b = let f = earliest (next b) l in record { says = gives (sought f); buffer = Option·getD f b }
+nextOutcome (some r) l b = record { says = refused r; buffer = b }
 
 -- How many calls were not refused, counted on from k, after one more call.
 abbrev pub counted : ℕ → Option Refusal → ℕ

@@ -31,7 +31,7 @@ quoted-inside n b h = simp (inside-quote b h, h)
 
 -- ---- a field
 
--- The states behind a field.
+-- The states after a field.
 pub data Ended (n : Column) : State → Type 0 where
   ended-opening : Ended n (opening n)
   ended-bare : Ended n (bare n)
@@ -62,7 +62,7 @@ ended-field n (non-escaped []) h = ended-opening
 ended-field n (non-escaped (b ∷ s)) h = subst (Ended n) (sym (run-non-escaped n b s (h .0) (h .1))) ended-bare
 ended-field n (escaped i) h = subst (Ended n) (sym (run-escaped n i h)) ended-shut
 
--- ---- behind a field
+-- ---- after a field
 
 pub ended-comma : {q : State} → Ended number-part q → stateAfter q 44 ≡ opening name-part
 unfolding stateAfter openingStep bareStep afterField isTextData isPrintable

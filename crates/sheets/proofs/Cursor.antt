@@ -3,7 +3,7 @@
 use mathlib.Core.Path.{_≡_, refl, ap, sym, _∙_}
 use mathlib.Core.Bool.{true, false}
 use mathlib.Core.Logic.{_⊎_, inl, inr}
-use mathlib.Core.List.{List, [], _∷_, _++_, flatMap, append-assoc, append-nil}
+use mathlib.Core.List.{List, [], _∷_, _++_, flatMap, append-assoc, append-nil, map}
 use Prim.Native.Nat.{ℕ, suc, _+_, _-_, _≤_, _<_}
 use native.Mathlib.Omega.{arith}
 use native.Mathlib.Numerals.{add-one}
@@ -14,7 +14,7 @@ use borrow.Author.Tests.{eqb-true, eq-eqb, ne-eqb, leb-true}
 use Rattle.semigroups.proofs.Booleans.{and-left}
 use Rattle.csv.specs.Every.{Every}
 use Rattle.csv.proofs.Fields.{empty}
-use Rattle.sheets.specs.Grammar.{isPrintable, isTextData, Item, single, twice, Field, non-escaped, escaped, ProperItem, ProperField, itemText, fieldText, itemValue, itemsValue, fieldValue}
+use Rattle.sheets.specs.Grammar.{isPrintable, isTextData, Item, single, twice, Field, non-escaped, escaped, ProperItem, ProperField, itemText, fieldText, itemValue, fieldValue}
 use Rattle.sheets.specs.InnerCursor.{bareValue, quotedValue, quotedSize, valueAt, sizeAt}
 use Rattle.sheets.proofs.Bytes.{bare-text, bare-comma, bare-quote, inside-quote}
 
@@ -56,7 +56,7 @@ quoted-shut b c u e f = rw e (rw f refl, rw f refl)
 
 -- ---- a field of a sheet
 
--- What stands behind a field.
+-- What stands after a field.
 pub data Tail : List ℕ → Type 0 where
   tail-end : Tail []
   tail-comma : (u : List ℕ) → Tail (44 ∷ u)
@@ -70,17 +70,17 @@ bare-value [] u h (tail-cr v) = refl
 bare-value (b ∷ s) u h r = rw (bare-comma b (h .0), bare-cr b (h .0), bare-value s u (h .1) r)
 
 record Read (i : List Item) (t : List ℕ) : Type 0 where
-  pub value : quotedValue t ≡ itemsValue i
+  pub value : quotedValue t ≡ map itemValue i
   pub size : quotedSize t ≡ suc (length (flatMap itemText i))
 
 quoted-end : (u : List ℕ) → Tail u → Read [] (34 ∷ u)
-unfolding quotedValue quotedSize itemsValue flatMap
+unfolding quotedValue quotedSize flatMap
 quoted-end u tail-end = record { value = refl; size = refl }
 quoted-end u (tail-comma v) = record { value = refl; size = refl }
 quoted-end u (tail-cr v) = record { value = refl; size = refl }
 
 quoted-read : (i : List Item) (u : List ℕ) → Every ProperItem i → Tail u → Read i (flatMap itemText i ++ 34 ∷ u)
-unfolding itemsValue itemValue flatMap itemText
+unfolding itemValue flatMap itemText
 quoted-read [] u h r = quoted-end u r
 quoted-read (single b ∷ i) u h r =
     let rest = quoted-read i u (h .1) r in

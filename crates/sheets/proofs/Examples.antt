@@ -11,7 +11,7 @@ use Rattle.semigroups.specs.Tables.{isElement}
 use Rattle.semigroups.specs.QuestionsLaws.{no}
 use Rattle.semigroups.specs.Calls.{gives, refused}
 use Rattle.csv.specs.Decimals.{isDigit, valueFrom, value, numeral, numeralWithin}
-use Rattle.sheets.specs.Grammar.{isPrintable, isTextData, isQuotable, single, twice, non-escaped, escaped, itemText, fieldText, entryText, entriesText, sheetText, IsSheet, itemValue, itemsValue, fieldValue, entryRow, entriesRows, sheetRows}
+use Rattle.sheets.specs.Grammar.{isPrintable, isTextData, isQuotable, single, twice, non-escaped, escaped, itemText, fieldText, entryText, entriesText, sheetText, IsSheet, itemValue, fieldValue, entryRow, sheetRows}
 use Rattle.sheets.specs.Readings.{Offending, passes, rowsNames, Reading}
 use Rattle.sheets.specs.Names.{isName, isNumber, needsQuotes, doubled, nameText, namesTextFrom, namesText, namesAt}
 use Rattle.sheets.specs.Questions.{rowsQuestions, loadNamesRefusal, namesQuestions, saveNamesRefusal}
@@ -80,17 +80,17 @@ sheet =
 -- It loads as two names, and later bytes of both buffers stay.
 loaded : (loadNamesAnswer (passes sheet) (replicate 6 7) (replicate 3 7) ≡ gives 2)
     × (namesAfter (passes sheet) (replicate 6 7) (replicate 3 7) ≡ 97 ∷ 34 ∷ 98 ∷ 44 ∷ 92 ∷ 7 ∷ []) × (lengthsAfter (passes sheet) (replicate 6 7) (replicate 3 7) ≡ 4 ∷ 1 ∷ 7 ∷ [])
-unfolding loadNamesAnswer namesAfter lengthsAfter loadNamesRefusal rowsQuestions firstOf orElse rowsNames sheetRows entriesRows entryRow fieldValue itemsValue itemValue sheet isNumber isName isElement all isDigit isPrintable value valueFrom flatten
+unfolding loadNamesAnswer namesAfter lengthsAfter loadNamesRefusal rowsQuestions firstOf orElse rowsNames sheetRows entryRow fieldValue itemValue sheet isNumber isName isElement all isDigit isPrintable value valueFrom flatten
 loaded = (refl, refl, refl)
 
 -- A byte less for the names is 27.
 short-names : loadNamesAnswer (passes sheet) (replicate 4 7) (replicate 3 7) ≡ refused (no 27 [])
-unfolding loadNamesAnswer loadNamesRefusal rowsQuestions firstOf orElse rowsNames sheetRows entriesRows entryRow fieldValue itemsValue itemValue sheet isNumber isName isElement all isDigit isPrintable value valueFrom flatten
+unfolding loadNamesAnswer loadNamesRefusal rowsQuestions firstOf orElse rowsNames sheetRows entryRow fieldValue itemValue sheet isNumber isName isElement all isDigit isPrintable value valueFrom flatten
 short-names = refl
 
 -- Both buffers stay as they were.
 short-kept : (namesAfter (passes sheet) (replicate 4 7) (replicate 3 7) ≡ replicate 4 7) × (lengthsAfter (passes sheet) (replicate 4 7) (replicate 3 7) ≡ replicate 3 7)
-unfolding loadNamesRefusal rowsQuestions firstOf orElse rowsNames sheetRows entriesRows entryRow fieldValue itemsValue itemValue sheet isNumber isName isElement all isDigit isPrintable value valueFrom flatten
+unfolding loadNamesRefusal rowsQuestions firstOf orElse rowsNames sheetRows entryRow fieldValue itemValue sheet isNumber isName isElement all isDigit isPrintable value valueFrom flatten
 short-kept = load-keeps (34 ∷ 49 ∷ 34 ∷ 44 ∷ 34 ∷ 97 ∷ 34 ∷ 34 ∷ 98 ∷ 44 ∷ 34 ∷ 13 ∷ 10 ∷ 50 ∷ 44 ∷ 92 ∷ []) (passes sheet) (replicate 4 7) (replicate 3 7) (no 27 []) refl
 
 -- Saved again, the number has no quote marks and the last break is there.

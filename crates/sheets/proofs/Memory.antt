@@ -105,14 +105,14 @@ module _ (bytes lengths : List ℕ) where
     lengths-apart : drop k lengths ≡ n ∷ drop (k + 1) lengths
     lengths-apart = from-here lengths k h
 
-    behind-name : drop n (drop start bytes) ≡ drop (start + n) bytes
-    behind-name = drop-drop n start bytes
+    after-name : drop n (drop start bytes) ≡ drop (start + n) bytes
+    after-name = drop-drop n start bytes
 
     next-questions : firstNo (namesQuestions (suc (k + 1)) (drop n (drop start bytes)) (drop (k + 1) lengths)) ≡ firstNo (namesQuestions ((k + 1) + 1) (drop (start + n) bytes) (drop (k + 1) lengths))
     next-questions =
         let e : suc (k + 1) ≡ (k + 1) + 1 = omega arith in
         ap (λ (i : ℕ). firstNo (namesQuestions i (drop n (drop start bytes)) (drop (k + 1) lengths))) e
-        ∙ ap (λ (l : List ℕ). firstNo (namesQuestions ((k + 1) + 1) l (drop (k + 1) lengths))) behind-name
+        ∙ ap (λ (l : List ℕ). firstNo (namesQuestions ((k + 1) + 1) l (drop (k + 1) lengths))) after-name
 
     text-apart : namesTextFrom (k + 1) (namesLeft start k) ≡ numeral (k + 1) ++ ((44 ∷ []) ++ (nameText name ++ ((13 ∷ 10 ∷ []) ++ namesTextFrom ((k + 1) + 1) (namesLeft (start + n) (k + 1)))))
     unfolding namesTextFrom namesAt
@@ -120,7 +120,7 @@ module _ (bytes lengths : List ℕ) where
         let e : suc (k + 1) ≡ (k + 1) + 1 = omega arith in
         ap (λ (l : List ℕ). namesTextFrom (k + 1) (namesAt (drop start bytes) l)) lengths-apart
         ∙ ap (λ (i : ℕ). numeral (k + 1) ++ (44 ∷ nameText name ++ (13 ∷ 10 ∷ namesTextFrom i (namesAt (drop n (drop start bytes)) (drop (k + 1) lengths))))) e
-        ∙ ap (λ (l : List ℕ). numeral (k + 1) ++ (44 ∷ nameText name ++ (13 ∷ 10 ∷ namesTextFrom ((k + 1) + 1) (namesAt l (drop (k + 1) lengths))))) behind-name
+        ∙ ap (λ (l : List ℕ). numeral (k + 1) ++ (44 ∷ nameText name ++ (13 ∷ 10 ∷ namesTextFrom ((k + 1) + 1) (namesAt l (drop (k + 1) lengths))))) after-name
 
     left-length : length (drop start bytes) ≡ length bytes - start
     left-length = length-drop start bytes

@@ -94,29 +94,29 @@ module _ {t : List ℕ} (w : Reading t) (nameRoom lengthRoom : ℕ) where
   unfolding loadNamesRefusal firstOf orElse
   form-refused k e = rw e
 
-  behind-form : offence w ≡ none → loadNamesRefusal w nameRoom lengthRoom ≡ firstNo (rowsQuestions 1 (readRows w) ++ rooms)
+  after-form : offence w ≡ none → loadNamesRefusal w nameRoom lengthRoom ≡ firstNo (rowsQuestions 1 (readRows w) ++ rooms)
   unfolding loadNamesRefusal firstOf orElse
-  behind-form e = rw e
+  after-form e = rw e
 
   pub rows-refused : (r : Refusal) → offence w ≡ none → firstNo (rowsQuestions 1 (readRows w)) ≡ some r → loadNamesRefusal w nameRoom lengthRoom ≡ some r
-  rows-refused r e h = behind-form e ∙ failed-before (rowsQuestions 1 (readRows w)) rooms h
+  rows-refused r e h = after-form e ∙ failed-before (rowsQuestions 1 (readRows w)) rooms h
 
-  behind-rows : offence w ≡ none → firstNo (rowsQuestions 1 (readRows w)) ≡ none → loadNamesRefusal w nameRoom lengthRoom ≡ firstNo rooms
-  behind-rows e h = behind-form e ∙ passed-before (rowsQuestions 1 (readRows w)) rooms h
+  after-rows : offence w ≡ none → firstNo (rowsQuestions 1 (readRows w)) ≡ none → loadNamesRefusal w nameRoom lengthRoom ≡ firstNo rooms
+  after-rows e h = after-form e ∙ passed-before (rowsQuestions 1 (readRows w)) rooms h
 
   pub names-refused : offence w ≡ none → firstNo (rowsQuestions 1 (readRows w)) ≡ none → nameRoom < length (flatten (namesIn w)) → loadNamesRefusal w nameRoom lengthRoom ≡ some (no 27 [])
   unfolding firstOf orElse
-  names-refused e h m = behind-rows e h ∙ rw (lt-leb (length (flatten (namesIn w))) nameRoom m)
+  names-refused e h m = after-rows e h ∙ rw (lt-leb (length (flatten (namesIn w))) nameRoom m)
 
   pub lengths-refused : offence w ≡ none → firstNo (rowsQuestions 1 (readRows w)) ≡ none → length (flatten (namesIn w)) ≤ nameRoom → lengthRoom < length (namesIn w)
       → loadNamesRefusal w nameRoom lengthRoom ≡ some (no 27 [])
   unfolding firstOf orElse
-  lengths-refused e h m u = behind-rows e h ∙ rw (le-leb (length (flatten (namesIn w))) nameRoom m, lt-leb (length (namesIn w)) lengthRoom u)
+  lengths-refused e h m u = after-rows e h ∙ rw (le-leb (length (flatten (namesIn w))) nameRoom m, lt-leb (length (namesIn w)) lengthRoom u)
 
   pub load-passes : offence w ≡ none → firstNo (rowsQuestions 1 (readRows w)) ≡ none → length (flatten (namesIn w)) ≤ nameRoom → length (namesIn w) ≤ lengthRoom
       → loadNamesRefusal w nameRoom lengthRoom ≡ none
   unfolding firstOf orElse
-  load-passes e h m u = behind-rows e h ∙ rw (le-leb (length (flatten (namesIn w))) nameRoom m, le-leb (length (namesIn w)) lengthRoom u)
+  load-passes e h m u = after-rows e h ∙ rw (le-leb (length (flatten (namesIn w))) nameRoom m, le-leb (length (namesIn w)) lengthRoom u)
 
   -- What loading shows of a text that it does not refuse.
   pub record LoadPassed : Type 0 where
@@ -183,23 +183,23 @@ module _ (bytes lengths : List ℕ) (room : ℕ) where
   unfolding saveNamesRefusal firstOf orElse
   count-refused e = rw e
 
-  behind-count : Element 120 (length lengths) → saveNamesRefusal bytes lengths room ≡ firstNo (namesQuestions 1 bytes lengths ++ text-room)
+  after-count : Element 120 (length lengths) → saveNamesRefusal bytes lengths room ≡ firstNo (namesQuestions 1 bytes lengths ++ text-room)
   unfolding saveNamesRefusal firstOf orElse
-  behind-count e = rw (element-is 120 (length lengths) e)
+  after-count e = rw (element-is 120 (length lengths) e)
 
   pub name-refused : (r : Refusal) → Element 120 (length lengths) → firstNo (namesQuestions 1 bytes lengths) ≡ some r → saveNamesRefusal bytes lengths room ≡ some r
-  name-refused r e h = behind-count e ∙ failed-before (namesQuestions 1 bytes lengths) text-room h
+  name-refused r e h = after-count e ∙ failed-before (namesQuestions 1 bytes lengths) text-room h
 
-  behind-names : Element 120 (length lengths) → firstNo (namesQuestions 1 bytes lengths) ≡ none → saveNamesRefusal bytes lengths room ≡ firstNo text-room
-  behind-names e h = behind-count e ∙ passed-before (namesQuestions 1 bytes lengths) text-room h
+  after-names : Element 120 (length lengths) → firstNo (namesQuestions 1 bytes lengths) ≡ none → saveNamesRefusal bytes lengths room ≡ firstNo text-room
+  after-names e h = after-count e ∙ passed-before (namesQuestions 1 bytes lengths) text-room h
 
   pub text-refused : Element 120 (length lengths) → firstNo (namesQuestions 1 bytes lengths) ≡ none → room < size → saveNamesRefusal bytes lengths room ≡ some (no 28 [])
   unfolding firstOf orElse
-  text-refused e h m = behind-names e h ∙ rw (lt-leb size room m)
+  text-refused e h m = after-names e h ∙ rw (lt-leb size room m)
 
   pub save-passes : Element 120 (length lengths) → firstNo (namesQuestions 1 bytes lengths) ≡ none → size ≤ room → saveNamesRefusal bytes lengths room ≡ none
   unfolding firstOf orElse
-  save-passes e h m = behind-names e h ∙ rw (le-leb size room m)
+  save-passes e h m = after-names e h ∙ rw (le-leb size room m)
 
   -- What saving shows of names that it does not refuse.
   pub record SavePassed : Type 0 where

@@ -16,7 +16,7 @@ use Rattle.semigroups.specs.Questions.{firstNo}
 use Rattle.semigroups.specs.Calls.{overwritten}
 use Rattle.csv.specs.Every.{Every}
 use Rattle.csv.proofs.Writing.{Writing, write-first, write-length, write-room, write-next, write-last, sets-overwritten}
-use Rattle.sheets.specs.Grammar.{Entry, Sheet, ProperEntry, ProperSheet, fieldText, entryText, entriesText, sheetText, IsSheet, Row, entryRow, entriesRows, sheetRows}
+use Rattle.sheets.specs.Grammar.{Entry, Sheet, ProperEntry, ProperSheet, fieldText, entryText, entriesText, sheetText, IsSheet, Row, entryRow, sheetRows}
 use Rattle.sheets.specs.Readings.{rowsNames}
 use Rattle.sheets.specs.Names.{isName, isNumber}
 use Rattle.sheets.specs.Questions.{rowsQuestions}
@@ -26,34 +26,34 @@ use Rattle.sheets.proofs.Numbers.{name-is, number-is}
 use Rattle.sheets.proofs.Questions.{wrong-number, wrong-name, next-record, Names, numbered}
 use Rattle.sheets.proofs.Cursor.{Tail, tail-end, tail-comma, tail-cr, FieldRead, field-read}
 
--- ---- the first record and what stands behind it
+-- ---- the first record and what stands after it
 
 sheetOf : Entry → List Entry → Bool → Sheet
 sheetOf e es c = record { first = e; others = es; closed = c }
 
-behindText : List Entry → Bool → List ℕ
-behindText [] c = cond c (13 ∷ 10 ∷ []) []
-behindText (f ∷ fs) c = 13 ∷ 10 ∷ sheetText (sheetOf f fs c)
+followingText : List Entry → Bool → List ℕ
+followingText [] c = cond c (13 ∷ 10 ∷ []) []
+followingText (f ∷ fs) c = 13 ∷ 10 ∷ sheetText (sheetOf f fs c)
 
-behindRows : List Entry → List Row
-behindRows [] = []
-behindRows (f ∷ fs) = entriesRows f fs
+followingRows : List Entry → List Row
+followingRows [] = []
+followingRows (f ∷ fs) = map entryRow (f ∷ fs)
 
-taken-apart : (e : Entry) (es : List Entry) (c : Bool) → entriesText e es ++ cond c (13 ∷ 10 ∷ []) [] ≡ fieldText (e .number) ++ (44 ∷ (fieldText (e .name) ++ behindText es c))
-unfolding entriesText entryText behindText sheetText sheetOf
+taken-apart : (e : Entry) (es : List Entry) (c : Bool) → entriesText e es ++ cond c (13 ∷ 10 ∷ []) [] ≡ fieldText (e .number) ++ (44 ∷ (fieldText (e .name) ++ followingText es c))
+unfolding entriesText entryText followingText sheetText sheetOf
 taken-apart e [] c = append-assoc (fieldText (e .number)) (44 ∷ fieldText (e .name)) (cond c (13 ∷ 10 ∷ []) [])
 taken-apart e (f ∷ fs) c = simp append-assoc
 
-rows-apart : (e : Entry) (es : List Entry) → entriesRows e es ≡ entryRow e ∷ behindRows es
-unfolding entriesRows behindRows
+rows-apart : (e : Entry) (es : List Entry) → map entryRow (e ∷ es) ≡ entryRow e ∷ followingRows es
+unfolding followingRows
 rows-apart e [] = refl
 rows-apart e (f ∷ fs) = refl
 
-behind-tail : (es : List Entry) (c : Bool) → Tail (behindText es c)
-unfolding behindText
-behind-tail [] true = tail-cr (10 ∷ [])
-behind-tail [] false = tail-end
-behind-tail (f ∷ fs) c = tail-cr (10 ∷ sheetText (sheetOf f fs c))
+after-tail : (es : List Entry) (c : Bool) → Tail (followingText es c)
+unfolding followingText
+after-tail [] true = tail-cr (10 ∷ [])
+after-tail [] false = tail-end
+after-tail (f ∷ fs) c = tail-cr (10 ∷ sheetText (sheetOf f fs c))
 
 -- ---- places
 
@@ -85,14 +85,14 @@ none-left no-more e = refl
 none-left (more s p h) e = absurd (true≢false e)
 
 module _ (t : List ℕ) (at : ℕ) where
-  -- The places behind the two fields of the record that begins here.
+  -- The places after the two fields of the record that begins here.
   abbrev pub commaAt : ℕ
   commaAt = at + sizeAt (drop at t)
 
   abbrev pub endAt : ℕ
   endAt = (commaAt + 1) + sizeAt (drop (commaAt + 1) t)
 
-  -- The record that begins here, and what is left behind it.
+  -- The record that begins here, and what is skipped it.
   pub record Turn (rows : List Row) : Type 0 where
     pub row : Row
     pub others : List Row
@@ -105,52 +105,52 @@ module _ (t : List ℕ) (at : ℕ) where
     pub rest : Rest t (endAt + 2) (ltb (endAt + 2) (length t)) others
 
   module _ (s : Sheet) (p : ProperSheet s) (here : drop at t ≡ sheetText s) where
-    abbrev behind : List ℕ
-    behind = behindText (s .others) (s .closed)
+    abbrev following : List ℕ
+    following = followingText (s .others) (s .closed)
 
-    apart : drop at t ≡ fieldText (s .first .number) ++ (44 ∷ (fieldText (s .first .name) ++ behind))
+    apart : drop at t ≡ fieldText (s .first .number) ++ (44 ∷ (fieldText (s .first .name) ++ following))
     unfolding sheetText
     apart = here ∙ taken-apart (s .first) (s .others) (s .closed)
 
     number-read : FieldRead (s .first .number) (drop at t)
-    number-read = subst (FieldRead (s .first .number)) (sym apart) (field-read (s .first .number) (44 ∷ (fieldText (s .first .name) ++ behind)) (p .0 .0) (tail-comma (fieldText (s .first .name) ++ behind)))
+    number-read = subst (FieldRead (s .first .number)) (sym apart) (field-read (s .first .number) (44 ∷ (fieldText (s .first .name) ++ following)) (p .0 .0) (tail-comma (fieldText (s .first .name) ++ following)))
 
-    behind-number : drop commaAt t ≡ 44 ∷ (fieldText (s .first .name) ++ behind)
-    behind-number =
-        ap (λ (n : ℕ). drop (at + n) t) (number-read .size) ∙ past t at (fieldText (s .first .number)) (44 ∷ (fieldText (s .first .name) ++ behind)) apart
+    after-number : drop commaAt t ≡ 44 ∷ (fieldText (s .first .name) ++ following)
+    after-number =
+        ap (λ (n : ℕ). drop (at + n) t) (number-read .size) ∙ past t at (fieldText (s .first .number)) (44 ∷ (fieldText (s .first .name) ++ following)) apart
 
-    behind-comma : drop (commaAt + 1) t ≡ fieldText (s .first .name) ++ behind
-    behind-comma = past t commaAt (44 ∷ []) (fieldText (s .first .name) ++ behind) behind-number
+    after-comma : drop (commaAt + 1) t ≡ fieldText (s .first .name) ++ following
+    after-comma = past t commaAt (44 ∷ []) (fieldText (s .first .name) ++ following) after-number
 
     name-read : FieldRead (s .first .name) (drop (commaAt + 1) t)
-    name-read = subst (FieldRead (s .first .name)) (sym behind-comma) (field-read (s .first .name) behind (p .0 .1) (behind-tail (s .others) (s .closed)))
+    name-read = subst (FieldRead (s .first .name)) (sym after-comma) (field-read (s .first .name) following (p .0 .1) (after-tail (s .others) (s .closed)))
 
-    behind-name : drop endAt t ≡ behind
-    behind-name = ap (λ (n : ℕ). drop ((commaAt + 1) + n) t) (name-read .size) ∙ past t (commaAt + 1) (fieldText (s .first .name)) behind behind-comma
+    after-name : drop endAt t ≡ following
+    after-name = ap (λ (n : ℕ). drop ((commaAt + 1) + n) t) (name-read .size) ∙ past t (commaAt + 1) (fieldText (s .first .name)) following after-comma
 
     inside : (at ≤ length t) × (commaAt + 1 ≤ length t) × (endAt ≤ length t)
     inside =
-        let first = within t at (fieldText (s .first .number) ++ (44 ∷ (fieldText (s .first .name) ++ behind))) apart in
-        let second = within t commaAt (44 ∷ (fieldText (s .first .name) ++ behind)) behind-number in
-        let third = within t (commaAt + 1) (fieldText (s .first .name) ++ behind) behind-comma in
-        let a = length-append (fieldText (s .first .number)) (44 ∷ (fieldText (s .first .name) ++ behind)) in
-        let b = length-append (fieldText (s .first .name)) behind in
+        let first = within t at (fieldText (s .first .number) ++ (44 ∷ (fieldText (s .first .name) ++ following))) apart in
+        let second = within t commaAt (44 ∷ (fieldText (s .first .name) ++ following)) after-number in
+        let third = within t (commaAt + 1) (fieldText (s .first .name) ++ following) after-comma in
+        let a = length-append (fieldText (s .first .number)) (44 ∷ (fieldText (s .first .name) ++ following)) in
+        let b = length-append (fieldText (s .first .name)) following in
         let n = name-read .size in
         (omega arith, omega arith, omega arith)
 
-  rest-behind : (end : ℕ) (es : List Entry) (c : Bool) → Every ProperEntry es → end ≤ length t → drop end t ≡ behindText es c → Rest t (end + 2) (ltb (end + 2) (length t)) (behindRows es)
-  unfolding behindText behindRows sheetText sheetRows sheetOf
-  rest-behind end [] c p h e =
+  rest-after : (end : ℕ) (es : List Entry) (c : Bool) → Every ProperEntry es → end ≤ length t → drop end t ≡ followingText es c → Rest t (end + 2) (ltb (end + 2) (length t)) (followingRows es)
+  unfolding followingText followingRows sheetText sheetRows sheetOf
+  rest-after end [] c p h e =
       subst (λ (b : Bool). Rest t (end + 2) b []) (sym (le-ltb (end + 2) (length t) (let w = within t end (cond c (13 ∷ 10 ∷ []) []) e in let u = short c in omega arith))) no-more
     where
       short : (c : Bool) → length {A = ℕ} (cond c (13 ∷ 10 ∷ []) []) ≤ 2
       short true = omega arith
       short false = omega arith
-  rest-behind end (f ∷ fs) c p h e =
+  rest-after end (f ∷ fs) c p h e =
       let s = sheetOf f fs c in
       let w = within t end (13 ∷ 10 ∷ sheetText s) e in
       let u : 1 ≤ length (sheetText s) = some-text in
-      subst (λ (b : Bool). Rest t (end + 2) b (entriesRows f fs)) (sym (lt-ltb (end + 2) (length t) (omega arith)))
+      subst (λ (b : Bool). Rest t (end + 2) b (map entryRow (f ∷ fs))) (sym (lt-ltb (end + 2) (length t) (omega arith)))
       (more s proper-sheet (past t end (13 ∷ 10 ∷ []) (sheetText s) e))
     where
       some-text : 1 ≤ length (sheetText (sheetOf f fs c))
@@ -168,14 +168,14 @@ module _ (t : List ℕ) (at : ℕ) where
       let i = inside s p h in
       record {
         row = entryRow (s .first);
-        others = behindRows (s .others);
+        others = followingRows (s .others);
         same = l .same ∙ rows-apart (s .first) (s .others);
         number = number-read s p h .value;
         name = name-read s p h .value;
         number-inside = i .0;
         name-inside = i .1;
         end-inside = i .2;
-        rest = rest-behind endAt (s .others) (s .closed) (p .1) (i .2) (behind-name s p h);
+        rest = rest-after endAt (s .others) (s .closed) (p .1) (i .2) (after-name s p h);
       }
 
   pub turn : {b : Bool} {rows : List Row} → Rest t at b rows → b ≡ true → Turn rows

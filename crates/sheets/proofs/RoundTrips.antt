@@ -20,7 +20,7 @@ use Rattle.csv.specs.Every.{Every}
 use Rattle.csv.specs.RoundsLaws.{given}
 use Rattle.csv.proofs.Writing.{overwritten-length, overwritten-twice}
 use Rattle.csv.proofs.RoundTrips.{given-passed}
-use Rattle.sheets.specs.Grammar.{IsSheet, Sheet, Entry, Row, entriesText, sheetText, sheetRows, entriesRows}
+use Rattle.sheets.specs.Grammar.{IsSheet, Sheet, Entry, Row, entriesText, sheetText, sheetRows, entryRow}
 use Rattle.sheets.specs.Readings.{Reading, passes, offends, offence, readRows, rowsNames, namesIn}
 use Rattle.sheets.specs.ReadingsLaws.{Readable}
 use Rattle.sheets.specs.Names.{namesText, namesAt}
@@ -261,8 +261,7 @@ saved-unchanged read names lengths b pass m u n =
 
 -- ---- a sheet that loads
 
-some-rows : (e : Entry) (es : List Entry) → 1 ≤ length (entriesRows e es)
-unfolding entriesRows
+some-rows : (e : Entry) (es : List Entry) → 1 ≤ length (map entryRow (e ∷ es))
 some-rows e [] = omega arith
 some-rows e (f ∷ fs) = omega arith
 

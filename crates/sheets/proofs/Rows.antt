@@ -2,21 +2,21 @@
 -- Assumes nothing.
 use mathlib.Core.Path.{_≡_, refl, ap, sym, _∙_}
 use mathlib.Core.Bool.{Bool, true, false, cond}
-use mathlib.Core.List.{List, [], _∷_, _++_, flatMap, append-assoc}
+use mathlib.Core.List.{List, [], _∷_, _++_, flatMap, append-assoc, map}
 use Prim.Native.Nat.{ℕ, _≤_}
 use native.Mathlib.Omega.{arith}
 use lib.Dec.{eqb}
 use lib.ListN.{length, length-append}
 use Rattle.csv.specs.Records.{onto}
 use Rattle.csv.specs.Every.{Every}
-use Rattle.sheets.specs.Grammar.{isPrintable, isTextData, isQuotable, Item, single, twice, Field, non-escaped, escaped, Entry, Sheet, ProperItem, ProperField, ProperEntry, ProperSheet, itemText, fieldText, entryText, entriesText, sheetText, IsSheet, itemValue, itemsValue, fieldValue, Row, entryRow, entriesRows, sheetRows}
+use Rattle.sheets.specs.Grammar.{isPrintable, isTextData, isQuotable, Item, single, twice, Field, non-escaped, escaped, Entry, Sheet, ProperItem, ProperField, ProperEntry, ProperSheet, itemText, fieldText, entryText, entriesText, sheetText, IsSheet, itemValue, fieldValue, Row, entryRow, sheetRows}
 use Rattle.sheets.specs.InnerAutomaton.{Column, number-part, name-part, State, opening, bare, quoted, shut, cr, line, dead, afterField, bareStep, openingStep, stateAfter}
 use Rattle.sheets.proofs.Bytes.{bare-quote, inside-quote}
 use Rattle.sheets.proofs.Completeness.{opening-bare, bare-bare, quoted-inside, Ended, ended-opening, ended-bare, ended-shut, entries-some}
 
 -- ---- the fields of a text
 
--- The fields from a byte on, where l are those behind it: the byte belongs to the first of them, closes a field, or is a mark.
+-- The fields from a byte on, where l are those after it: the byte belongs to the first of them, closes a field, or is a mark.
 unfoldable openingAdd : ℕ → List (List ℕ) → List (List ℕ)
 openingAdd b l = cond (eqb b 34) l (cond (isTextData b) (onto b l) ([] ∷ l))
 
@@ -87,8 +87,8 @@ unfolding ontoAll
 all-bare n [] u h = refl
 all-bare n (b ∷ s) u h = fields-bare n b (s ++ u) (h .0) ∙ ap (onto b) (all-bare n s u (h .1))
 
-all-items : (n : Column) (i : List Item) (u : List ℕ) → Every ProperItem i → fieldsFrom (quoted n) (flatMap itemText i ++ u) ≡ ontoAll (itemsValue i) (fieldsFrom (quoted n) u)
-unfolding ontoAll itemsValue itemValue flatMap itemText
+all-items : (n : Column) (i : List Item) (u : List ℕ) → Every ProperItem i → fieldsFrom (quoted n) (flatMap itemText i ++ u) ≡ ontoAll (map itemValue i) (fieldsFrom (quoted n) u)
+unfolding ontoAll itemValue flatMap itemText
 all-items n [] u h = refl
 all-items n (single b ∷ i) u h = fields-inside n b (flatMap itemText i ++ u) (h .0) ∙ ap (onto b) (all-items n i u (h .1))
 all-items n (twice ∷ i) u h = fields-twice n (flatMap itemText i ++ u) ∙ ap (onto 34) (all-items n i u (h .1))
@@ -101,7 +101,7 @@ fields-quote : (n : Column) (u : List ℕ) → fieldsFrom (opening n) (34 ∷ u)
 unfolding fieldsFrom add stateAfter openingAdd openingStep
 fields-quote n u = refl
 
--- What follows a field is read alike from the three states behind it.
+-- What follows a field is read alike from the three states after it.
 field-rows : (n : Column) (f : Field) (u : List ℕ) (l : List (List ℕ)) → ProperField f → ((q : State) → Ended n q → fieldsFrom q u ≡ [] ∷ l) → fieldsFrom (opening n) (fieldText f ++ u) ≡ fieldValue f ∷ l
 unfolding fieldText fieldValue ontoAll
 field-rows n (non-escaped []) u l h g = g (opening n) ended-opening
@@ -109,9 +109,9 @@ field-rows n (non-escaped (b ∷ s)) u l h g =
     fields-opening n b (s ++ u) (h .0) ∙ ap (onto b) (all-bare n s u (h .1) ∙ ap (ontoAll s) (g (bare n) ended-bare)) ∙ onto-all (b ∷ s) l
 field-rows n (escaped i) u l h g =
     ap (fieldsFrom (opening n)) (append-assoc (34 ∷ flatMap itemText i) (34 ∷ []) u) ∙ fields-quote n (flatMap itemText i ++ 34 ∷ u)
-    ∙ all-items n i (34 ∷ u) h ∙ ap (ontoAll (itemsValue i)) (fields-shut n u ∙ g (shut n) ended-shut) ∙ onto-all (itemsValue i) l
+    ∙ all-items n i (34 ∷ u) h ∙ ap (ontoAll (map itemValue i)) (fields-shut n u ∙ g (shut n) ended-shut) ∙ onto-all (map itemValue i) l
 
--- ---- behind a field
+-- ---- after a field
 
 fields-comma : {q : State} → Ended number-part q → (u : List ℕ) → fieldsFrom q (44 ∷ u) ≡ [] ∷ fieldsFrom (opening name-part) u
 unfolding fieldsFrom add openingAdd stateAfter openingStep bareStep afterField isTextData isPrintable
@@ -152,8 +152,8 @@ entry-fields e u l h g =
     (λ p q. fields-comma q (fieldText (e .name) ++ u) ∙ ap (λ (k : List (List ℕ)). [] ∷ k) (field-rows name-part (e .name) u l (h .1) g))
 
 entries-rows : (e : Entry) (es : List Entry) (c : Bool) → ProperEntry e → Every ProperEntry es
-    → paired (fieldsFrom (opening number-part) (entriesText e es ++ cond c (13 ∷ 10 ∷ []) [])) ≡ entriesRows e es
-unfolding paired entriesText entriesRows entryRow
+    → paired (fieldsFrom (opening number-part) (entriesText e es ++ cond c (13 ∷ 10 ∷ []) [])) ≡ map entryRow (e ∷ es)
+unfolding paired entriesText entryRow
 entries-rows e [] c p ps = ap paired (entry-fields e (cond c (13 ∷ 10 ∷ []) []) [] p (λ p q. fields-last q c))
 entries-rows e (f ∷ fs) c p ps =
     let w : List ℕ = cond c (13 ∷ 10 ∷ []) [] in

@@ -13,7 +13,7 @@ use Rattle.csv.specs.Decimals.{isDigit, numeral, numeralWithin}
 use Rattle.csv.proofs.Rows.{Digits, digit-range}
 use Rattle.csv.proofs.Decimals.{numeral-digits}
 use Rattle.csv.specs.Every.{Every}
-use Rattle.sheets.specs.Grammar.{isPrintable, isTextData, isQuotable, Item, single, twice, Field, non-escaped, escaped, Entry, Sheet, ProperItem, ProperField, ProperEntry, ProperSheet, itemText, fieldText, entryText, entriesText, sheetText, IsSheet, itemValue, itemsValue, fieldValue, Row, entryRow, entriesRows, sheetRows}
+use Rattle.sheets.specs.Grammar.{isPrintable, isTextData, isQuotable, Item, single, twice, Field, non-escaped, escaped, Entry, Sheet, ProperItem, ProperField, ProperEntry, ProperSheet, itemText, fieldText, entryText, entriesText, sheetText, IsSheet, itemValue, fieldValue, Row, entryRow, sheetRows}
 use Rattle.sheets.specs.Readings.{Reading, passes, offence, readRows, rowsNames}
 use Rattle.sheets.specs.Names.{needsQuotes, doubled, nameText, namesTextFrom, namesText}
 use Rattle.sheets.proofs.Readings.{same-reading}
@@ -47,8 +47,7 @@ item-value b = go (eqb b 34) refl
     go true e = sym (eqb-true b 34 e)
     go false e = refl
 
-items-value : (s : List ℕ) → itemsValue (map item s) ≡ s
-unfolding itemsValue
+items-value : (s : List ℕ) → map itemValue (map item s) ≡ s
 items-value [] = refl
 items-value (b ∷ s) = rw (item-value b, items-value s)
 
@@ -132,8 +131,8 @@ unfoldable pub namesRows : ℕ → List (List ℕ) → List Row
 namesRows k [] = []
 namesRows k (s ∷ l) = record { number = numeral k; name = s } ∷ namesRows (suc k) l
 
-saved-rows : (k : ℕ) (s : List ℕ) (l : List (List ℕ)) → entriesRows (savedEntry k s) (savedOthers (suc k) l) ≡ namesRows k (s ∷ l)
-unfolding entriesRows savedOthers namesRows entryRow savedEntry fieldValue
+saved-rows : (k : ℕ) (s : List ℕ) (l : List (List ℕ)) → map entryRow ((savedEntry k s) ∷ (savedOthers (suc k) l)) ≡ namesRows k (s ∷ l)
+unfolding savedOthers namesRows entryRow savedEntry fieldValue
 saved-rows k s [] = rw (saved-value s)
 saved-rows k s (r ∷ l) = rw (saved-value s, saved-rows (suc k) r l)
 

@@ -10,22 +10,22 @@ use Rattle.csv.specs.Every.{Every}
 use Rattle.sheets.specs.Grammar.{isTextData, isQuotable, Item, single, twice, Field, non-escaped, escaped, Entry, Sheet, ProperItem, ProperField, itemText, fieldText, entryText, entriesText, sheetText, IsSheet}
 use Rattle.sheets.specs.InnerAutomaton.{Column, number-part, name-part, State, opening, bare, quoted, shut, cr, line, dead, afterField, bareStep, openingStep, stateAfter, accepting, run, accepts}
 
--- Behind CR LF: nothing, or a sheet.
+-- After CR LF: nothing, or a sheet.
 pub data Line : List ℕ → Type 0 where
   no-more : Line []
   more : {t : List ℕ} → IsSheet t → Line t
 
--- Behind a field.
-pub data Behind : Column → List ℕ → Type 0 where
-  end : Behind name-part []
-  break : {t : List ℕ} → Line t → Behind name-part (13 ∷ 10 ∷ t)
-  comma : (f : Field) {u : List ℕ} → ProperField f → Behind name-part u → Behind number-part (44 ∷ fieldText f ++ u)
+-- After a field.
+pub data Following : Column → List ℕ → Type 0 where
+  end : Following name-part []
+  break : {t : List ℕ} → Line t → Following name-part (13 ∷ 10 ∷ t)
+  comma : (f : Field) {u : List ℕ} → ProperField f → Following name-part u → Following number-part (44 ∷ fieldText f ++ u)
 
 pub data Left : State → List ℕ → Type 0 where
-  at-opening : {n : Column} (f : Field) {u : List ℕ} → ProperField f → Behind n u → Left (opening n) (fieldText f ++ u)
-  in-bare : {n : Column} (s : List ℕ) {u : List ℕ} → Every (λ b. isTextData b ≡ true) s → Behind n u → Left (bare n) (s ++ u)
-  in-quoted : {n : Column} (i : List Item) {u : List ℕ} → Every ProperItem i → Behind n u → Left (quoted n) (flatMap itemText i ++ 34 ∷ u)
-  at-shut : {n : Column} {u : List ℕ} → Behind n u → Left (shut n) u
+  at-opening : {n : Column} (f : Field) {u : List ℕ} → ProperField f → Following n u → Left (opening n) (fieldText f ++ u)
+  in-bare : {n : Column} (s : List ℕ) {u : List ℕ} → Every (λ b. isTextData b ≡ true) s → Following n u → Left (bare n) (s ++ u)
+  in-quoted : {n : Column} (i : List Item) {u : List ℕ} → Every ProperItem i → Following n u → Left (quoted n) (flatMap itemText i ++ 34 ∷ u)
+  at-shut : {n : Column} {u : List ℕ} → Following n u → Left (shut n) u
   at-twice : {n : Column} {t : List ℕ} → Left (quoted n) t → Left (shut n) (34 ∷ t)
   at-cr : {t : List ℕ} → Line t → Left cr (10 ∷ t)
   at-line : {t : List ℕ} → Line t → Left line t
@@ -38,7 +38,7 @@ one e c = record { first = e; others = []; closed = c }
 before : Entry → Sheet → Sheet
 before e s = record { first = e; others = (s .first) ∷ (s .others); closed = s .closed }
 
-passes-record : (f g : Field) → ProperField f → ProperField g → (w : List ℕ) → Behind name-part w → IsSheet (fieldText f ++ (44 ∷ fieldText g ++ w))
+passes-record : (f g : Field) → ProperField f → ProperField g → (w : List ℕ) → Following name-part w → IsSheet (fieldText f ++ (44 ∷ fieldText g ++ w))
 unfolding sheetText entriesText entryText one before
 passes-record f g p q w end =
     let e : Entry = record { number = f; name = g } in
@@ -76,33 +76,33 @@ unfolding flatMap itemText
 close-quote (at-shut h) = in-quoted [] tt h
 close-quote (at-twice (in-quoted i p h)) = in-quoted (twice ∷ i) (tt, p) h
 
-behind-opening : {n : Column} {t : List ℕ} → Behind n t → Left (opening n) t
+after-opening : {n : Column} {t : List ℕ} → Following n t → Left (opening n) t
 unfolding fieldText
-behind-opening h = at-opening (non-escaped []) tt h
+after-opening h = at-opening (non-escaped []) tt h
 
-behind-bare : {n : Column} {t : List ℕ} → Behind n t → Left (bare n) t
-behind-bare h = in-bare [] tt h
+after-bare : {n : Column} {t : List ℕ} → Following n t → Left (bare n) t
+after-bare h = in-bare [] tt h
 
 dead-left : {A : Type 0} {t : List ℕ} → Left dead t → A
 dead-left l = elim l [ ]
 
-comma-behind : {t : List ℕ} → Left (opening name-part) t → Behind number-part (44 ∷ t)
-comma-behind (at-opening f p h) = comma f p h
+comma-follows : {t : List ℕ} → Left (opening name-part) t → Following number-part (44 ∷ t)
+comma-follows (at-opening f p h) = comma f p h
 
-cr-behind : {t : List ℕ} → Left cr t → Behind name-part (13 ∷ t)
-cr-behind (at-cr l) = break l
+cr-follows : {t : List ℕ} → Left cr t → Following name-part (13 ∷ t)
+cr-follows (at-cr l) = break l
 
-behind-cons : (n : Column) (b : ℕ) (t : List ℕ) → Left (afterField n b) t → Behind n (b ∷ t)
+after-cons : (n : Column) (b : ℕ) (t : List ℕ) → Left (afterField n b) t → Following n (b ∷ t)
 unfolding afterField
-behind-cons number-part b t = go (eqb b 44) refl
+after-cons number-part b t = go (eqb b 44) refl
   where
-    go : (x : Bool) → eqb b 44 ≡ x → Left (cond x (opening name-part) dead) t → Behind number-part (b ∷ t)
-    go true e l = rw (eqb-true b 44 e) (comma-behind l)
+    go : (x : Bool) → eqb b 44 ≡ x → Left (cond x (opening name-part) dead) t → Following number-part (b ∷ t)
+    go true e l = rw (eqb-true b 44 e) (comma-follows l)
     go false e l = dead-left l
-behind-cons name-part b t = go (eqb b 13) refl
+after-cons name-part b t = go (eqb b 13) refl
   where
-    go : (x : Bool) → eqb b 13 ≡ x → Left (cond x cr dead) t → Behind name-part (b ∷ t)
-    go true e l = rw (eqb-true b 13 e) (cr-behind l)
+    go : (x : Bool) → eqb b 13 ≡ x → Left (cond x cr dead) t → Following name-part (b ∷ t)
+    go true e l = rw (eqb-true b 13 e) (cr-follows l)
     go false e l = dead-left l
 
 bare-cons : (n : Column) (b : ℕ) (t : List ℕ) → Left (bareStep n b) t → Left (bare n) (b ∷ t)
@@ -111,7 +111,7 @@ bare-cons n b t = go (isTextData b) refl
   where
     go : (x : Bool) → isTextData b ≡ x → Left (cond x (bare n) (afterField n b)) t → Left (bare n) (b ∷ t)
     go true e l = more-bare b e l
-    go false e l = behind-bare (behind-cons n b t l)
+    go false e l = after-bare (after-cons n b t l)
 
 opening-cons : (n : Column) (b : ℕ) (t : List ℕ) → Left (openingStep n b) t → Left (opening n) (b ∷ t)
 unfolding openingStep bareStep
@@ -120,7 +120,7 @@ opening-cons n b t = go (eqb b 34) (isTextData b) refl refl
     go : (x y : Bool) → eqb b 34 ≡ x → isTextData b ≡ y → Left (cond x (quoted n) (cond y (bare n) (afterField n b))) t → Left (opening n) (b ∷ t)
     go true y e f l = rw (eqb-true b 34 e) (open-quote l)
     go false true e f l = open-bare b f l
-    go false false e f l = behind-opening (behind-cons n b t l)
+    go false false e f l = after-opening (after-cons n b t l)
 
 quoted-cons : (n : Column) (b : ℕ) (t : List ℕ) → Left (stateAfter (quoted n) b) t → Left (quoted n) (b ∷ t)
 unfolding stateAfter
@@ -137,7 +137,7 @@ shut-cons n b t = go (eqb b 34) refl
   where
     go : (x : Bool) → eqb b 34 ≡ x → Left (cond x (quoted n) (afterField n b)) t → Left (shut n) (b ∷ t)
     go true e l = rw (eqb-true b 34 e) (at-twice l)
-    go false e l = at-shut (behind-cons n b t l)
+    go false e l = at-shut (after-cons n b t l)
 
 line-of : {t : List ℕ} → Left line t → Line t
 line-of (at-line l) = l
@@ -163,9 +163,9 @@ left-cons dead b t l = dead-left l
 left-end : (q : State) → accepting q ≡ true → Left q []
 unfolding accepting
 left-end (opening number-part) h = absurd (true≢false (sym h))
-left-end (opening name-part) h = behind-opening end
+left-end (opening name-part) h = after-opening end
 left-end (bare number-part) h = absurd (true≢false (sym h))
-left-end (bare name-part) h = behind-bare end
+left-end (bare name-part) h = after-bare end
 left-end (quoted n) h = absurd (true≢false (sym h))
 left-end (shut number-part) h = absurd (true≢false (sym h))
 left-end (shut name-part) h = at-shut end

@@ -3,7 +3,7 @@
 -- Assumes nothing.
 use mathlib.Core.Path.{_≡_}
 use mathlib.Core.Bool.{Bool, true, _&&_, _||_, not, cond}
-use mathlib.Core.List.{List, [], _∷_, _++_, flatMap}
+use mathlib.Core.List.{List, [], _∷_, _++_, map, flatMap}
 use Prim.Native.Nat.{ℕ}
 use lib.Dec.{eqb, leb}
 use Rattle.csv.specs.Every.{Every}
@@ -103,15 +103,10 @@ unfoldable pub itemValue : Item → ℕ
 itemValue (single b) = b
 itemValue twice = 34
 
--- The bytes that items stand for.
-unfoldable pub itemsValue : List Item → List ℕ
-itemsValue [] = []
-itemsValue (i ∷ is) = itemValue i ∷ itemsValue is
-
 -- The value of a field.
 unfoldable pub fieldValue : Field → List ℕ
 fieldValue (non-escaped s) = s
-fieldValue (escaped i) = itemsValue i
+fieldValue (escaped i) = map itemValue i
 
 -- A record's two values.
 pub record Row : Type 0 where
@@ -122,11 +117,6 @@ pub record Row : Type 0 where
 unfoldable pub entryRow : Entry → Row
 entryRow e = record { number = fieldValue (e .number); name = fieldValue (e .name) }
 
--- The values of a record and of those that follow.
-unfoldable pub entriesRows : Entry → List Entry → List Row
-entriesRows e [] = entryRow e ∷ []
-entriesRows e (f ∷ fs) = entryRow e ∷ entriesRows f fs
-
 -- The values of all records of a sheet.
 unfoldable pub sheetRows : Sheet → List Row
-sheetRows s = entriesRows (s .first) (s .others)
+sheetRows s = map entryRow (s .first ∷ s .others)

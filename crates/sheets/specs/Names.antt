@@ -6,7 +6,7 @@ use Prim.Native.Nat.{ℕ, suc}
 use lib.Dec.{eqb, leb}
 use lib.ListN.{length, getD, take, drop}
 use Rattle.semigroups.specs.Lists.{all}
-use Rattle.semigroups.specs.Tables.{isElement}
+use Rattle.semigroups.specs.Tables.{largestOrder, isElement}
 use Rattle.csv.specs.Decimals.{isDigit, value, numeral}
 use Rattle.sheets.specs.Grammar.{isPrintable}
 
@@ -16,7 +16,7 @@ isName s = isElement 40 (length s) && all isPrintable s
 
 -- Whether a field is the number k, at most 120: "Numbers are decimal and start with no 0"; so it has at most three digits.
 unfoldable pub isNumber : ℕ → List ℕ → Bool
-isNumber k f = leb k 120 && (all isDigit f && (isElement 3 (length f) && (not (eqb (getD f 0 0) 48) && eqb (value f) k)))
+isNumber k f = leb k largestOrder && (all isDigit f && (isElement 3 (length f) && (not (eqb (getD f 0 0) 48) && eqb (value f) k)))
 
 -- ---- the text of names
 

@@ -6,7 +6,7 @@ use mathlib.Core.Option.{Option, none, some}
 use Prim.Native.Nat.{ℕ, suc}
 use lib.Dec.{leb}
 use lib.ListN.{length, take, drop}
-use Rattle.semigroups.specs.Tables.{isElement}
+use Rattle.semigroups.specs.Tables.{largestOrder, isElement}
 use Rattle.semigroups.specs.Questions.{Question, ask, seek, Refusal, firstNo}
 use Rattle.sheets.specs.Grammar.{Row}
 use Rattle.sheets.specs.Readings.{Reading, offence, readRows, namesIn}
@@ -48,7 +48,7 @@ namesQuestions k bytes (n ∷ ns) = seek 41 (placeUnless (leb n (length bytes) &
 -- room for the whole sheet?
 abbrev pub saveNamesQuestions : List ℕ → List ℕ → ℕ → List Question
 saveNamesQuestions bytes lengths room =
-    ask 42 (isElement 120 (length lengths)) ∷ (namesQuestions 1 bytes lengths ++ ask 28 (leb (length (namesText (namesAt bytes lengths))) room) ∷ [])
+    ask 42 (isElement largestOrder (length lengths)) ∷ (namesQuestions 1 bytes lengths ++ ask 28 (leb (length (namesText (namesAt bytes lengths))) room) ∷ [])
 
 -- The refusal of a call that saves a name sheet, if a question fails.
 unfoldable pub saveNamesRefusal : List ℕ → List ℕ → ℕ → Option Refusal

@@ -5,6 +5,7 @@ use mathlib.Core.Logic.{_⊎_, _↔_}
 use mathlib.Core.List.{List, [], _∷_, List·Memᴰ}
 use mathlib.Core.Option.{none, some}
 use Prim.Native.Nat.{ℕ, _≤_}
+use Rattle.semigroups.specs.Tables.{largestOrder}
 use Rattle.csv.specs.Decimals.{numeral}
 use Rattle.sheets.specs.Readings.{Reading, offence}
 use Rattle.sheets.specs.ReadingsLaws.{Readable, SameReading}
@@ -19,7 +20,7 @@ pub record NameRequests : Type 0 where
   -- "A name is 1 to 40 bytes from hexadecimal 20 to 7E."
   pub a-name : (s : List ℕ) → (isName s ≡ true) ↔ Name s
   -- "Numbers are decimal and start with no 0", and are at most 120.
-  pub a-number : (k : ℕ) (f : List ℕ) → 1 ≤ k → (isNumber k f ≡ true) ↔ ((k ≤ 120) × (f ≡ numeral k))
+  pub a-number : (k : ℕ) (f : List ℕ) → 1 ≤ k → (isNumber k f ≡ true) ↔ ((k ≤ largestOrder) × (f ≡ numeral k))
   -- "Saving quotes exactly those names that hold a comma or a quote mark."
   pub quotes-exactly : (s : List ℕ) → (needsQuotes s ≡ true) ↔ (List·Memᴰ 44 s ⊎ List·Memᴰ 34 s)
   -- Every text passes 40 or has its offending place, and a call says the same by each reading; "an empty text offends at place 0".

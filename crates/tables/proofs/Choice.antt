@@ -169,11 +169,11 @@ module _ (s : Product) (l : List ℕ) where
     pub earlier : (i y : ℕ) → i < old → List·Memᴰ y (take (length l - 1) l) → List·Memᴰ (s (getD r i 0) y) r
 
   -- An entry stands before a place or from it on.
-  before-or-behind : (k y : ℕ) → List·Memᴰ y l → List·Memᴰ y (take k l) ⊎ List·Memᴰ y (drop k l)
-  before-or-behind k y m = List·Memᴰ·append-cases (take k l) (subst (List·Memᴰ y) (sym (take-append-drop k l)) m)
+  before-or-after : (k y : ℕ) → List·Memᴰ y l → List·Memᴰ y (take k l) ⊎ List·Memᴰ y (drop k l)
+  before-or-after k y m = List·Memᴰ·append-cases (take k l) (subst (List·Memᴰ y) (sym (take-append-drop k l)) m)
 
-  behind-in : (k y : ℕ) → List·Memᴰ y (drop k l) → List·Memᴰ y l
-  behind-in k y m = subst (List·Memᴰ y) (take-append-drop k l) (Memᴰ·append-right (take k l) m)
+  after-in : (k y : ℕ) → List·Memᴰ y (drop k l) → List·Memᴰ y l
+  after-in k y m = subst (List·Memᴰ y) (take-append-drop k l) (Memᴰ·append-right (take k l) m)
 
   -- One element more is multiplied with the entries from a place on; its products with the entries before that are there.
   reaching-next : (first from : ℕ) (r : List ℕ) → Reaching first r → first < length r → ((y : ℕ) → List·Memᴰ y (take from l) → List·Memᴰ (s (getD r first 0) y) r)
@@ -192,7 +192,7 @@ module _ (s : Product) (l : List ℕ) where
       more = map (s x₀) (drop from l)
 
       new : (z : ℕ) → List·Memᴰ z more → LeftProduct s l z
-      new z m = let w = Memᴰ·of-map (s x₀) (drop from l) m in further x₀ (w .0) z (g .products-alone x₀ (place-mem 0 r first h)) (behind-in from (w .0) (w .1)) (sym (w .2))
+      new z m = let w = Memᴰ·of-map (s x₀) (drop from l) m in further x₀ (w .0) z (g .products-alone x₀ (place-mem 0 r first h)) (after-in from (w .0) (w .1)) (sym (w .2))
 
       products : (i y : ℕ) → i < first + 1 → List·Memᴰ y l → List·Memᴰ (s (getD r i 0) y) (addingAll r more)
       products i y hi m = go (equal-or-not i first)
@@ -200,7 +200,7 @@ module _ (s : Product) (l : List ℕ) where
           go : (i ≡ first) ⊎ (i ≡ first → ⊥) → List·Memᴰ (s (getD r i 0) y) (addingAll r more)
           go (inl e) =
               Memᴰ·cast (ap (λ (k : ℕ). s (getD r k 0) y) e)
-              (⊎-elim (λ k. all-keeps r more (s x₀ y) (before y k)) (λ k. all-holds r more (s x₀ y) (Memᴰ·map (s x₀) k)) (before-or-behind from y m))
+              (⊎-elim (λ k. all-keeps r more (s x₀ y) (before y k)) (λ k. all-holds r more (s x₀ y) (Memᴰ·map (s x₀) k)) (before-or-after from y m))
           go (inr ne) = all-keeps r more (s (getD r i 0) y) (g .multiplied i y (omega arith) m)
 
   -- An element that was found before is multiplied with the last entry.
@@ -303,7 +303,7 @@ next-generator n s l counts found marks count x small e f r =
     mark y = ap (λ (m : List ℕ). getD m y 0) (f .held .marked)
 
 pub first-none : (n : ℕ) (s : Product) → RarestFirst n s (replicate 30 0) 0
-first-none n s = record { entries = λ k h. absurd (let z : ⊥ = omega arith in z); zeros-behind = λ k h. getD-zeros 30 k }
+first-none n s = record { entries = λ k h. absurd (let z : ⊥ = omega arith in z); zeros-after = λ k h. getD-zeros 30 k }
 
 module _ {n : ℕ} {s : Product} {list : List ℕ} {k : ℕ} (c : RarestFirst n s list k) where
   pub chosen-inside : Inside n (take k list)
@@ -313,10 +313,10 @@ module _ {n : ℕ} {s : Product} {list : List ℕ} {k : ℕ} (c : RarestFirst n 
       let low : w .0 < k = ⊎-elim (λ (h : length list ≤ k). omega (arith, ap length (take-all k list h))) (λ (h : k < length list). omega (arith, length-take-le k list (omega arith))) (at-most-or-above (length list) k) in
       subst (Element n) (sym (getD-take k list (w .0) 0 low) ∙ w .2) (c .entries (w .0) low .element)
 
-  -- An entry is written behind the first k.
+  -- An entry is written after the first k.
   module _ (x : ℕ) (b : k < length list) (r : Rarest n (frequency n s) (λ y. LeftProduct s (take k list) y → ⊥) x) where
     pub chosen-next : RarestFirst n s (set list k x) (k + 1)
-    chosen-next = record { entries = at; zeros-behind = λ i h. getD-set-other list k i x 0 (λ e. let z : ⊥ = omega arith in z) ∙ c .zeros-behind i (omega arith) }
+    chosen-next = record { entries = at; zeros-after = λ i h. getD-set-other list k i x 0 (λ e. let z : ⊥ = omega arith in z) ∙ c .zeros-after i (omega arith) }
       where
         at : (i : ℕ) → i < k + 1 → Rarest n (frequency n s) (λ y. LeftProduct s (take i (set list k x)) y → ⊥) (getD (set list k x) i 0)
         at i h = go (equal-or-not i k)

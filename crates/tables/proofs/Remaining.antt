@@ -8,12 +8,12 @@ use Prim.Native.Nat.{ℕ, zero, suc, _+_, _≤_, _<_}
 use native.Mathlib.Omega.{arith}
 use Rattle.semigroups.specs.Lists.{find, lists}
 use Rattle.semigroups.specs.Tables.{Element}
-use Rattle.semigroups.proofs.Completions.{orElse-assoc, orElse-nothing, findBehind, find-all, find-whole, find-entry, firstFrom, first-start, first-step, first-end}
+use Rattle.semigroups.proofs.Completions.{orElse-assoc, orElse-nothing, findExtension, find-all, find-whole, find-entry, firstFrom, first-start, first-step, first-end}
 
 module _ (test : List ℕ → Bool) (n : ℕ) where
   -- The answers for the next entry y.
   abbrev entry : ℕ → List ℕ → ℕ → Option (List ℕ)
-  entry d p y = findBehind test n d (p ++ y ∷ [])
+  entry d p y = findExtension test n d (p ++ y ∷ [])
 
   unfoldable pub remaining : ℕ → List ℕ → ℕ → Option (List ℕ) → Option (List ℕ)
   remaining d p x rest = orElse (firstFrom (entry d p) n x) rest
@@ -28,7 +28,7 @@ module _ (test : List ℕ → Bool) (n : ℕ) where
   step d p x rest h =
       ap (λ (o : Option (List ℕ)). orElse o rest) (first-step (entry d p) n x h) ∙ orElse-assoc (entry d p x) (firstFrom (entry d p) n (x + 1)) rest
 
-  -- The loop over the entry behind x begins.
+  -- The loop over the entry after x begins.
   pub enter : (d : ℕ) (p : List ℕ) (x : ℕ) (rest : Option (List ℕ)) → x ≤ n → remaining (suc d) p x rest ≡ remaining d (p ++ x ∷ []) 1 (remaining (suc d) p (x + 1) rest)
   enter d p x rest h =
       step (suc d) p x rest h
@@ -41,14 +41,14 @@ module _ (test : List ℕ → Bool) (n : ℕ) where
       step 0 p x rest h
       ∙ ap (λ (o : Option (List ℕ)). orElse o (remaining 0 p (x + 1) rest)) (find-whole test n (p ++ x ∷ []) ∙ ap {B = Option (List ℕ)} (λ (t : Bool). cond t (some (p ++ x ∷ [])) none) e)
 
-  -- A list that does not pass is left behind; one that does is the answer.
+  -- A list that does not pass is skipped; one that does is the answer.
   pub pass : (p : List ℕ) (x : ℕ) (rest : Option (List ℕ)) → x ≤ n → test (p ++ x ∷ []) ≡ false → remaining 0 p x rest ≡ remaining 0 p (x + 1) rest
   pass p x rest h e = last p x rest false h e ∙ (unfold orElse in refl)
 
   pub hit : (p : List ℕ) (x : ℕ) (rest : Option (List ℕ)) → x ≤ n → test (p ++ x ∷ []) ≡ true → remaining 0 p x rest ≡ some (p ++ x ∷ [])
   hit p x rest h e = last p x rest true h e ∙ (unfold orElse in refl)
 
-  -- The values up to k are left behind together.
+  -- The values up to k are skipped together.
   pub skip : (p : List ℕ) (rest : Option (List ℕ)) (k : ℕ) → k ≤ n → ((x : ℕ) → Element k x → test (p ++ x ∷ []) ≡ false) → remaining 0 p 1 rest ≡ remaining 0 p (k + 1) rest
   skip p rest zero h e = refl
   skip p rest (suc k) h e =

@@ -53,7 +53,7 @@ module _ (test : List ℕ → Bool) (n : ℕ) where
   unfolding fromTriple
   triples-skip i j m h e = skip test n (i ∷ j ∷ []) (fromPair i (j + 1)) m h e
 
-  -- A pair whose triples do not pass is left behind.
+  -- A pair whose triples do not pass is skipped.
   pub pair-skip : (i j : ℕ) → j ≤ n → ((k : ℕ) → Element n k → test (i ∷ j ∷ k ∷ []) ≡ false) → fromPair i j ≡ fromPair i (j + 1)
   pair-skip i j h e = pair-enter i j h ∙ triples-skip i j n (omega arith) e ∙ triple-leave i j (n + 1) (omega arith)
 

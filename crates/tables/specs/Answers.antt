@@ -4,7 +4,7 @@ use mathlib.Core.List.{[], _∷_}
 use mathlib.Core.Option.{Option, none, some}
 use Prim.Native.Nat.{ℕ}
 use lib.ListN.{getD}
-use Rattle.semigroups.specs.Questions.{Refusal, sideOf}
+use Rattle.semigroups.specs.Questions.{Refusal}
 use Rattle.semigroups.specs.QuestionsLaws.{no, naming}
 use Rattle.semigroups.specs.Calls.{Answer, refused, gives}
 use Rattle.tables.specs.declared.Fault.{Fault}
@@ -65,7 +65,7 @@ placeOption Nowhere = none
 
 -- The number, the side and three values, with 0 for those that the refusal does not carry.
 abbrev pub refusalNumbers : Refusal → Numbers
-refusalNumbers r = record { number = r .number; side = sideOf (r .side); first = getD (r .values) 0 0; second = getD (r .values) 1 0; third = getD (r .values) 2 0 }
+refusalNumbers r = record { number = r .number; side = r .side; first = getD (r .values) 0 0; second = getD (r .values) 1 0; third = getD (r .values) 2 0 }
 
 -- These numbers with another side.
 abbrev pub numbersNaming : ℕ → Numbers → Numbers

@@ -40,7 +40,7 @@ NextGenerator n s l x = RarestOrNone n (frequency n s) (λ y. LeftProduct s l y 
 -- The first `count` entries of the list are such generators, each the next one after those before it; zeros follow.
 pub record RarestFirst (n : ℕ) (s : Product) (list : List ℕ) (count : ℕ) : Type 0 where
   pub entries : (k : ℕ) → k < count → Rarest n (frequency n s) (λ y. LeftProduct s (take k list) y → ⊥) (getD list k 0)
-  pub zeros-behind : (k : ℕ) → count ≤ k → getD list k 0 ≡ 0
+  pub zeros-after : (k : ℕ) → count ≤ k → getD list k 0 ≡ 0
 
 -- The generators chosen. They are complete if every element is a product of them; if they are not, there are n / 4 of them, and some element is not a product
 -- of them.

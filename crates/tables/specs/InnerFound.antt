@@ -5,6 +5,7 @@ use mathlib.Core.Bool.{cond}
 use mathlib.Core.List.{List, [], _∷_, _++_, map}
 use Prim.Native.Nat.{ℕ, _-_}
 use lib.ListN.{length, replicate}
+use Rattle.semigroups.specs.Tables.{largestOrder}
 use Rattle.semigroups.specs.Lists.{range, member}
 use Rattle.semigroups.specs.ListsLaws.{NoRepeats}
 use Rattle.semigroups.specs.GeneratedLaws.{Inside}
@@ -27,5 +28,5 @@ pub record Found (r found marks : List ℕ) (count : ℕ) : Type 0 where
   pub listed : found ≡ r ++ replicate (120 - length r) 0
   pub marked : marks ≡ indicator r
   pub counted : count ≡ length r
-  pub inside : Inside 120 r
+  pub inside : Inside largestOrder r
   pub no-repeats : NoRepeats r

@@ -1,7 +1,7 @@
 // How often each element of a table stands among its cells.
 ghost use mathlib.Core.Path.{_≡_};
-ghost use Prim.Native.Nat.{_≤_};
-ghost use Rattle.semigroups.specs.Tables.{Filled, product};
+ghost use Prim.Native.Nat.{_*_, _≤_};
+ghost use Rattle.semigroups.specs.Tables.{largestOrder, Filled, product};
 ghost use Rattle.semigroups.specs.Invariants.{frequency};
 ghost use Rattle.tables.specs.InnerCounting.{occurrences, InRange};
 ghost use Rattle.tables.specs.InnerPerElement.{perElement};
@@ -9,7 +9,7 @@ ghost use Rattle.tables.specs.InnerPerElement.{perElement};
 // Returns how often each element stands among k cells: the first, and then each that is `step` cells after the one before. The count of element a stands at
 // place a - 1; zeros follow.
 pub fn tally(cells: &[u8], n: usize, k: usize, step: usize) -> [u16; 120]
-    requires { ⌜ Filled n (now cells) ⌝ ∗ ⌜ InRange k step (now cells) ⌝ ∗ ⌜ k ≤ 14400 ⌝ }
+    requires { ⌜ Filled n (now cells) ⌝ ∗ ⌜ InRange k step (now cells) ⌝ ∗ ⌜ k ≤ largestOrder * largestOrder ⌝ }
     ensures answer { λ r. ⌜ r ≡ perElement n (λ a. occurrences a step k (now (cells .entry))) ⌝ }
 {
     let mut found = [0u16; 120];

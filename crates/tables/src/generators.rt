@@ -5,7 +5,7 @@ ghost use mathlib.Core.List.{map};
 ghost use Prim.Native.Nat.{_-_, _≤_, _<_};
 ghost use lib.ListN.{length, take, drop, getD};
 ghost use Rattle.semigroups.specs.Lists.{all};
-ghost use Rattle.semigroups.specs.Tables.{Element, Filled, product};
+ghost use Rattle.semigroups.specs.Tables.{largestOrder, Element, Filled, product};
 ghost use Rattle.semigroups.specs.GeneratedLaws.{Inside};
 ghost use Rattle.tables.specs.InnerFound.{adding, addingAll, Found};
 ghost use Rattle.tables.specs.InnerChoice.{FoundProducts, RarestOrNone, Choice, goodMiddle, LightsAnswer};
@@ -18,7 +18,7 @@ use crate::times;
 
 // Adds x to the elements found unless it is among them. Returns how many there are.
 pub fn add(found: &mut [u8; 120], marks: &mut [u8; 121], count: usize, x: usize) -> usize
-    requires { ⌜ Found (take count (now found)) (now found) (now marks) count ⌝ ∗ ⌜ Element 120 x ⌝ }
+    requires { ⌜ Found (take count (now found)) (now found) (now marks) count ⌝ ∗ ⌜ Element largestOrder x ⌝ }
     ensures found { λ r. ⌜ Found (adding (take count (now (found .entry))) x) (now (found .exit)) (now (marks .exit)) r ⌝ }
 {
     if marks[x] != 0 {
@@ -87,7 +87,7 @@ fn reach(
 
 // Returns the rarest element that has no mark, and of those the smallest; or 0 if all have one. The count of element a stands at place a - 1.
 fn rarest(counts: &[u16; 120], marks: &[u8; 121], n: usize) -> usize
-    requires { ⌜ n ≤ 120 ⌝ }
+    requires { ⌜ n ≤ largestOrder ⌝ }
     ensures rarest { λ r. ⌜ RarestOrNone n (λ x. getD (now (counts .entry)) (x - 1) 0) (λ x. getD (now (marks .entry)) x 0 ≡ 0) r ⌝ }
 {
     let mut chosen: usize = 0;

@@ -6,7 +6,7 @@ use borrow.Author.Needs.{needs}
 use lib.ListN.{take}
 use Rattle.semigroups.specs.Tables.{product}
 use Rattle.semigroups.specs.Scratch.{marked}
-use Rattle.semigroups.specs.Trials.{counted}
+use Rattle.semigroups.specs.InnerTrials.{counted}
 use Rattle.backtrack.specs.InnerState.{within, outcomeOf, bounded}
 use Rattle.backtrack.proofs.Extending.{start}
 use Rattle.backtrack.proofs.find_within.Statement.{statement}

@@ -10,7 +10,7 @@ use lib.ListN.{getD, take}
 use Rattle.semigroups.specs.Tables.{Product, product}
 use Rattle.semigroups.specs.Trials.{passes}
 use Rattle.semigroups.proofs.Tables.{product-element}
-use Rattle.constraints.specs.InnerConstraints.{allows, nearFits}
+use Rattle.constraints.specs.InnerConstraints.{permits, nearFits}
 use Rattle.constraints.proofs.Placing.{trial-length}
 use Rattle.constraints.proofs.Noting.{look-refuses}
 use Rattle.constraints.proofs.may_pass.Statement.{statement}
@@ -28,7 +28,7 @@ module _ (z : tie.Start) where
 
   -- What the constraints say of x, and the pairs that are looked at.
   abbrev allowed : Bool
-  allowed = allows (getD (z .args .forced .now) (z .args .len + 1) 0) (z .args .x) && allows (getD (z .args .owner .now) (z .args .x) 0) (z .args .len + 1)
+  allowed = permits (getD (z .args .forced .now) (z .args .len + 1) 0) (z .args .x) && permits (getD (z .args .owner .now) (z .args .x) 0) (z .args .len + 1)
 
   abbrev near : Bool
   near = nearFits s t (f ++ z .args .x ∷ [])

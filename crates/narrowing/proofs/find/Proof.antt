@@ -4,7 +4,7 @@ use mathlib.Core.List.{[]}
 use borrow.Author.Needs.{needs}
 use Rattle.semigroups.specs.Tables.{product}
 use Rattle.semigroups.specs.Scratch.{marked}
-use Rattle.semigroups.specs.Trials.{counted}
+use Rattle.semigroups.specs.InnerTrials.{counted}
 use Rattle.semigroups.proofs.Trials.{counted-finds}
 use Rattle.backtrack.specs.InnerState.{foundIn, bounded}
 use Rattle.narrowing.proofs.Budget.{not-stopped}

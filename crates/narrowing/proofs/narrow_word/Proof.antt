@@ -10,7 +10,7 @@ use lib.Count.{trailingZeros, trailing-le}
 use lib.Pow.{shr-le, pow-mono}
 use Rattle.semigroups.specs.Tables.{product}
 use Rattle.rows.specs.InnerRows.{word}
-use Rattle.rows.proofs.Words.{kept, jump, done, hit, behind, word-more, word-as-was, word-below}
+use Rattle.rows.proofs.Words.{kept, jump, done, hit, following, word-more, word-as-was, word-below}
 use Rattle.narrowing.specs.InnerRows.{stays}
 use Rattle.narrowing.proofs.narrow_word.Statement.{statement}
 use Rattle.narrowing.proofs.narrow_word.Tie as tie
@@ -115,7 +115,7 @@ loop-again c =
     let a = start (turn e) .args in
     let b = e .before .if1 .left in (
       omega arith,
-      behind (a .old) (a .from) (test (turn e)) (l .k) (l .rest) (l .inv .1) (trailingZeros 64 (l .rest)),
+      following (a .old) (a .from) (test (turn e)) (l .k) (l .rest) (l .inv .1) (trailingZeros 64 (l .rest)),
       ⊎-elim (λ h. h .1 ∙ more e (h .0 .taken)) (λ h. h .1 ∙ word-as-was (kept (a .old) (a .from) (test (turn e))) (a .from) (place (turn e)) (l .w) (so-far (turn e)) (passes e ∙ h .0 .left)) (c .if2 .came),
     )
 

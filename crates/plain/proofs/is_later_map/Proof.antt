@@ -5,11 +5,12 @@ use mathlib.Core.List.{List}
 use Prim.Native.Nat.{ℕ}
 use denote.Ref.{now}
 use lib.ListN.{take}
+use Rattle.semigroups.specs.InnerSearch.{plainKind}
 use Rattle.semigroups.specs.Lists.{earlier}
 use Rattle.semigroups.specs.TablesLaws.{IsList}
 use Rattle.semigroups.specs.Tables.{product}
 use Rattle.semigroups.specs.Maps.{isMap}
-use Rattle.plain.specs.InnerEnumeration.{numbered, plainKind}
+use Rattle.plain.specs.InnerEnumeration.{numbered}
 use Rattle.plain.proofs.Fronts.{front-read, front-list}
 use borrow.Author.Needs.{needs}
 use Rattle.plain.proofs.is_later_map.Statement.{statement}

@@ -6,9 +6,10 @@ use Prim.Native.Nat.{ℕ, _-_, _^_, _<_}
 use native.Mathlib.Omega.{arith}
 use denote.Ref.{now}
 use lib.ListN.{length}
+use Rattle.semigroups.specs.InnerSearch.{plainKind}
+use Rattle.semigroups.specs.Lists.{isSome}
 use Rattle.semigroups.specs.Tables.{product}
 use Rattle.semigroups.specs.Maps.{maps, next, earliest}
-use Rattle.plain.specs.InnerEnumeration.{isFound, plainKind}
 use Rattle.plain.proofs.Enumeration.{remaining, search-begin, search-skip, search-hit, search-end, drawn, drawn-list}
 use Rattle.plain.proofs.Earliest.{later, earliest-later}
 use Rattle.plain.proofs.next_map.Statement.{statement}
@@ -62,7 +63,7 @@ returns c =
     let inside = c .before .before .before .before .before .before in
     let h = inside .before in
     let hit = h .loop .inv .1 ∙ search-hit _ _ _ _ (below inside) (sym (c .before .before .before .before .before .is-later-map .ensures) ∙ c .before .before .before .before .if1 .taken) in
-    (ap isFound (sym hit), drawn _ _ _ _ _ (whole h) (c .before .before .write-list .ensures) ∙ ap (λ (o : Option (List ℕ)). Option·getD o (now (start-of h .args .map))) (sym hit))
+    (ap isSome (sym hit), drawn _ _ _ _ _ (whole h) (c .before .before .write-list .ensures) ∙ ap (λ (o : Option (List ℕ)). Option·getD o (now (start-of h .args .map))) (sym hit))
 
 add-k : tie.Need-add-k Inv-loop μ-loop
 add-k c = omega (arith, c .before .before .loop-test .taken)
@@ -83,7 +84,7 @@ returns-2 c =
     let h = c .before in
     let total = h .before .number-of-lists .ensures in
     let end = h .loop .inv .1 ∙ search-end _ _ _ _ (omega arith) in
-    (ap isFound (sym end), h .loop .inv .0 ∙ ap (λ (o : Option (List ℕ)). Option·getD o (now (start-of h .args .map))) (sym end))
+    (ap isSome (sym end), h .loop .inv .0 ∙ ap (λ (o : Option (List ℕ)). Option·getD o (now (start-of h .args .map))) (sym end))
 
 pub next-map-spec : {M : Type 1} → statement M
 next-map-spec =

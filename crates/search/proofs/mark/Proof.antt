@@ -4,16 +4,16 @@ use mathlib.Core.Bool.{Bool}
 use mathlib.Core.List.{List}
 use Prim.Native.Nat.{ℕ}
 use borrow.Author.Needs.{needs}
+use Rattle.semigroups.specs.InnerSearch.{plainKind}
 use Rattle.semigroups.specs.Tables.{product}
 use Rattle.semigroups.specs.InnerCalls.{scratchAfter}
 use Rattle.semigroups.specs.Candidates.{candidate}
-use Rattle.search.specs.InnerSearching.{straight}
 use Rattle.search.proofs.mark.Statement.{statement}
 use Rattle.search.proofs.mark.Tie as tie
 
 -- Scratch with the marks of a kind.
 abbrev filled : tie.Start → Bool → List ℕ
-filled z onto = let a = z .args in scratchAfter (a .m) (a .n) (candidate (straight onto) (a .m) (product (a .m) (a .source .now)) (a .n) (product (a .n) (a .target .now))) (a .scratch .now)
+filled z onto = let a = z .args in scratchAfter (a .m) (a .n) (candidate (plainKind onto) (a .m) (product (a .m) (a .source .now)) (a .n) (product (a .n) (a .target .now))) (a .scratch .now)
 
 fill-isomorphisms-requires : tie.Need-fill-isomorphisms-requires
 fill-isomorphisms-requires c κs = search needs

@@ -2,16 +2,15 @@
 use mathlib.Core.Path.{_≡_, refl, sym, ap, _∙_}
 use mathlib.Core.Bool.{Bool}
 use mathlib.Core.List.{List}
-use mathlib.Core.Option.{Option, none}
+use mathlib.Core.Option.{Option, none, Option·getD}
 use Prim.Native.Nat.{ℕ}
 use borrow.Author.Tests.{not-true, not-false}
 use borrow.Author.Needs.{needs}
-use Rattle.semigroups.specs.Calls.{mapUnless}
+use Rattle.semigroups.specs.InnerSearch.{plainKind}
 use Rattle.semigroups.specs.Maps.{Sought}
 use Rattle.semigroups.specs.Trials.{work, ended}
 use Rattle.backtrack.specs.InnerState.{bounded}
 use Rattle.search.specs.Kinds.{orderFits}
-use Rattle.search.specs.InnerSearching.{straight}
 use Rattle.search.specs.Calls.{Lent, lend}
 use Rattle.search.proofs.Searching.{no-work, as-searched}
 use Rattle.search.proofs.Works.{work-unfit, work-marked}
@@ -26,7 +25,7 @@ module _ (c : tie.After-order-fits) where
   abbrev lent : Lent
   lent = let a = start .args in lend (a .source .now) (a .m) (a .target .now) (a .n) (a .map .now) (a .scratch .now)
 
-  fits : {b : Bool} → c .order-fits .result ≡ b → orderFits (straight (start .args .onto)) (start .args .m) (start .args .n) ≡ b
+  fits : {b : Bool} → c .order-fits .result ≡ b → orderFits (plainKind (start .args .onto)) (start .args .m) (start .args .n) ≡ b
   fits e = sym (c .order-fits .ensures) ∙ e
 
 mark-requires : tie.Need-mark-requires
@@ -43,8 +42,8 @@ returns c =
     let k = c .before in
     let a = start k .args in
     let nothing = no-work (a .limit) in
-    as-searched (straight (a .onto)) (a .next) (a .limit) (lent k) (a .limit) refl (work none 0) (work-unfit (straight (a .onto)) (bounded (a .next) (a .map .now)) (a .m) (a .source .now) (a .n) (a .target .now) (fits k (not-true (k .order-fits .result) (c .if1 .taken))))
-    (nothing .0) (ap (λ (o : Option (List ℕ)). mapUnless none o (a .map .now)) (nothing .1)) (k .before .before .before .mark .ensures)
+    as-searched (plainKind (a .onto)) (a .next) (a .limit) (lent k) (a .limit) refl (work none 0) (work-unfit (plainKind (a .onto)) (bounded (a .next) (a .map .now)) (a .m) (a .source .now) (a .n) (a .target .now) (fits k (not-true (k .order-fits .result) (c .if1 .taken))))
+    (nothing .0) (ap (λ (o : Option (List ℕ)). Option·getD o (a .map .now)) (nothing .1)) (k .before .before .before .mark .ensures)
 
 enum-told : tie.Need-enum-told
 enum-told c = search needs
@@ -71,7 +70,7 @@ returns-2 c =
     let filled = k .before .before .before .mark .ensures in
     let w = work-marked (a .onto) (a .next) (a .m) (a .source .now) (a .n) (a .target .now) (a .map .now) (a .scratch .now) _ filled (fits k (not-false (k .order-fits .result) (c .before .before .before .before .before .before .before .if1 .left))) in
     let e = c .before .before .find-marked .ensures in
-    as-searched (straight (a .onto)) (a .next) (a .limit) (lent k) _ (c .before .before .before .before .before .enum-told .given .1) _ w (ap (λ (o : Sought). ended o 0) (e .0)) (e .1) filled
+    as-searched (plainKind (a .onto)) (a .next) (a .limit) (lent k) _ (c .before .before .before .before .before .enum-told .given .1) _ w (ap (λ (o : Sought). ended o 0) (e .0)) (e .1) filled
 
 same-length-4 : tie.Need-same-length-4
 same-length-4 c = search needs
@@ -86,7 +85,7 @@ returns-3 c =
     let filled = k .before .before .before .mark .ensures in
     let w = work-marked (a .onto) (a .next) (a .m) (a .source .now) (a .n) (a .target .now) (a .map .now) (a .scratch .now) _ filled (fits k (not-false (k .order-fits .result) (c .before .before .before .before .before .before .before .before .if1 .left))) in
     let e = c .before .before .find-marked-within .ensures in
-    as-searched (straight (a .onto)) (a .next) (a .limit) (lent k) _ (c .before .before .before .before .before .before .limit .given .1) _ w (e .0) (e .1) filled
+    as-searched (plainKind (a .onto)) (a .next) (a .limit) (lent k) _ (c .before .before .before .before .before .before .limit .given .1) _ w (e .0) (e .1) filled
 
 pub search-straight-spec : {M : Type 1} → statement M
 search-straight-spec =

@@ -11,7 +11,7 @@ use lib.ListN.{length, drop}
 use denote.Ref.{now}
 use borrow.Author.Needs.{needs}
 use borrow.Author.Tests.{not-true, not-false}
-use Rattle.csv.specs.InnerCursor.{digits, commaBehind}
+use Rattle.csv.specs.InnerCursor.{digits, commaFollows}
 use Rattle.csv.specs.QuestionsLaws.{fieldRefusal}
 use Rattle.text.specs.declared.Field.{Field}
 use Rattle.text.specs.InnerFields.{fieldAt}
@@ -92,7 +92,7 @@ loop-again : tie.Need-loop-again Inv-loop μ-loop
 loop-again c =
     let x = c .before .before .before in
     let f = field x in
-    let comma : commaBehind (text-of x) (at-loop x .loop .at) ≡ false = sym (ap (λ (r : Field). r .comma) f) ∙ not-true _ (c .before .if1 .taken) in
+    let comma : commaFollows (text-of x) (at-loop x .loop .at) ≡ false = sym (ap (λ (r : Field). r .comma) f) ∙ not-true _ (c .before .if1 .taken) in
     rw f
     (⊎-elim (λ w. rw (w .1) (judge-uneven (inv x) (goes-on x) (passes x) comma (w .0 .taken)))
     (λ w. rw (w .1) (judge-break (inv x) (goes-on x) (passes x) comma (w .0 .left)))

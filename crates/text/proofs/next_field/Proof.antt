@@ -4,7 +4,7 @@ use mathlib.Core.Bool.{Bool}
 use mathlib.Core.List.{List}
 use Prim.Native.Nat.{ℕ}
 use native.Mathlib.Omega.{arith}
-use Rattle.csv.proofs.Fields.{Goes, end-inside, nothing-behind, comma-behind, break-behind}
+use Rattle.csv.proofs.Fields.{Goes, end-inside, nothing-follows, comma-follows, break-follows}
 use Rattle.text.specs.declared.Field.{Field}
 use Rattle.text.specs.InnerFields.{fieldAt}
 use denote.Ref.{now}
@@ -23,7 +23,7 @@ add-t6 : tie.Need-add-t6
 add-t6 c = let s = c .before .before .before in omega (arith, end-inside (now (s .args .text)) (s .args .at) (s .pre))
 
 returns : tie.Need-returns
-returns c = goes (nothing-behind _ _ (c .before .digits-end .ensures) (c .if1 .taken))
+returns c = goes (nothing-follows _ _ (c .before .digits-end .ensures) (c .if1 .taken))
 
 shared-slice-read-if2 : tie.Need-shared-slice-read-if2
 shared-slice-read-if2 c = search needs
@@ -32,7 +32,7 @@ add-t9 : tie.Need-add-t9
 add-t9 c = search needs
 
 returns-2 : tie.Need-returns-2
-returns-2 c = goes (comma-behind _ _ (c .before .before .before .digits-end .ensures) (c .if2 .taken))
+returns-2 c = goes (comma-follows _ _ (c .before .before .before .digits-end .ensures) (c .if2 .taken))
 
 add-t4 : tie.Need-add-t4
 add-t4 c = search needs
@@ -41,7 +41,7 @@ add-t10 : tie.Need-add-t10
 add-t10 c = search needs
 
 returns-3 : tie.Need-returns-3
-returns-3 c = goes (break-behind _ _ (c .before .before .before .digits-end .ensures) (c .if2 .left))
+returns-3 c = goes (break-follows _ _ (c .before .before .before .digits-end .ensures) (c .if2 .left))
 
 pub next-field-spec : {M : Type 1} → statement M
 next-field-spec =

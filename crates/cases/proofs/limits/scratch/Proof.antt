@@ -6,7 +6,7 @@ use Rattle.semigroups.specs.Lists.{range, elements, at, all, find, keep, member
 use Rattle.semigroups.specs.Tables.{product, grid, isElement, associates, badCell, badTriple}
 use Rattle.semigroups.specs.QuestionsLaws.{cellsRefusal, tablesRefusal}
 use Rattle.semigroups.specs.Questions.{tableRefusal, checkRefusal, searchRefusal}
-use Rattle.semigroups.specs.Scratch.{packedByte, scratchSize, pairMarks, marks}
+use Rattle.semigroups.specs.Scratch.{packedByte, scratchSize, marks}
 use Rattle.semigroups.specs.InnerCalls.{scratchAfter}
 use Rattle.semigroups.specs.Invariants.{power, periodFrom, index, period, indexPeriod, sameIndexPeriod}
 use Rattle.semigroups.specs.Candidates.{candidate}
@@ -20,7 +20,7 @@ use Rattle.cases.proofs.limits.scratch.Statement.{statement}
 use Rattle.cases.proofs.limits.scratch.Tie as tie
 
 both : embeddedTally 1 100 (2 ∷ 3 ∷ []) (75 ∷ 255 ∷ 255 ∷ []) (embeddedTally 0 6 (0 ∷ 0 ∷ []) (255 ∷ 255 ∷ 255 ∷ []) empty) ≡ agreed 6 empty
-unfolding agreed range elements at find keep all member distinct sum count least lists packedByte pairMarks marks product grid isElement associates badCell badTriple firstOf cellsRefusal tableRefusal tablesRefusal checkRefusal searchRefusal scratchSize scratchAfter power periodFrom index period indexPeriod sameIndexPeriod candidate isHomomorphism isEmbedding maps earliest call sameList orElse flatMap
+unfolding agreed range elements at find keep all member distinct sum count least lists packedByte marks product grid isElement associates badCell badTriple firstOf cellsRefusal tableRefusal tablesRefusal checkRefusal searchRefusal scratchSize scratchAfter power periodFrom index period indexPeriod sameIndexPeriod candidate isHomomorphism isEmbedding maps earliest call sameList orElse flatMap
 both = refl
 
 start-requires : tie.Need-start-requires

@@ -8,10 +8,10 @@ use native.Mathlib.Omega.{arith}
 use mathlib.Core.List.{_++_}
 use denote.Ref.{now}
 use Rattle.comparisons.specs.InnerSaid.{saidNumber}
-use Rattle.comparisons.specs.InnerWalking.{called}
+use Rattle.comparisons.specs.InnerWalking.{walkCall}
 use lib.ListN.{length, drop}
 use lib.Seq.{length-take-le}
-use Rattle.comparisons.proofs.Walking.{behind, behind-next, behind-zeros, behind-long, second-says, second-map}
+use Rattle.comparisons.proofs.Walking.{following, after-next, after-zeros, after-long, second-says, second-map}
 use borrow.Author.Needs.{needs}
 use Rattle.comparisons.proofs.walk.expected.Statement.{statement}
 use Rattle.comparisons.proofs.walk.expected.Tie as tie
@@ -27,15 +27,15 @@ module _ (c : tie.Joined1) where
   abbrev start : tie.Start
   start = c .before .before .before
 
-  -- What the search looks behind.
-  after-is : c .if1 .after ≡ behind (start .args .next) (start .args .before)
+  -- The bytes after which the search looks.
+  after-is : c .if1 .after ≡ following (start .args .next) (start .args .before)
   after-is =
-      ⊎-elim (λ w. w .1 ∙ behind-next (start .args .next) (start .args .before) (w .0 .taken))
-      (λ w. w .1 ∙ behind-zeros (start .args .next) (start .args .before) (w .0 .left)) (c .if1 .came)
+      ⊎-elim (λ w. w .1 ∙ after-next (start .args .next) (start .args .before) (w .0 .taken))
+      (λ w. w .1 ∙ after-zeros (start .args .next) (start .args .before) (w .0 .left)) (c .if1 .came)
 
   after-room : start .args .m ≤ length (c .if1 .after)
   after-room =
-      let e = ap length after-is ∙ behind-long (start .args .next) (start .args .before) (before-long start) in
+      let e = ap length after-is ∙ after-long (start .args .next) (start .args .before) (before-long start) in
       let h = start .pre .1 .1 .0 in
       omega arith
 
@@ -44,13 +44,13 @@ module _ (c : tie.After-next-map) where
   abbrev joined : tie.Joined1
   joined = c .before .before .before
 
-  says : saidNumber (called (start joined .args .isomorphisms) (start joined .args .next) (now (start joined .args .source)) (start joined .args .m) (now (start joined .args .target)) (start joined .args .n) (start joined .args .before) .says) ≡ cond (c .next-map .result) 100 0
+  says : saidNumber (walkCall (start joined .args .isomorphisms) (start joined .args .next) (now (start joined .args .source)) (start joined .args .m) (now (start joined .args .target)) (start joined .args .n) (start joined .args .before) .says) ≡ cond (c .next-map .result) 100 0
   says =
       let s = start joined in
       let a = s .args in
       second-says (a .isomorphisms) (a .next) (now (a .source)) (a .m) (now (a .target)) (a .n) (a .before) (s .pre .0) (s .pre .1 .0) (s .pre .1 .1 .0) (s .pre .1 .1 .1) (before-long s) (joined .if1 .after) (after-is joined) (c .next-map .result) (c .next-map .ensures .0)
 
-  left : c .next-map .last .1 .1 .1 .1 .1 .1 .0 ++ drop (start joined .args .m) (start joined .args .before) ≡ called (start joined .args .isomorphisms) (start joined .args .next) (now (start joined .args .source)) (start joined .args .m) (now (start joined .args .target)) (start joined .args .n) (start joined .args .before) .mapBytes ++ drop (start joined .args .m) (start joined .args .before)
+  left : c .next-map .last .1 .1 .1 .1 .1 .1 .0 ++ drop (start joined .args .m) (start joined .args .before) ≡ walkCall (start joined .args .isomorphisms) (start joined .args .next) (now (start joined .args .source)) (start joined .args .m) (now (start joined .args .target)) (start joined .args .n) (start joined .args .before) .mapBytes ++ drop (start joined .args .m) (start joined .args .before)
   left =
       let s = start joined in
       let a = s .args in
