@@ -103,35 +103,34 @@ impl Partial {
         p
     }
 
-    // Tests the newest element: returns whether the list placed passes, given that it passes without that element, and the map with the pairs of that element
-    // noted in the constraints.
+    // Tests the newest element: returns whether the list placed passes, given that it passes without that element, and the map. If the list passes, the pairs of
+    // that element are noted in the constraints; if it does not, the map is handed back as it was.
     fn test(self, source: &[u8], m: usize, target: &[u8], n: usize) -> Tested
         requires { ⌜ Filled m (now source) × Filled n (now target) ⌝ }
         requires { ⌜ Placing n (self .image) (self .used) (self .len) × Element m (self .len) ⌝ }
         requires { ⌜ Tracks (product m (now source)) (product n (now target)) (take (self .len - 1) (self .image)) (self .len - 1) 0 (self .forced) (self .owner) × (passes (product m (now source)) (product n (now target)) (take (self .len - 1) (self .image)) ≡ true) ⌝ }
         ensures answer { λ r. ⌜ r .ok ≡ passes (product m (now (source .entry))) (product n (now (target .entry))) (prefix self) ⌝ }
-        ensures holds { λ r. ⌜ Holds (product m (now (source .entry))) n (product n (now (target .entry))) (r .partial) ⌝ }
+        ensures holds { λ r. ⌜ (r .ok ≡ true → Holds (product m (now (source .entry))) n (product n (now (target .entry))) (r .partial)) ⌝ }
         ensures same { λ r. ⌜ (r .partial .image ≡ self .image) × (r .partial .len ≡ self .len) ⌝ }
+        ensures refused { λ r. ⌜ (r .ok ≡ false → r .partial ≡ self) ⌝ }
     {
         let len = self.len;
+        let before = len - 1;
+        let x = self.image[before] as usize;
+        let image = &self.image;
+        let used = &self.used;
+        let forced = &self.forced;
+        let owner = &self.owner;
+        if !constraints::passes_with(source, m, target, n, image, used, forced, owner, before, x) {
+            return Tested {
+                ok: false,
+                partial: self,
+            };
+        }
         let image = self.image;
         let used = self.used;
         let mut forced = self.forced;
         let mut owner = self.owner;
-        let before = len - 1;
-        let x = image[before] as usize;
-        let ok = constraints::passes_with(
-            source,
-            m,
-            target,
-            n,
-            &image,
-            &used,
-            &forced,
-            &owner,
-            before,
-            x,
-        );
         constraints::note_newest(source, m, target, n, &image, &mut forced, &mut owner, len);
         let partial = Partial {
             image,
@@ -140,7 +139,7 @@ impl Partial {
             owner,
             len,
         };
-        Tested { ok, partial }
+        Tested { ok: true, partial }
     }
 }
 
@@ -219,12 +218,12 @@ fn extend(
                 return no_map(true, 0);
             }
             left = paid.left;
-            // The image is looked at by reference first, so that one that does not fit costs no copy of the map. The test decides.
+            // A look by reference, of constant time, spares most images that do not fit the copies of the map. The test decides.
             let image = &p.image;
             let used = &p.used;
             let forced = &p.forced;
             let owner = &p.owner;
-            if constraints::passes_with(source, m, target, n, image, used, forced, owner, at, x) {
+            if constraints::may_pass(source, m, target, n, image, used, forced, owner, at, x) {
                 let q = p.place(n, x).test(source, m, target, n);
                 if q.ok {
                     let same = x == low;

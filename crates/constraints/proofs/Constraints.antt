@@ -4,8 +4,8 @@ use mathlib.Core.Path.{_≡_, refl, sym, ap, ap₂, subst, _∙_}
 use mathlib.Core.Logic.{_⊎_, inl, inr, ⊎-elim}
 use mathlib.Core.Bool.{Bool, true, false, cond, not, _&&_, _||_, and-true, and-false, or-true, or-false, or-assoc}
 use mathlib.Core.List.{List, [], _∷_, _++_, List·Memᴰ}
-use Prim.Native.Nat.{ℕ, suc, _+_, _-_, _≤_, _<_}
-use native.Mathlib.Nat.{eq-or-lt-of-le}
+use Prim.Native.Nat.{ℕ, suc, _+_, _-_, _≤_, _<_, max}
+use native.Mathlib.Nat.{eq-or-lt-of-le, le-max-left, max-le}
 use native.Mathlib.Omega.{arith}
 use borrow.Author.Tests.{eqb-true, eqb-false, eq-eqb, ne-eqb, le-leb, lt-leb, leb-true, leb-false, not-true}
 use lib.Dec.{eqb, leb}
@@ -19,12 +19,12 @@ use Rattle.semigroups.proofs.Booleans.{clash, untrue, same-truth, both, and-lef
 use Rattle.semigroups.proofs.Lists.{each-at, each-of, pairs-at, pairs-of, at-front, at-seam, length-snoc, not-member}
 use Rattle.semigroups.proofs.NoRepeats.{place-mem}
 use Rattle.semigroups.proofs.Completions.{allFrom, all-step}
-use Rattle.constraints.specs.InnerConstraints.{permits, merge, askedAt, imageProduct, asks, agreeOn, cross, newFits, Reads}
+use Rattle.constraints.specs.InnerConstraints.{permits, merge, askedAt, imageProduct, asks, agreeOn, cross, newFits, nearFits, Reads}
 
 -- ---- one more value asked
 
-merge-allows : (v y₀ y : ℕ) → 1 ≤ y₀ → y ≤ 120 → permits (merge v y₀) y ≡ (permits v y && eqb y₀ y)
-merge-allows v y₀ y lo hi =
+merge-permits : (v y₀ y : ℕ) → 1 ≤ y₀ → y ≤ 120 → permits (merge v y₀) y ≡ (permits v y && eqb y₀ y)
+merge-permits v y₀ y lo hi =
     elim (eqb v 0) as (λ w. eqb v 0 ≡ w → permits (cond (w || eqb v y₀) y₀ 255) y ≡ ((w || eqb v y) && eqb y₀ y)) [
       | true ↦ (λ _. ap (λ (b : Bool). b || eqb y₀ y) (ne-eqb y₀ 0 (λ e. let z : ⊥ = omega arith in z)))
       | false ↦ (λ z. elim (eqb v y₀) as (λ w. eqb v y₀ ≡ w → permits (cond w y₀ 255) y ≡ (eqb v y && eqb y₀ y)) [
@@ -44,7 +44,7 @@ note-reads constraints q c₀ y₀ l hc hy R c y hc′ hy′ =
           let h = eqb-true c₀ c e in
           ap (λ (i : ℕ). permits (getD (set constraints c₀ (merge (getD constraints c₀ 0) y₀)) i 0) y) (sym h)
           ∙ ap (λ (v : ℕ). permits v y) (getD-set-same constraints c₀ (merge (getD constraints c₀ 0) y₀) 0 (omega arith))
-          ∙ merge-allows (getD constraints c₀ 0) y₀ y (hy .0) (hy′ .1)
+          ∙ merge-permits (getD constraints c₀ 0) y₀ y (hy .0) (hy′ .1)
           ∙ ap (λ (b : Bool). b && eqb y₀ y) (R c₀ y hc hy′ ∙ ap (λ (i : ℕ). q i y) h))
       | false ↦ (λ e.
           let ne = eqb-false c₀ c e in
@@ -214,6 +214,23 @@ module _ (m : ℕ) (s t : Product) (closed : Closed m s) (f : List ℕ) (x : ℕ
     pub settle : passes s t g ≡ (agreeOn s (imageProduct t f) k (suc k) x && agreeOn (imageProduct t f) s k x (suc k) && newFits s t g)
     unfolding passes newFits
     settle = rw (length-snoc f x) (square-more (fits s t g) k ∙ ap (λ (b : Bool). b && all (λ j. cross (fits s t g) (suc k) j) (elements (suc k))) old-pairs)
+
+-- ---- a look at the newest element
+
+pub near-is : (s t : Product) (p : List ℕ) (k j : ℕ) → length p ≡ k + 1 → max 1 k ≡ j → nearFits s t p ≡ (fits s t p (k + 1) (k + 1) && cross (fits s t p) (k + 1) j)
+unfolding nearFits
+near-is s t p k j e h =
+    ap (λ (i : ℕ). fits s t p i i && cross (fits s t p) i (max 1 (i - 1))) e
+    ∙ ap (λ (i : ℕ). fits s t p (k + 1) (k + 1) && cross (fits s t p) (k + 1) i) (ap (max 1) (let q : k + 1 - 1 ≡ k = omega arith in q) ∙ h)
+
+-- Where the new pairs fit, those of the look do.
+pub near-of-new : (s t : Product) (p : List ℕ) → 1 ≤ length p → newFits s t p ≡ true → nearFits s t p ≡ true
+unfolding nearFits newFits
+near-of-new s t p h e =
+    let k = length p in
+    let at-j = each-at k (λ j. cross (fits s t p) k j) e in
+    both (fits s t p k k) (cross (fits s t p) k (max 1 (k - 1))) (and-left (fits s t p k k) (fits s t p k k) (at-j k (omega arith)))
+    (at-j (max 1 (k - 1)) (le-max-left 1 (k - 1), max-le h (omega arith)))
 
 -- ---- the pairs of the newest element, one after another
 

@@ -11,10 +11,12 @@ use Rattle.semigroups.specs.Lists.{range, elements, at, all, member}
 use Rattle.semigroups.specs.Tables.{Product, Element}
 use Rattle.semigroups.specs.TablesLaws.{Closed}
 use Rattle.semigroups.specs.Trials.{passes}
-use Rattle.constraints.specs.InnerConstraints.{permits, merge, askedAt, imageProduct, asks, agreeOn, cross, newFits, Reads}
+use Rattle.semigroups.proofs.Booleans.{clash, untrue, both, and-left, and-right}
+use Rattle.semigroups.proofs.Lists.{length-snoc}
+use Rattle.constraints.specs.InnerConstraints.{permits, merge, askedAt, imageProduct, asks, agreeOn, cross, newFits, nearFits, Reads}
 use Rattle.constraints.specs.InnerTracking.{Placing, Tracks}
 use Rattle.constraints.proofs.Placing.{newest-prefix}
-use Rattle.constraints.proofs.Constraints.{note-reads, each-more, agreeOn-more, agreeOn-forced, agreeOn-owner, settle}
+use Rattle.constraints.proofs.Constraints.{note-reads, each-more, agreeOn-more, agreeOn-forced, agreeOn-owner, settle, near-of-new}
 
 -- ---- the pairs of the newest element
 
@@ -170,6 +172,14 @@ module _ (m : ℕ) (s t : Product) (closed : Closed m s) (f : List ℕ) (len : �
 
     pub constraints-allow : allowed ≡ true → passes s t g ≡ newFits s t g
     constraints-allow e = decided ∙ ap (λ (b : Bool). b && newFits s t g) e
+
+    -- What a look at x refuses does not pass.
+    pub look-refuses : (allowed && nearFits s t g) ≡ false → passes s t g ≡ false
+    look-refuses e =
+        untrue (passes s t g) (λ h.
+        let holds = sym decided ∙ h in
+        let l = length-snoc f x in
+        clash (both allowed (nearFits s t g) (and-left allowed (newFits s t g) holds) (near-of-new s t g (omega arith) (and-right allowed (newFits s t g) holds))) e)
 
 -- The newest element placed, and no pair of it noted yet.
 pub newest-tracks : (m : ℕ) (s : Product) (n : ℕ) (t : Product) → Closed m s → (image used : List ℕ) (len : ℕ) → Placing n image used len → Element m len → (forced owner : List ℕ)

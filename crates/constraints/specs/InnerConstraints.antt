@@ -3,7 +3,7 @@
 use mathlib.Core.Path.{_≡_}
 use mathlib.Core.Bool.{Bool, not, _&&_, _||_, cond}
 use mathlib.Core.List.{List}
-use Prim.Native.Nat.{ℕ}
+use Prim.Native.Nat.{ℕ, _-_, max}
 use lib.Dec.{eqb}
 use lib.ListN.{length, getD, set}
 use Rattle.semigroups.specs.Lists.{elements, at, all}
@@ -42,6 +42,10 @@ cross p k j = p j k && p k j
 -- The pairs of the newest element of p fit.
 unfoldable pub newFits : Product → Product → List ℕ → Bool
 newFits s t p = all (λ j. cross (fits s t p) (length p) j) (elements (length p))
+
+-- The pairs of the newest element of p with itself and with the one before it fit; a first element has only itself.
+unfoldable pub nearFits : Product → Product → List ℕ → Bool
+nearFits s t p = fits s t p (length p) (length p) && cross (fits s t p) (length p) (max 1 (length p - 1))
 
 -- For each place c and value y, the constraint at c permits y exactly if q says so.
 abbrev pub Reads : List ℕ → (ℕ → ℕ → Bool) → Type 0

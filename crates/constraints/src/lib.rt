@@ -9,7 +9,7 @@ ghost use lib.ListN.{length, getD, take};
 ghost use Rattle.semigroups.specs.Lists.{at, member};
 ghost use Rattle.semigroups.specs.Tables.{largestOrder, product, Element, Filled};
 ghost use Rattle.semigroups.specs.Trials.{fits, passes};
-ghost use Rattle.constraints.specs.InnerConstraints.{permits, askedAt, imageProduct, newFits};
+ghost use Rattle.constraints.specs.InnerConstraints.{permits, askedAt, imageProduct, newFits, nearFits};
 ghost use Rattle.constraints.specs.InnerTracking.{Trial, Tracks};
 use tables::limits::ORDER;
 use tables::limits::PLACES;
@@ -168,6 +168,59 @@ fn settled<'a>(forced: &'a [u8; PLACES], owner: &'a [u8; PLACES], next: usize, x
         return false;
     }
     allowed(owner[x], next)
+}
+
+// Returns whether the pairs of the next element with itself and with the newest one fit, where x is its image. Where nothing is placed, the next element is
+// the only one.
+fn near_fits<'a>(
+    source: &[u8],
+    m: usize,
+    target: &[u8],
+    n: usize,
+    image: &'a [u8; ORDER],
+    used: &'a [u8; PLACES],
+    len: usize,
+    x: usize,
+) -> bool
+    requires { ⌜ Filled m (now source) × Filled n (now target) ⌝ }
+    requires { ⌜ Trial n (now image) (now used) len x × (len < m) ⌝ }
+    ensures answer { λ r. ⌜ r ≡ nearFits (product m (now (source .entry))) (product n (now (target .entry))) (take len (now (image .entry)) ++ x ∷ []) ⌝ }
+{
+    let next = len + 1;
+    let newest: usize = if len == 0 { 1 } else { len };
+    if !pair_fits(source, m, target, n, image, used, len, x, next, next) {
+        return false;
+    }
+    if !pair_fits(source, m, target, n, image, used, len, x, newest, next) {
+        return false;
+    }
+    pair_fits(source, m, target, n, image, used, len, x, next, newest)
+}
+
+// Returns whether x is worth a test as the image of the next element: the constraints allow x, and the pairs of the next element with itself and with the
+// newest one fit. This takes constant time. The list placed does not pass with an x that is not worth a test.
+pub fn may_pass<'a>(
+    source: &[u8],
+    m: usize,
+    target: &[u8],
+    n: usize,
+    image: &'a [u8; ORDER],
+    used: &'a [u8; PLACES],
+    forced: &'a [u8; PLACES],
+    owner: &'a [u8; PLACES],
+    len: usize,
+    x: usize,
+) -> bool
+    requires { ⌜ Filled m (now source) × Filled n (now target) ⌝ }
+    requires { ⌜ Trial n (now image) (now used) len x × (len < m) × (member x (take len (now image)) ≡ false) ⌝ }
+    requires { ⌜ Tracks (product m (now source)) (product n (now target)) (take len (now image)) len 0 (now forced) (now owner) × (passes (product m (now source)) (product n (now target)) (take len (now image)) ≡ true) ⌝ }
+    ensures answer { λ r. ⌜ r ≡ ((permits (getD (now (forced .entry)) (len + 1) 0) x && permits (getD (now (owner .entry)) x 0) (len + 1)) && nearFits (product m (now (source .entry))) (product n (now (target .entry))) (take len (now (image .entry)) ++ x ∷ [])) ⌝ }
+    ensures refused { λ r. ⌜ (r ≡ false → passes (product m (now (source .entry))) (product n (now (target .entry))) (take len (now (image .entry)) ++ x ∷ []) ≡ false) ⌝ }
+{
+    if !settled(forced, owner, len + 1, x) {
+        return false;
+    }
+    near_fits(source, m, target, n, image, used, len, x)
 }
 
 // Returns whether the list placed passes with x as the image of the next element: the constraints allow x, and its new pairs fit.

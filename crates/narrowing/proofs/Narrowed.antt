@@ -76,7 +76,7 @@ module _ (s t : Product) (lo hi : List ℕ) (l x c : ℕ) (looks : ℕ) (is : lo
 -- ---- rows narrowed one after another: those before c are done
 
 -- What is left after a placing over rows that shrank is left over the rows before.
-narrowed-wider : (m : ℕ) (s t : Product) → Closed m s → m ≤ 120 → (lo₀ hi₀ lo hi : List ℕ) → Shrinks lo₀ hi₀ lo hi → (l x c y : ℕ) → Element m l → Element m c → narrowed s t (has lo hi) l x c y ≡ true → narrowed s t (has lo₀ hi₀) l x c y ≡ true
+pub narrowed-wider : (m : ℕ) (s t : Product) → Closed m s → m ≤ 120 → (lo₀ hi₀ lo hi : List ℕ) → Shrinks lo₀ hi₀ lo hi → (l x c y : ℕ) → Element m l → Element m c → narrowed s t (has lo hi) l x c y ≡ true → narrowed s t (has lo₀ hi₀) l x c y ≡ true
 unfolding narrowed
 narrowed-wider m s t closed lm lo₀ hi₀ lo hi less l x c y hl hc e =
     let new : ℕ → ℕ → Bool = has lo hi in

@@ -1,2 +1,3 @@
+pub mod InnerLone
 pub mod InnerRows
 pub mod InnerState

@@ -3,22 +3,22 @@ use mathlib.Core.Path.{_≡_, refl, sym, ap, ap₂, _∙_, subst, subst₂}
 use mathlib.Core.Bool.{Bool, true, false, _&&_, cond, and-true}
 use mathlib.Core.Logic.{_⊎_, inl, inr, ⊎-elim}
 use mathlib.Core.List.{List, [], _∷_}
-use Prim.Native.Nat.{ℕ, zero, suc, _+_, _-_, _*_, _%_, _^_, _≤_, _<_, min}
-use native.Mathlib.Nat.{zero-div, one-mul}
+use Prim.Native.Nat.{ℕ, zero, suc, _+_, _-_, _*_, _/_, _%_, _^_, _≤_, _<_, min}
+use native.Mathlib.Nat.{zero-div, one-mul, pow-suc}
 use native.Mathlib.Omega.{arith}
 use borrow.Author.Tests.{le-leb, lt-leb, eqb-true, eq-eqb, ne-eqb}
 use lib.Bits.{bitAnd, and-zero-l, and-zero-r, and-self}
-use lib.Count.{ones}
+use lib.Count.{ones, trailingZeros, under}
 use lib.Dec.{eqb, leb}
 use lib.ListN.{getD, set}
-use lib.Pow.{shl-exact}
+use lib.Pow.{shl-exact, pow-pos}
 use lib.Seq.{getD-set-other}
 use Rattle.semigroups.specs.Lists.{at}
 use Rattle.semigroups.specs.Tables.{Element}
 use Rattle.semigroups.specs.Scratch.{marked}
 use Rattle.semigroups.proofs.Booleans.{and-left, and-right, at-most-or-above, equal-or-not}
 use Rattle.rows.specs.declared.Row.{Row}
-use Rattle.rows.specs.InnerRows.{hasBit, inRow, isEmpty, rowOf, has, packedRow, masked, singleRow, RowInside, Only, Shrinks, Forced, Marked}
+use Rattle.rows.specs.InnerRows.{hasBit, inRow, isEmpty, rowOf, has, packedRow, masked, singleRow, lowest, Alone, RowInside, Only, Shrinks, Forced, Marked}
 use Rattle.rows.proofs.Words.{bit-of-word, bit-past, single-word, other-word}
 use Rattle.rows.proofs.Masks.{and-bit, inside-inside, inside-mask, inside-old, inside-bit, ones-zero, ones-power}
 
@@ -130,6 +130,54 @@ module _ (v : ℕ) (hv : Element 120 v) where
 
 pub single-unique : (v w : ℕ) → Element 120 v → Element 120 w → singleRow v ≡ singleRow w → v ≡ w
 single-unique v w hv hw e = eqb-true v w (sym (in-single w hw v hv) ∙ ap (λ (r : Row). inRow r v) (sym e) ∙ in-single v hv v hv ∙ eq-eqb v v refl)
+
+-- ---- its lowest bit
+
+-- A power of two has as many zeros at its low end as its exponent says.
+power-zeros : (d k : ℕ) → k < d → trailingZeros d (2 ^ k) ≡ k
+unfolding trailingZeros
+power-zeros zero k h = let z : ⊥ = omega arith in absurd z
+power-zeros (suc d) zero h = refl
+power-zeros (suc d) (suc k) h =
+    let p = pow-suc 2 k in
+    let even : 2 ^ suc k % 2 ≡ 0 = omega arith in
+    let half : 2 ^ suc k / 2 ≡ 2 ^ k = omega arith in
+    ap₂ under even (ap (trailingZeros d) half) ∙ ap suc (power-zeros d k (omega arith))
+
+lowest-single : (v : ℕ) → Element 120 v → lowest (singleRow v) ≡ v
+unfolding lowest
+lowest-single v hv = ⊎-elim low high (at-most-or-above v 60)
+  where
+    place : ℕ → ℕ → ℕ
+    place a b = cond (eqb a 0) (trailingZeros 64 b + 61) (trailingZeros 64 a + 1)
+
+    low : v ≤ 60 → place (singleRow v .lo) (singleRow v .hi) ≡ v
+    low h =
+        let w = low-words v hv h in
+        let e = power-zeros 64 (v - 1) (omega arith) in
+        let p = pow-pos (v - 1) in
+        ap₂ place (w .0) (w .1) ∙ ap (λ (b : Bool). cond b (trailingZeros 64 0 + 61) (trailingZeros 64 (2 ^ (v - 1)) + 1)) (ne-eqb (2 ^ (v - 1)) 0 (λ q. let z : ⊥ = omega arith in z)) ∙ (let z : trailingZeros 64 (2 ^ (v - 1)) + 1 ≡ v = omega arith in z)
+
+    high : 60 < v → place (singleRow v .lo) (singleRow v .hi) ≡ v
+    high h =
+        let w = high-words v hv h in
+        let e = power-zeros 64 (v - 61) (omega arith) in
+        ap₂ place (w .0) (w .1) ∙ (let z : trailingZeros 64 (2 ^ (v - 61)) + 61 ≡ v = omega arith in z)
+
+module _ (row : Row) where
+  only-lowest : (v : ℕ) → Element 120 v → row ≡ singleRow v → lowest row ≡ v
+  only-lowest v hv e = ap lowest e ∙ lowest-single v hv
+
+  pub not-alone : (Element 120 (lowest row) → row ≡ singleRow (lowest row) → ⊥) → Alone row 0
+  not-alone h =
+      record {
+        most = omega arith;
+        found = λ v hv e. let q = only-lowest v hv e in absurd (h (subst (Element 120) (sym q) hv) (e ∙ ap singleRow (sym q)));
+        holds = λ l. absurd (let z : ⊥ = omega arith in z);
+      }
+
+  pub is-alone : Element 120 (lowest row) → row ≡ singleRow (lowest row) → Alone row (lowest row)
+  is-alone h e = record { most = h .1; found = only-lowest; holds = λ l. e }
 
 -- ---- a row masked
 

@@ -3,8 +3,9 @@
 use mathlib.Core.Path.{_≡_}
 use mathlib.Core.Bool.{Bool, true, _&&_, cond}
 use mathlib.Core.List.{List}
-use Prim.Native.Nat.{ℕ, zero, suc, _+_, _-_, _/_, _%_, _^_, min}
+use Prim.Native.Nat.{ℕ, zero, suc, _+_, _-_, _/_, _%_, _^_, _≤_, min}
 use lib.Bits.{bitAnd}
+use lib.Count.{trailingZeros}
 use lib.Dec.{eqb, leb}
 use lib.ListN.{set}
 use Rattle.semigroups.specs.Lists.{at}
@@ -48,6 +49,16 @@ masked words c w = set words (c - 1) (bitAnd (at words c) w)
 -- The row that holds v alone.
 unfoldable pub singleRow : ℕ → Row
 singleRow v = packedRow 120 (λ y. eqb y v)
+
+-- The element of the lowest bit of the row that is set.
+unfoldable pub lowest : Row → ℕ
+lowest row = cond (eqb (row .lo) 0) (trailingZeros 64 (row .hi) + 61) (trailingZeros 64 (row .lo) + 1)
+
+-- The number is that of the element that the row holds alone, or 0 if there is no such element.
+pub record Alone (row : Row) (r : ℕ) : Type 0 where
+  pub most : r ≤ 120
+  pub found : (v : ℕ) → Element 120 v → row ≡ singleRow v → r ≡ v
+  pub holds : 1 ≤ r → row ≡ singleRow r
 
 -- Every bit of row a is also in row b.
 abbrev pub RowInside : Row → Row → Type 0

@@ -1,6 +1,6 @@
 -- What the search over the marks answers, from its work, with a limit or without. Assumes nothing.
 use mathlib.Core.Path.{_≡_, refl, sym, ap, ap₂, _∙_}
-use mathlib.Core.Bool.{Bool, true, false, false≢true}
+use mathlib.Core.Bool.{Bool, true, false, cond, false≢true}
 use mathlib.Core.List.{List, []}
 use mathlib.Core.Option.{Option, none, some, Option·getD}
 use Prim.Native.Nat.{ℕ, _-_, _≤_}
@@ -53,6 +53,18 @@ module _ (next : Bool) (m : ℕ) (source : List ℕ) (n : ℕ) (target bytes scr
 -- Without a limit.
 pub leaves-found : (w : Work) (bytes : List ℕ) (o : Option (List ℕ)) → w .found ≡ o → (sought o ≡ sought (w .found)) × (Option·getD o bytes ≡ Option·getD (w .found) bytes)
 leaves-found w bytes o e = (ap sought (sym e), ap (λ (q : Option (List ℕ)). Option·getD q bytes) (sym e))
+
+-- What is written where a search found a map.
+pub leaves-put : (next : Bool) (m : ℕ) (source : List ℕ) (n : ℕ) (target bytes scratch : List ℕ) → Filled m source → (r : Found) → r ≡ foundIn (markedWork next m source n target bytes scratch .found)
+    → (soughtIf (r .ok) ≡ sought (markedWork next m source n target bytes scratch .found)) × (cond (r .ok) (take m (r .image)) bytes ≡ Option·getD (markedWork next m source n target bytes scratch .found) bytes)
+leaves-put next m source n target bytes scratch filled r finding = go (r .ok) refl
+  where
+    work : Work
+    work = markedWork next m source n target bytes scratch
+
+    go : (b : Bool) → r .ok ≡ b → (soughtIf b ≡ sought (work .found)) × (cond b (take m (r .image)) bytes ≡ Option·getD (work .found) bytes)
+    go true e = leaves-found work bytes (some (take m (r .image))) (found-some next m source n target bytes scratch filled r finding e)
+    go false e = leaves-found work bytes none (found-none work r finding e)
 
 -- With a limit.
 abbrev pub Leaves : Limit → Work → List ℕ → Limited → Option (List ℕ) → Type 0

@@ -1,15 +1,15 @@
--- The marks of candidates, masked by pairs, are the marks of the candidates that the pairs allow. Assumes nothing.
+-- The marks of candidates, masked by pairs, are the marks of the candidates that the pairs allow; and whether a mask clears anything. Assumes nothing.
 use mathlib.Core.Path.{_≡_, sym, ap, ap₂, _∙_}
-use mathlib.Core.Bool.{Bool, false, _&&_}
+use mathlib.Core.Bool.{Bool, true, false, _&&_}
 use mathlib.Core.List.{List, _∷_, _++_}
-use Prim.Native.Nat.{ℕ, suc, _+_, _*_, _/_, _%_, _≤_, _<_}
+use Prim.Native.Nat.{ℕ, suc, _+_, _-_, _*_, _/_, _%_, _≤_, _<_}
 use native.Mathlib.Omega.{arith}
 use borrow.Author.Tests.{eqb-false}
 use lib.Bits.{bitAnd, and-le-l}
 use lib.Dec.{eqb}
 use lib.ListN.{length, take, drop, getD, set, length-map, List·getD-append}
 use lib.Seq.{length-take-le, drop-cons, drop-append-seam, getD-append-seam}
-use Rattle.semigroups.specs.Lists.{range}
+use Rattle.semigroups.specs.Lists.{range, all}
 use Rattle.semigroups.specs.Tables.{Element, cellPlace}
 use Rattle.semigroups.specs.Scratch.{bit, scratchSize, marks, marked}
 use Rattle.semigroups.specs.Calls.{overwritten}
@@ -20,7 +20,7 @@ use Rattle.semigroups.proofs.Packing.{bit-small}
 use Rattle.semigroups.proofs.Candidates.{byte-below, length-marks, are-marks, marks-exactly, marked-candidate}
 use Rattle.rows.specs.InnerRows as rows
 use Rattle.rows.proofs.Masks.{and-bit}
-use Rattle.search.specs.InnerMasks.{masked}
+use Rattle.search.specs.InnerMasks.{masked, clearsNothing}
 
 -- A bit of a masked byte is set where it is in both.
 and-bits : (a b r : ℕ) → eqb (bit (bitAnd a b) r) 1 ≡ (eqb (bit a r) 1 && eqb (bit b r) 1)
@@ -146,3 +146,34 @@ module _ (size : ℕ) (pairs start : List ℕ) where
         let i = a .inside in
         let end : place ≡ length (masked size pairs start) = let l = length-masked size pairs start in omega arith in
         a .so-far ∙ written-all (masked size pairs start) start place end ∙ ap (λ (k : ℕ). masked size pairs start ++ drop k start) end
+
+-- ---- whether anything is cleared
+
+module _ (size : ℕ) (mask buffer : List ℕ) where
+  abbrev stays : ℕ → Bool
+  stays b = eqb (bitAnd (getD buffer b 0) (getD mask b 0)) (getD buffer b 0)
+
+  -- What is left to ask from the place on.
+  abbrev pub Rest : ℕ → Bool
+  Rest place = all stays (range place (size - place))
+
+  pub clears-begin : clearsNothing size mask buffer ≡ Rest 0
+  unfolding clearsNothing
+  clears-begin = ap (λ (k : ℕ). all stays (range 0 k)) (let z : size ≡ size - 0 = omega arith in z)
+
+  module _ (place : ℕ) where
+    clears-step : place < size → Rest place ≡ (stays place && Rest (place + 1))
+    unfolding all range
+    clears-step h =
+        ap (λ (k : ℕ). all stays (range place k)) (let z : size - place ≡ suc (size - (place + 1)) = omega arith in z)
+        ∙ ap (λ (b : ℕ). stays place && all stays (range b (size - (place + 1)))) (let z : suc place ≡ place + 1 = omega arith in z)
+
+    pub clears-on : place < size → stays place ≡ true → Rest place ≡ Rest (place + 1)
+    clears-on h e = clears-step h ∙ ap (λ (b : Bool). b && Rest (place + 1)) e
+
+    pub clears-one : place < size → stays place ≡ false → Rest place ≡ false
+    clears-one h e = clears-step h ∙ ap (λ (b : Bool). b && Rest (place + 1)) e
+
+    pub clears-end : size ≤ place → Rest place ≡ true
+    unfolding all range
+    clears-end h = ap (λ (k : ℕ). all stays (range place k)) (let z : size - place ≡ 0 = omega arith in z)

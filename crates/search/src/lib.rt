@@ -6,9 +6,10 @@
 // Pairs are bits, laid out as those of the scratch buffer are: bit (i - 1) * n + (j - 1) is set where i may go to j. An embedding is allowed if the bit of
 // each element with its image is set. No byte of the pairs changes.
 ghost use mathlib.Core.Path.{_≡_};
+ghost use mathlib.Core.Bool.{cond};
 ghost use mathlib.Core.Option.{none, Option·getD};
 ghost use Prim.Native.Nat.{_*_, _≤_};
-ghost use lib.ListN.{length};
+ghost use lib.ListN.{length, take};
 ghost use Rattle.semigroups.specs.InnerSearch.{plainKind};
 ghost use Rattle.semigroups.specs.Tables.{product, Filled, Accepted};
 ghost use Rattle.semigroups.specs.TablesLaws.{turnedCells};
@@ -16,7 +17,7 @@ ghost use Rattle.semigroups.specs.Scratch.{scratchSize};
 ghost use Rattle.semigroups.specs.Questions.{searchRefusal};
 ghost use Rattle.semigroups.specs.Calls.{gives, overwritten};
 ghost use Rattle.semigroups.specs.InnerCalls.{scratchAfter};
-ghost use Rattle.semigroups.specs.Maps.{reversed, first, next, sought};
+ghost use Rattle.semigroups.specs.Maps.{embeddings, reversed, first, next, sought};
 ghost use Rattle.semigroups.specs.Candidates.{candidate};
 ghost use Rattle.backtrack.specs.InnerState.{bounded};
 ghost use Rattle.tables.specs.Answers.{refusalNumbers};
@@ -29,7 +30,8 @@ ghost use Rattle.calls.specs.Limited.{limitedCall};
 ghost use Rattle.calls.specs.Allowed.{allowedCandidate};
 ghost use Rattle.calls.specs.Among.{amongRefusal, callAmong};
 ghost use Rattle.search.specs.InnerAmong.{answeredAmong};
-ghost use Rattle.search.specs.InnerMasks.{masked};
+ghost use Rattle.search.specs.InnerMasks.{masked, clearsNothing};
+use backtrack::Found;
 use tables::Fault;
 use tables::PairVerdict;
 use tables::Refusal;
@@ -94,6 +96,21 @@ struct Searched {
 
 // ---- over given marks
 
+// Writes the map that a search found to `map`. Returns whether it found one.
+fn put_found(result: Found, m: usize, map: &mut [u8]) -> bool
+    requires { ⌜ (length (now map) ≡ m) × (m ≤ 120) ⌝ }
+    ensures answer { λ r. ⌜ r ≡ result .ok ⌝ }
+    ensures map { λ _. ⌜ now (map .exit) ≡ cond (result .ok) (take m (result .image)) (now (map .entry)) ⌝ }
+{
+    let ok = result.ok;
+    if !ok {
+        return false;
+    }
+    let image = result.image;
+    maps::write_images(map, &image, m);
+    true
+}
+
 // Searches the marks in scratch for the first map, or with `next` for the next one after the bytes of `map`, and writes it to `map`. Returns whether there
 // is one.
 fn find_marked(
@@ -111,12 +128,26 @@ fn find_marked(
     ensures map { λ _. ⌜ now (map .exit) ≡ Option·getD (markedWork next m (now (source .entry)) n (now (target .entry)) (now (map .entry)) (now (scratch .entry)) .found) (now (map .entry)) ⌝ }
 {
     let result = narrowing::find(source, m, target, n, scratch, &*map, next);
-    if !result.ok {
-        return false;
-    }
-    let image = result.image;
-    maps::write_images(map, &image, m);
-    true
+    put_found(result, m, map)
+}
+
+// Searches the marks in scratch as `find_marked` does. Before that, elements with one candidate narrow the candidates of the others.
+fn find_narrowed(
+    next: bool,
+    source: &[u8],
+    m: usize,
+    target: &[u8],
+    n: usize,
+    map: &mut [u8],
+    scratch: &[u8],
+) -> bool
+    requires { ⌜ Filled m (now source) × Filled n (now target) ⌝ }
+    requires { ⌜ (length (now map) ≡ m) × (scratchSize m n ≤ length (now scratch)) ⌝ }
+    ensures answer { λ r. ⌜ soughtIf r ≡ sought (markedWork next m (now (source .entry)) n (now (target .entry)) (now (map .entry)) (now (scratch .entry)) .found) ⌝ }
+    ensures map { λ _. ⌜ now (map .exit) ≡ Option·getD (markedWork next m (now (source .entry)) n (now (target .entry)) (now (map .entry)) (now (scratch .entry)) .found) (now (map .entry)) ⌝ }
+{
+    let result = narrowing::find_narrowed(source, m, target, n, scratch, &*map, next);
+    put_found(result, m, map)
 }
 
 // Searches the marks in scratch as `find_marked` does, within a limit of trials, and writes the map to `map`. Returns what the search comes to.
@@ -464,17 +495,45 @@ fn keep_pairs(pairs: &[u8], size: usize, scratch: &mut [u8])
     }
 }
 
-// Marks the candidates of embeddings that the pairs allow in scratch.
-fn mark_among(source: &[u8], m: usize, target: &[u8], n: usize, pairs: &[u8], scratch: &mut [u8])
+// Returns whether every bit of the first `size` bytes of scratch is set in the pairs too.
+fn allows_all(pairs: &[u8], size: usize, scratch: &[u8]) -> bool
+    requires { ⌜ (size ≤ length (now pairs)) × (size ≤ length (now scratch)) ⌝ }
+    ensures answer { λ r. ⌜ r ≡ clearsNothing size (now (pairs .entry)) (now (scratch .entry)) ⌝ }
+{
+    let mut place: usize = 0;
+    while place < size {
+        let marks = scratch[place];
+        if marks & pairs[place] != marks {
+            return false;
+        }
+        place += 1;
+    }
+    true
+}
+
+// Marks the candidates of embeddings that the pairs allow in scratch. Returns whether the pairs allow every candidate.
+fn mark_among(
+    source: &[u8],
+    m: usize,
+    target: &[u8],
+    n: usize,
+    pairs: &[u8],
+    scratch: &mut [u8],
+) -> bool
     requires { ⌜ Accepted m (now source) × Accepted n (now target) ⌝ }
     requires { ⌜ (scratchSize m n ≤ length (now pairs)) × (scratchSize m n ≤ length (now scratch)) ⌝ }
+    ensures answer { λ r. ⌜ r ≡ clearsNothing (scratchSize m n) (now (pairs .entry)) (scratchAfter m n (candidate embeddings m (product m (now (source .entry))) n (product n (now (target .entry)))) (now (scratch .entry))) ⌝ }
     ensures scratch { λ _. ⌜ now (scratch .exit) ≡ scratchAfter m n (allowedCandidate m (product m (now (source .entry))) n (product n (now (target .entry))) (now (pairs .entry))) (now (scratch .entry)) ⌝ }
 {
     mark(false, source, m, target, n, scratch);
-    keep_pairs(pairs, candidates::scratch_size(m, n), scratch);
+    let size = candidates::scratch_size(m, n);
+    let all = allows_all(pairs, size, &*scratch);
+    keep_pairs(pairs, size, scratch);
+    all
 }
 
 // Writes the first allowed embedding between two accepted tables to `map`, or with `next` the next one after the bytes of `map`. Returns whether there is one.
+// Where the pairs exclude a candidate, elements that they leave one candidate narrow the others before the search.
 fn find_among(
     next: bool,
     source: &[u8],
@@ -490,12 +549,14 @@ fn find_among(
     requires { ⌜ scratchSize m n ≤ length (now pairs) ⌝ }
     ensures call { λ r. ⌜ called (gives (soughtIf r)) (now (map .exit)) (now (scratch .exit)) ≡ answeredAmong (bounded next (now (map .entry))) (now (pairs .entry)) (lend (now (source .entry)) m (now (target .entry)) n (now (map .entry)) (now (scratch .entry))) ⌝ }
 {
-    mark_among(source, m, target, n, pairs, scratch);
+    let all = mark_among(source, m, target, n, pairs, scratch);
     if n < m {
-        false
-    } else {
-        find_marked(next, source, m, target, n, map, &*scratch)
+        return false;
     }
+    if all {
+        return find_marked(next, source, m, target, n, map, &*scratch);
+    }
+    find_narrowed(next, source, m, target, n, map, &*scratch)
 }
 
 // Asks the questions of a search, then the one about the length of the pairs. Returns the first that fails.

@@ -25,7 +25,7 @@ use Rattle.backtrack.proofs.Partial.place.Reads as place-reads
 use Rattle.backtrack.proofs.Partial.test.Reads as test-reads
 use Rattle.backtrack.proofs.no_map.Reads as no-map-reads
 use Rattle.backtrack.proofs.open.Reads as open-reads
-use Rattle.constraints.proofs.passes_with.Reads as passes-with-reads
+use Rattle.constraints.proofs.may_pass.Reads as may-pass-reads
 use Rattle.backtrack.proofs.pay.Reads as pay-reads
 use Rattle.backtrack.proofs.whole.Reads as whole-reads
 use Rattle.backtrack.proofs.+extend.{statement}
@@ -50,7 +50,7 @@ extend-μ-loop source m target n scratch after tight limit p at low left₀ x₀
 -- What the calls ask and tell.
 abbrev calls : ℕ → extend-lts.Claims
 calls t =
-    (whole-reads.Asked, whole-reads.Learnt, open-reads.Asked, open-reads.Learnt, pay-reads.Asked, pay-reads.Learnt, no-map-reads.Asked, no-map-reads.Learnt, passes-with-reads.Asked, passes-with-reads.Learnt, place-reads.Asked, place-reads.Learnt, test-reads.Asked, test-reads.Learnt, extend-below t, extend.Post)
+    (whole-reads.Asked, whole-reads.Learnt, open-reads.Asked, open-reads.Learnt, pay-reads.Asked, pay-reads.Learnt, no-map-reads.Asked, no-map-reads.Learnt, may-pass-reads.Asked, may-pass-reads.Learnt, place-reads.Asked, place-reads.Learnt, test-reads.Asked, test-reads.Learnt, extend-below t, extend.Post)
 
 abbrev Start : ℕ → Type 0
 Start t = extend-lts.Start (calls t) (extend-at t) extend.Post extend-Inv-loop extend-μ-loop
@@ -100,8 +100,8 @@ tested t k =
       longer = more .0;
       one-more = more .2;
       says = test .0;
-      same-images = test .1 .1 .0;
-      same-length = test .1 .1 .1;
+      same-images = test .1 .1 .0 .0;
+      same-length = test .1 .1 .0 .1;
     }
 
 extend-whole-requires : (t : ℕ) → extend-lts.Need-whole-requires (calls t) (extend-at t) extend.Post extend-Inv-loop extend-μ-loop
@@ -155,8 +155,8 @@ extend-returns-2 t c =
     let y = c .before .before .before .pay in
     c .no-map .ensures ∙ stop (turn t (c .before .before .before .before .before)) (c .before .before .before .before .if3 .taken) (unpaid (y .result .enough) (y .result .left) _ (y .ensures .0) (c .before .if4 .taken))
 
-extend-passes-with-requires : (t : ℕ) → extend-lts.Need-passes-with-requires (calls t) (extend-at t) extend.Post extend-Inv-loop extend-μ-loop
-extend-passes-with-requires t c κs =
+extend-may-pass-requires : (t : ℕ) → extend-lts.Need-may-pass-requires (calls t) (extend-at t) extend.Post extend-Inv-loop extend-μ-loop
+extend-may-pass-requires t c κs =
     let k = c .before .before .before .before .before .before .before .before .before in
     let a = start t k .args in
     let p = a .t9 in
@@ -199,7 +199,7 @@ extend-extend-requires t c κs =
     let v = tested t w in
     let one = v .one-more in
     let same = v .same-length in
-    (subst (λ (j : ℕ). z .args .m - w .test .result .partial .len < j) (z .pre .0) (omega arith), (z .pre .1 .0, onward T o (y .result .left) p (w .before .place .result) (w .test .result .partial) (w .test .result .ok) v (c .if6 .taken) (w .test .ensures .1 .0)))
+    (subst (λ (j : ℕ). z .args .m - w .test .result .partial .len < j) (z .pre .0) (omega arith), (z .pre .1 .0, onward T o (y .result .left) p (w .before .place .result) (w .test .result .partial) (w .test .result .ok) v (c .if6 .taken) (w .test .ensures .1 .0 (c .if6 .taken))))
 
 extend-returns-3 : (t : ℕ) → extend-lts.Need-returns-3 (calls t) (extend-at t) extend.Post extend-Inv-loop extend-μ-loop
 extend-returns-3 t c =
@@ -244,14 +244,14 @@ extend-loop-again t c =
           (λ w.
           let more = w .11 .ensures .1 .0 in
           let test = w .12 .ensures in
-          let v : Verdict _ _ _ _ (w .11 .result) (w .12 .result .partial) (w .12 .result .ok) = record { longer = more .0; one-more = more .2; says = test .0; same-images = test .1 .1 .0; same-length = test .1 .1 .1 } in
+          let v : Verdict _ _ _ _ (w .11 .result) (w .12 .result .partial) (w .12 .result .ok) = record { longer = more .0; one-more = more .2; says = test .0; same-images = test .1 .1 .0 .0; same-length = test .1 .1 .0 .1 } in
           let r = w .14 in
           fail T (w .0 .taken) (w .1 .result .left) (paid (w .1 .result .enough) (w .1 .result .left) _ (w .1 .ensures .0) (w .3 .left)) (w .11 .result) (w .12 .result .partial) (w .12 .result .ok) v (w .13 .taken) (ap (λ (q : Outcome). q .stopped) (sym (r .ensures)) ∙ w .15 .left) (ap (λ (q : Outcome). q .ok) (sym (r .ensures)) ∙ w .16 .left)
           ∙ rw (w .17, ap (λ (q : Outcome). q .left) (r .ensures)))
           (⊎-elim
           (λ w. refuse T (w .0 .taken) (w .1 .result .left) (paid (w .1 .result .enough) (w .1 .result .left) _ (w .1 .ensures .0) (w .3 .left)) (ap (passes _ _) (sym (w .11 .ensures .1 .0 .0)) ∙ sym (w .12 .ensures .0) ∙ w .13 .left) ∙ rw (w .14))
           (⊎-elim
-          (λ w. refuse T (w .0 .taken) (w .1 .result .left) (paid (w .1 .result .enough) (w .1 .result .left) _ (w .1 .ensures .0) (w .3 .left)) (sym (w .9 .ensures) ∙ w .10 .left) ∙ rw (w .11))
+          (λ w. refuse T (w .0 .taken) (w .1 .result .left) (paid (w .1 .result .enough) (w .1 .result .left) _ (w .1 .ensures .0) (w .3 .left)) (w .9 .ensures .1 (w .10 .left)) ∙ rw (w .11))
           (λ w. skip T (w .0 .left) ∙ rw (w .1))))
           (c .if3 .came),
     )
@@ -284,7 +284,7 @@ pub +extend-spec : {M : Type 1} → statement M
     (extend-pay-requires t)
     (extend-no-map-requires t)
     (extend-returns-2 t)
-    (extend-passes-with-requires t)
+    (extend-may-pass-requires t)
     (extend-place-requires t)
     (extend-test-requires t)
     (extend-extend-requires t)

@@ -22,9 +22,6 @@ module _ (c : tie.After-mark-among) where
 mark-among-requires : tie.Need-mark-among-requires
 mark-among-requires c κs = search needs
 
-find-marked-requires : tie.Need-find-marked-requires
-find-marked-requires c κs = search needs
-
 same-length : tie.Need-same-length
 same-length c = search needs
 
@@ -34,7 +31,10 @@ returns c =
     let a = start k .args in
     as-answered-among (bounded (a .next) (a .map .now)) (a .pairs .now) (lent k) false none
     (allowed-none (a .m) (product (a .m) (a .source .now)) (a .n) (product (a .n) (a .target .now)) (a .pairs .now) (bounded (a .next) (a .map .now)) (c .if1 .taken))
-    refl refl (k .mark-among .ensures)
+    refl refl (k .mark-among .ensures .1)
+
+find-marked-requires : tie.Need-find-marked-requires
+find-marked-requires c κs = search needs
 
 same-length-2 : tie.Need-same-length-2
 same-length-2 c = search needs
@@ -44,23 +44,45 @@ same-length-3 c = search needs
 
 returns-2 : tie.Need-returns-2
 returns-2 c =
-    let f = c .before .before in
-    let k = f .before .before .before .before .before .before in
+    let f = c .before .before .find-marked in
+    let k = c .before .before .before .before .before .before .before .before .before in
     let s = start k in
     let a = s .args in
-    let e = f .find-marked .ensures in
-    as-answered-among (bounded (a .next) (a .map .now)) (a .pairs .now) (lent k) (f .find-marked .result) _
-    (work-allowed (a .next) (a .m) (a .source .now) (a .n) (a .target .now) (a .pairs .now) (a .map .now) (a .scratch .now) _ (s .pre .0 .0) (s .pre .0 .1) (k .mark-among .ensures))
-    (e .0) (e .1) (k .mark-among .ensures)
+    as-answered-among (bounded (a .next) (a .map .now)) (a .pairs .now) (lent k) (f .result) _
+    (work-allowed (a .next) (a .m) (a .source .now) (a .n) (a .target .now) (a .pairs .now) (a .map .now) (a .scratch .now) _ (s .pre .0 .0) (s .pre .0 .1) (k .mark-among .ensures .1))
+    (f .ensures .0) (f .ensures .1) (k .mark-among .ensures .1)
+
+find-narrowed-requires : tie.Need-find-narrowed-requires
+find-narrowed-requires c κs = search needs
+
+same-length-4 : tie.Need-same-length-4
+same-length-4 c = search needs
+
+same-length-5 : tie.Need-same-length-5
+same-length-5 c = search needs
+
+returns-3 : tie.Need-returns-3
+returns-3 c =
+    let f = c .before .before .find-narrowed in
+    let k = c .before .before .before .before .before .before .before .before .before in
+    let s = start k in
+    let a = s .args in
+    as-answered-among (bounded (a .next) (a .map .now)) (a .pairs .now) (lent k) (f .result) _
+    (work-allowed (a .next) (a .m) (a .source .now) (a .n) (a .target .now) (a .pairs .now) (a .map .now) (a .scratch .now) _ (s .pre .0 .0) (s .pre .0 .1) (k .mark-among .ensures .1))
+    (f .ensures .0) (f .ensures .1) (k .mark-among .ensures .1)
 
 pub find-among-spec : {M : Type 1} → statement M
 find-among-spec =
     tie.close
     (tie.spec
     mark-among-requires
-    find-marked-requires
     same-length
     returns
+    find-marked-requires
     same-length-2
     same-length-3
-    returns-2)
+    returns-2
+    find-narrowed-requires
+    same-length-4
+    same-length-5
+    returns-3)

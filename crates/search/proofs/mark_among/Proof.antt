@@ -6,7 +6,7 @@ use Rattle.semigroups.specs.Tables.{product}
 use Rattle.semigroups.specs.Calls.{overwritten}
 use Rattle.semigroups.specs.Maps.{embeddings}
 use Rattle.semigroups.specs.Candidates.{candidate}
-use Rattle.search.specs.InnerMasks.{masked}
+use Rattle.search.specs.InnerMasks.{masked, clearsNothing}
 use Rattle.search.proofs.Masks.{masked-scratch}
 use borrow.Author.Needs.{needs}
 use Rattle.search.proofs.mark_among.Statement.{statement}
@@ -18,6 +18,9 @@ mark-requires c κs = search needs
 scratch-size-requires : tie.Need-scratch-size-requires
 scratch-size-requires c κs = search needs
 
+allows-all-requires : tie.Need-allows-all-requires
+allows-all-requires c κs = search needs
+
 keep-pairs-requires : tie.Need-keep-pairs-requires
 keep-pairs-requires c κs = search needs
 
@@ -26,15 +29,21 @@ same-length c = search needs
 
 returns : tie.Need-returns
 returns c =
-    let k = c .before .before in
-    let size = k .before .before in
-    let marking = size .before .before .before in
-    let a = marking .before .before .before .before .before .before .args in
-    k .keep-pairs .ensures
-    ∙ ap₂ (λ (size : ℕ) (scratch : List ℕ). overwritten (masked size (a .pairs .now) scratch) scratch) (size .scratch-size .ensures) (marking .mark .ensures)
-    ∙ masked-scratch (a .m) (a .n) (candidate embeddings (a .m) (product (a .m) (a .source .now)) (a .n) (product (a .n) (a .target .now))) (a .pairs .now) (a .scratch .now)
+    let a = c .before .before .before .before .before .before .before .before .before .before .before .before .before .before .before .args in
+    let size = c .before .before .before .before .before .before .scratch-size .ensures in
+    let marks = c .before .before .before .before .before .before .before .before .before .mark .ensures in (
+      c .before .before .before .before .allows-all .ensures ∙ ap₂ (λ (size : ℕ) (scratch : List ℕ). clearsNothing size (a .pairs .now) scratch) size marks,
+      c .before .before .keep-pairs .ensures ∙ ap₂ (λ (size : ℕ) (scratch : List ℕ). overwritten (masked size (a .pairs .now) scratch) scratch) size marks
+          ∙ masked-scratch (a .m) (a .n) (candidate embeddings (a .m) (product (a .m) (a .source .now)) (a .n) (product (a .n) (a .target .now))) (a .pairs .now) (a .scratch .now),
+    )
 
 pub mark-among-spec : {M : Type 1} → statement M
 mark-among-spec =
     tie.close
-    (tie.spec mark-requires scratch-size-requires keep-pairs-requires same-length returns)
+    (tie.spec
+    mark-requires
+    scratch-size-requires
+    allows-all-requires
+    keep-pairs-requires
+    same-length
+    returns)
