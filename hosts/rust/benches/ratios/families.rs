@@ -21,13 +21,18 @@ fn times(table: &Table, i: usize, j: usize) -> usize {
     usize::from(table.cells[i * table.order + j]) - 1
 }
 
-/// The table with its elements numbered anew at random.
-pub fn shuffled(old: &Table, numbers: &mut Numbers) -> Table {
-    let n = old.order;
-    let mut names: Vec<usize> = (0..n).collect();
-    for place in (1..n).rev() {
+/// The numbers below `order` in a random order.
+pub fn names(order: usize, numbers: &mut Numbers) -> Vec<usize> {
+    let mut names: Vec<usize> = (0..order).collect();
+    for place in (1..order).rev() {
         names.swap(place, numbers.below(place + 1));
     }
+    names
+}
+
+/// The table with its elements numbered anew, each by its name.
+pub fn renamed(old: &Table, names: &[usize]) -> Table {
+    let n = old.order;
     let mut cells = vec![0; n * n];
     for i in 0..n {
         for j in 0..n {
@@ -35,6 +40,11 @@ pub fn shuffled(old: &Table, numbers: &mut Numbers) -> Table {
         }
     }
     Table { order: n, cells }
+}
+
+/// The table with its elements numbered anew at random.
+pub fn shuffled(old: &Table, numbers: &mut Numbers) -> Table {
+    renamed(old, &names(old.order, numbers))
 }
 
 /// Pairs of elements of two tables.

@@ -4,6 +4,7 @@
 //! calls. The two take turns; a sample is as many calls as take some milliseconds, and the least of the samples counts.
 
 mod families;
+mod pinned;
 mod plain;
 mod real;
 mod tables;
@@ -382,44 +383,58 @@ fn count_copies(name: &str, source: &Table, target: &Table, expected: Copies) {
 /// How many trials the paper's search may make beside the library.
 const MOST_TRIALS: u64 = 1_000_000;
 
+/// The tables of a search for embeddings.
+pub struct Family {
+    name: String,
+    source: Table,
+    target: Table,
+}
+
+/// What makes the families, and those searched for embeddings so far.
+struct Families {
+    numbers: Numbers,
+    embeddings: Vec<Family>,
+}
+
 /// Searches that the paper's test alone does not settle, or late: the library beside the paper's search with a limit.
 fn time_families() {
     println!("\n| {:<76} | answer | library, ms | paper's search, ms |", "call");
     println!("|:{:-<76}-|:-------|------------:|-------------------:|", "");
-    let mut numbers = Numbers::new(1);
-    time_chains_and_bands(&mut numbers);
-    time_groups(&mut numbers);
+    let mut families = Families { numbers: Numbers::new(1), embeddings: Vec::new() };
+    time_chains_and_bands(&mut families);
+    time_groups(&mut families);
     for size in [5, 7, 10] {
-        onto(&format!("Brandt semigroup of order {}", size * size + 1), &brandt(size), &mut numbers);
+        onto(&format!("Brandt semigroup of order {}", size * size + 1), &brandt(size), &mut families);
     }
     for (rows, columns, group) in [(3, 4, 3), (5, 4, 6), (6, 10, 2), (3, 4, 10)] {
         let name = format!("Rees matrix semigroup, {rows} by {columns} over {group}");
-        let table = rees(rows, columns, group, &mut numbers);
-        onto(&name, &table, &mut numbers);
+        let table = rees(rows, columns, group, &mut families.numbers);
+        onto(&name, &table, &mut families);
     }
     for (factors, products) in [(20, 9), (40, 19), (100, 19), (118, 1)] {
         let name = format!("3-nilpotent, {factors} factors, {products} products");
-        let table = three_nilpotent(factors, products, &mut numbers);
-        onto(&name, &table, &mut numbers);
+        let table = three_nilpotent(factors, products, &mut families.numbers);
+        onto(&name, &table, &mut families);
     }
     for (points, generators) in [(4, 2), (4, 3), (5, 2), (5, 3), (6, 2), (6, 3)] {
-        let whole = generated(points, generators, &mut numbers);
+        let whole = generated(points, generators, &mut families.numbers);
         let name = format!("{generators} transformations of {points} points generate {}", whole.order);
-        onto(&name, &whole, &mut numbers);
-        let chosen: Vec<usize> = (0..3).map(|_| numbers.below(whole.order)).collect();
+        onto(&name, &whole, &mut families);
+        let chosen: Vec<usize> = (0..3).map(|_| families.numbers.below(whole.order)).collect();
         let some = part(&whole, &chosen);
-        into(&format!("a part of order {} of these", some.order), &some, &whole, &mut numbers);
+        into(&format!("a part of order {} of these", some.order), &some, &whole, &mut families);
     }
+    pinned::time(&families.embeddings);
 }
 
-fn time_chains_and_bands(numbers: &mut Numbers) {
+fn time_chains_and_bands(families: &mut Families) {
     for order in [30, 60, 120] {
-        onto(&format!("chain of {order}"), &chain(order), numbers);
+        onto(&format!("chain of {order}"), &chain(order), families);
     }
-    into("chain of 30 in 60", &chain(30), &chain(60), numbers);
-    into("chain of 60 in 120", &chain(60), &chain(120), numbers);
-    into("rectangular band 8 by 8 in 10 by 12", &rectangular_band(8, 8), &rectangular_band(10, 12), numbers);
-    into("rectangular band 10 by 10 in 9 by 13", &rectangular_band(10, 10), &rectangular_band(9, 13), numbers);
+    into("chain of 30 in 60", &chain(30), &chain(60), families);
+    into("chain of 60 in 120", &chain(60), &chain(120), families);
+    into("rectangular band 8 by 8 in 10 by 12", &rectangular_band(8, 8), &rectangular_band(10, 12), families);
+    into("rectangular band 10 by 10 in 9 by 13", &rectangular_band(10, 10), &rectangular_band(9, 13), families);
 }
 
 /// Forms of groups with as many elements of each profile that are not isomorphic.
@@ -428,35 +443,36 @@ const EQUAL_PROFILES: [([usize; 9], [usize; 9]); 2] = [
     ([0, 7, 4, 2, 6, 1, 5, 7, 6], [2, 5, 0, 1, 3, 4, 2, 3, 4]),
 ];
 
-fn time_groups(numbers: &mut Numbers) {
+fn time_groups(families: &mut Families) {
     for order in [16, 60, 120] {
-        onto(&format!("cyclic group of order {order}"), &cyclic_group(order), numbers);
-        onto(&format!("dihedral group of order {order}"), &dihedral_group(order / 2), numbers);
+        onto(&format!("cyclic group of order {order}"), &cyclic_group(order), families);
+        onto(&format!("dihedral group of order {order}"), &dihedral_group(order / 2), families);
     }
     for rank in [4, 5, 6] {
-        onto(&format!("elementary abelian group of order {}", 1 << rank), &elementary_group(rank), numbers);
+        onto(&format!("elementary abelian group of order {}", 1 << rank), &elementary_group(rank), families);
     }
-    into("elementary abelian group of order 16 in D4 × D4", &elementary_group(4), &two_squares(), numbers);
-    into("elementary abelian group of order 32 in D4 × D4", &elementary_group(5), &two_squares(), numbers);
+    into("elementary abelian group of order 16 in D4 × D4", &elementary_group(4), &two_squares(), families);
+    into("elementary abelian group of order 32 in D4 × D4", &elementary_group(5), &two_squares(), families);
     for (one, other) in EQUAL_PROFILES {
         let name = "two groups of order 64 with equal profiles";
-        isomorphic(name, &form_group(one), &form_group(other), numbers);
+        isomorphic(name, &form_group(one), &form_group(other), families);
     }
 }
 
 /// A table onto itself, relabelled at random: the first embedding and the first isomorphism.
-fn onto(name: &str, table: &Table, numbers: &mut Numbers) {
-    into(&format!("{name}, onto itself"), table, table, numbers);
-    isomorphic(&format!("{name}, onto itself"), table, table, numbers);
+fn onto(name: &str, table: &Table, families: &mut Families) {
+    into(&format!("{name}, onto itself"), table, table, families);
+    isomorphic(&format!("{name}, onto itself"), table, table, families);
 }
 
-fn into(name: &str, source: &Table, target: &Table, numbers: &mut Numbers) {
-    let (source, target) = (shuffled(source, numbers), shuffled(target, numbers));
+fn into(name: &str, source: &Table, target: &Table, families: &mut Families) {
+    let (source, target) = (shuffled(source, &mut families.numbers), shuffled(target, &mut families.numbers));
     family_row(&format!("first_embedding, {name}"), false, &source, &target);
+    families.embeddings.push(Family { name: name.to_owned(), source, target });
 }
 
-fn isomorphic(name: &str, source: &Table, target: &Table, numbers: &mut Numbers) {
-    let (source, target) = (shuffled(source, numbers), shuffled(target, numbers));
+fn isomorphic(name: &str, source: &Table, target: &Table, families: &mut Families) {
+    let (source, target) = (shuffled(source, &mut families.numbers), shuffled(target, &mut families.numbers));
     family_row(&format!("first_isomorphism, {name}"), true, &source, &target);
 }
 
