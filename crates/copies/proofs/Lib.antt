@@ -3,6 +3,7 @@ pub mod Orbits
 pub mod Counting
 pub mod Raising
 pub mod Going
+pub mod Existence
 pub mod Fixing
 pub mod Answering
 pub mod Exchanges
