@@ -2,6 +2,7 @@ pub mod Leaders
 pub mod Orbits
 pub mod Counting
 pub mod Raising
+pub mod Bounds
 pub mod Going
 pub mod Existence
 pub mod Fixing
