@@ -2,7 +2,9 @@ pub mod Leaders
 pub mod Orbits
 pub mod Counting
 pub mod Raising
+pub mod Bounds
 pub mod Going
+pub mod Existence
 pub mod Fixing
 pub mod Answering
 pub mod Exchanges
