@@ -22,7 +22,7 @@ pub fn run(arguments: &OpenArguments, options: &Options) -> Status {
         return status;
     }
     if !arguments.no_browser {
-        show(&address);
+        show(&server.once());
     }
     server.serve();
     Status::Found

@@ -18,17 +18,20 @@ function waiting() {
   return [!show ? 'Now drop the show’s sheet.' : 'Now drop the rig’s sheet.', '']
 }
 
-function busy(seconds, stop) {
-  return [
-    element('p', { class: 'verdict busy' }, element('span', { class: 'spin', 'aria-hidden': 'true' }), `Looking for partners … ${seconds} s`),
-    element('div', { class: 'buttons' }, button('Stop', stop, { class: 'main', id: 'stop' })),
-  ]
+/** A search that takes longer than a moment. The button stays the same while the seconds pass. */
+function drawBusy(section, seconds, stop) {
+  const clock = byId('clock')
+  if (clock) clock.textContent = `${seconds} s`
+  else fill(section,
+    element('p', { class: 'verdict busy', role: 'status' },
+      element('span', { class: 'spin', 'aria-hidden': 'true' }), 'Looking for partners … ', element('span', { id: 'clock', 'aria-hidden': 'true' }, `${seconds} s`)),
+    element('div', { class: 'buttons' }, button('Stop', stop, { class: 'main', id: 'stop' })))
 }
 
 /** The sentences under the verdict. */
 function reasons({ answer, said }) {
-  // What can be done about it is a button.
-  const hints = answer.hints.filter(hint => !(answer.offer && hint.includes('--')))
+  // What is offered is a button.
+  const hints = answer.hints.filter(hint => !(answer.offer && hint.startsWith('The rig\'s table')))
   const told = [...(state().preferNames ? said : []), ...(answer.result?.misfit?.says ?? []), ...hints]
   return told.length > 0 && element('ul', { class: 'reasons' }, told.map(text => element('li', {}, text)))
 }
@@ -80,7 +83,7 @@ function choices(model, actions) {
 export function drawAnswer(model, actions) {
   const section = byId('answer')
   section.className = 'answer'
-  if (model.busy >= 0) return fill(section, busy(model.busy, actions.stop))
+  if (model.busy >= 0) return drawBusy(section, model.busy, actions.stop)
   if (model.stopped >= 0) {
     section.classList.add('stopped')
     return fill(section,
@@ -97,6 +100,7 @@ export function drawAnswer(model, actions) {
   section.classList.add(kind)
   const says = answer.status === 'stopped' ? `Stopped: ${TIMES.find(([value]) => value === model.time)[1]} are not enough to tell whether the show fits.` : answer.says
   fill(section,
+    state().rigs.length > 1 && element('p', { class: 'about' }, currentRig().name),
     element('p', { class: 'verdict', role: 'status' }, says.replace('1 minute are', '1 minute is')),
     reasons(model.reply),
     offered(answer, actions),
@@ -105,8 +109,13 @@ export function drawAnswer(model, actions) {
     choices(model, actions))
 }
 
-/** The list of partners, with a field to look for one. */
+let drawn = null
+
+/** The list of partners, with a field to look for one; one that is there already stays. */
 export function drawPartners(reply, actions) {
+  const { pins, not } = state()
+  if (drawn?.reply === reply && drawn.pins === pins && drawn.not === not) return
+  drawn = { reply, pins, not }
   const { map, misfit } = reply?.answer.result ?? {}
   const largest = misfit?.largest
   const pairs = map ? map.images.map((image, place) => [place + 1, image])
@@ -140,8 +149,7 @@ export function drawPartners(reply, actions) {
   }
   const title = `${reply.answer.sheets[0].path} on ${reply.answer.sheets[1].path}`
   fill(byId('partners'),
-    element('header', { class: 'printed' }, element('h1', {}, `Partners: ${title}`), element('p', {}, new Date().toISOString().slice(0, 10)),
-      element('p', {}, reply.answer.says)),
+    element('header', { class: 'printed' }, element('h1', {}, `Partners: ${title}`), element('p', {}, new Date().toISOString().slice(0, 10))),
     element('div', { class: 'head' },
       element('h2', {}, map ? 'Partners' : `Partners of ${count(pairs.length, 'cue')} that can be moved`),
       element('label', { class: 'filter' }, element('span', {}, 'Find'), element('input', { type: 'search', placeholder: 'number or name', oninput: event => filter(event.target.value) })),

@@ -17,11 +17,17 @@ export function element(tag, attributes = {}, ...children) {
 
 export const button = (text, onclick, attributes = {}) => element('button', { type: 'button', onclick, ...attributes }, text)
 
-/** Shows a section with these children, or hides it where there are none. */
+const called = made => made.id || made.ariaLabel || made.textContent
+
+/** Shows a section with these children, or hides it where there are none. What had the focus has it again. */
 export function fill(section, ...children) {
   const shown = children.flat().filter(Boolean)
+  const active = section.contains(document.activeElement) ? document.activeElement : null
   section.replaceChildren(...shown)
   section.hidden = !shown.length
+  if (!active || section.contains(active)) return
+  const again = [...section.querySelectorAll(active.tagName)].find(made => called(made) === called(active))
+  again?.focus({ preventScroll: true })
 }
 
 export const count = (number, thing) => `${number} ${thing}${number === 1 ? '' : 's'}`

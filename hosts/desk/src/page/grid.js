@@ -5,9 +5,12 @@ import { element, letters } from './elements.js'
 // An eye tells so many colours apart.
 const MOST_COLOURS = 12
 
+let made = 0
+
 /** A grid of a sheet. `onpoint`, `onchoose` and `onedit` are told what is pointed at, chosen and corrected. */
 export class Grid {
   constructor(sheet, title, handlers) {
+    this.id = `${++made}`
     this.sheet = sheet
     this.handlers = handlers
     this.marked = []
@@ -37,10 +40,19 @@ export class Grid {
       return cells
     })
     this.table = element('table', { class: this.isTable ? 'grid' : 'grid raw', role: 'grid', 'aria-label': title }, element('thead', {}, top), body)
+    // Columns of one width are laid out at once, however many there are.
+    const longest = Math.max(2, ...this.rows.flat().map(text => `${text}`.length))
+    const width = Math.min(120, 10 + 8 * longest)
+    this.table.classList.toggle('long', longest > 12)
+    this.table.style.width = `${width * (this.width + 1)}px`
     if (this.cells[0]?.[0]) this.cells[0][0].tabIndex = 0
-    this.element = element('figure', { class: 'table' },
-      element('figcaption', {}, element('h3', {}, title)),
-      element('div', { class: 'scroll' }, this.table))
+    // Headings of rows that stay are one element beside the table: a browser takes long to draw many elements that stay in place.
+    const heads = element('div', { class: 'heads', 'aria-hidden': 'true' }, element('div', {}, this.rows.map((_, i) => this.aside(i + 1))))
+    heads.style.width = `${width}px`
+    const cover = element('div', { class: 'cover', 'aria-hidden': 'true' }, element('div', {}, this.isTable ? '·' : ''))
+    cover.style.width = `${width}px`
+    this.box = element('div', { class: 'scroll' }, cover, heads, this.table)
+    this.element = element('figure', { class: 'table' }, element('figcaption', {}, element('h3', {}, title)), this.box)
   }
 
   /** A cue, or the spreadsheet's own name of a row or column where the sheet is no table. */
@@ -52,10 +64,17 @@ export class Grid {
     return cell
   }
 
+  /** The heading of a row, as it stays beside the table. */
+  aside(place) {
+    const made = element('span', { class: 'aside', title: this.isTable && this.sheet.about.names[place - 1] || false },
+      this.isTable ? `${place}` : `${this.first[0] + place - 1}`)
+    if (this.isTable) this.note(this.at, place, made)
+    return made
+  }
+
   cell(text, i, j, faulty) {
     const cell = document.createElement('td')
     cell.textContent = text
-    cell.tabIndex = -1
     if (this.isTable) {
       this.note(this.at, i, cell)
       if (i !== j) this.note(this.at, j, cell)
@@ -69,29 +88,39 @@ export class Grid {
 
   /**
    * Colours cues: `colours` has for each cue of the table the cue that marks it, or 0. `own` says whether that is the cue of another table,
-   * whose number is then shown.
+   * whose number is then shown. A row is coloured once it is seen.
    */
   paint(colours, own) {
+    this.watcher?.disconnect()
     for (const [cell, name] of this.painted) {
       cell.classList.remove('m', name)
       cell.querySelector('small')?.remove()
     }
     this.painted = []
     const cues = colours.filter(Boolean).length
-    this.table.classList.remove('painted')
     // Where every cue would look alike, colours say nothing.
-    if (!this.isTable || !cues || cues === this.height && cues > MOST_COLOURS && !own) return
+    const isPainted = this.isTable && cues > 0 && !(cues === this.height && cues > MOST_COLOURS && !own)
+    this.table.classList.toggle('painted', isPainted)
+    if (!isPainted) return
     const mark = (cell, cue) => {
       const name = cues > MOST_COLOURS ? 'm' : `c${cue}`
       cell.classList.add('m', name)
       if (own) cell.append(element('small', {}, `${cue}`))
       this.painted.push([cell, name])
     }
-    this.table.classList.add('painted')
-    const marked = colours.map((cue, place) => [cue, place]).filter(([cue]) => cue)
-    for (const [cue, i] of marked) {
-      this.at.get(i + 1).filter(cell => cell.tagName === 'TH').forEach(cell => mark(cell, cue))
-      for (const [, j] of marked) mark(this.cells[i][j], colours[this.rows[i][j] - 1])
+    const marked = [...colours.keys()].filter(place => colours[place])
+    const seen = entries => {
+      for (const { target, isIntersecting } of entries) {
+        if (!isIntersecting) continue
+        this.watcher.unobserve(target)
+        const i = target.rowIndex - 1
+        for (const j of marked) mark(this.cells[i][j], colours[this.rows[i][j] - 1])
+      }
+    }
+    this.watcher = new IntersectionObserver(seen, { root: this.box, rootMargin: '200px' })
+    for (const i of marked) {
+      for (const cell of this.at.get(i + 1)) if (cell.tagName !== 'TD') mark(cell, colours[i])
+      this.watcher.observe(this.cells[i][0].parentNode)
     }
   }
 
@@ -102,7 +131,7 @@ export class Grid {
 
   /** Row and column of a cell, from 1; 0 stands for a heading. */
   placeOf(cell) {
-    return [cell.parentNode.rowIndex, cell.cellIndex]
+    return cell.tagName === 'SPAN' ? [1 + [...cell.parentNode.children].indexOf(cell), 0] : [cell.parentNode.rowIndex, cell.cellIndex]
   }
 
   /** The cue that a cell or a heading stands for. */
@@ -119,13 +148,13 @@ export class Grid {
   }
 
   listen() {
-    const cellOf = event => event.target.closest('td,th')
-    this.table.addEventListener('pointerover', event => {
+    const cellOf = event => event.target.closest('td,th,.aside')
+    this.box.addEventListener('pointerover', event => {
       const cell = cellOf(event)
       if (cell && event.pointerType !== 'touch') this.handlers.onpoint(this, this.cueOf(cell), cell)
     })
-    this.table.addEventListener('pointerleave', () => this.handlers.onpoint(this, 0, null))
-    this.table.addEventListener('click', event => {
+    this.box.addEventListener('pointerleave', () => this.handlers.onpoint(this, 0, null))
+    this.box.addEventListener('click', event => {
       const cell = cellOf(event)
       if (!cell || event.target.tagName === 'INPUT') return
       if (cell.tagName === 'TD') this.focus(cell)
@@ -168,7 +197,7 @@ export class Grid {
 
   focus(cell) {
     if (!cell) return
-    this.table.querySelectorAll('td[tabindex="0"]').forEach(other => { other.tabIndex = -1 })
+    this.table.querySelectorAll('td[tabindex]').forEach(other => other.removeAttribute('tabindex'))
     cell.tabIndex = 0
     cell.focus()
   }
@@ -228,9 +257,9 @@ export class Grid {
 
   /** Shows which cues are chosen. */
   choose(cues) {
-    this.table.querySelectorAll('.chosen').forEach(cell => cell.classList.remove('chosen'))
+    this.box.querySelectorAll('.chosen').forEach(cell => cell.classList.remove('chosen'))
     for (const cue of cues) {
-      for (const cell of this.at.get(cue) ?? []) if (cell.tagName === 'TH') cell.classList.add('chosen')
+      for (const cell of this.at.get(cue) ?? []) if (cell.tagName !== 'TD') cell.classList.add('chosen')
     }
   }
 }

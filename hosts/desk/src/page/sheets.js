@@ -187,7 +187,7 @@ export function drawCards() {
     : emptyCard('show'))
   byId('rig-title').textContent = rigs.length > 1 ? `${rigs.length} rigs` : 'The rig'
   fill(byId('rig-body'), rigs.length
-    ? [element('ul', { class: 'entries' }, rigs.map(rig => sheetEntry(rig, 'rig', rig === currentRig()))),
+    ? [element('ul', { class: rigs.length > 6 ? 'entries many' : 'entries' }, rigs.map(rig => sheetEntry(rig, 'rig', rig === currentRig()))),
       element('p', { class: 'add' }, chooser('rig', 'Add rigs', true))]
     : emptyCard('rig'))
 }

@@ -136,7 +136,7 @@ function drawBar() {
   const both = Boolean(pair[0]?.about.table && pair[1]?.about.table)
   const usable = { look: true, pin: both, apart: both, part: Boolean(pair[0]?.about.table) }
   if (!usable[mode]) mode = 'look'
-  bar.replaceChildren(...Object.entries(MODES).filter(([name]) => usable[name]).map(([name, [text]]) =>
+  bar.replaceChildren(...Object.entries(MODES).filter(([name]) => usable[name] && usable.part).map(([name, [text]]) =>
     button(text, () => { if (mode !== name) setMode(name) }, { 'aria-pressed': String(mode === name) })))
   const cell = held?.cell?.tagName === 'TD' ? held : null
   if (cell && gridOf(pair[cell.side])?.sheet.cells) {
@@ -182,19 +182,28 @@ export function drawTables(answer) {
   drawBar()
 }
 
-/** Puts the tables on the page; those that are there already keep what is scrolled. */
+/** Puts the tables on the page; those that are there already stay as they are. */
 function place(shown) {
   for (const sheet of shown) {
     const role = sheet === pair[0] ? 'The show' : 'The rig'
     if (!grids.has(sheet)) grids.set(sheet, new Grid(sheet, `${role}: ${sheet.name}`, handlers))
   }
-  const boxes = shown.map(sheet => gridOf(sheet).element.querySelector('.scroll')).map(box => [box, box.scrollTop, box.scrollLeft])
-  const side = sheet => element('div', { class: 'side' },
-    faults(sheet, cell => gridOf(sheet).goTo(cell)), (sheet.cells || sheet.about.table) && gridOf(sheet).element)
-  fill(byId('tables'),
-    element('div', { class: 'bar' },
-      element('div', { id: 'modes', class: 'modes', role: 'group', 'aria-label': 'What choosing a cue does' }),
-      element('p', { id: 'told', class: 'told', role: 'status' })),
-    element('div', { class: 'sides' }, shown.map(side)))
-  for (const [box, top, left] of boxes) Object.assign(box, { scrollTop: top, scrollLeft: left })
+  if (!byId('modes')) {
+    fill(byId('tables'),
+      element('div', { class: 'bar' },
+        element('div', { id: 'modes', class: 'modes', role: 'group', 'aria-label': 'What choosing a cue does' }),
+        element('p', { id: 'told', class: 'told', role: 'status' })),
+      element('div', { class: 'sides' }))
+  }
+  const sides = byId('tables').querySelector('.sides')
+  const there = new Map([...sides.children].map(side => [side.dataset.of, side]))
+  const side = sheet => {
+    const grid = gridOf(sheet)
+    return there.get(grid.id) ?? element('div', { class: 'side', 'data-of': grid.id },
+      faults(sheet, cell => grid.goTo(cell)), (sheet.cells || sheet.about.table) && grid.element)
+  }
+  const next = shown.map(side)
+  sides.classList.toggle('two', next.length > 1)
+  for (const old of [...sides.children]) if (!next.includes(old)) old.remove()
+  next.forEach((made, place) => { if (sides.children[place] !== made) sides.insertBefore(made, sides.children[place] ?? null) })
 }

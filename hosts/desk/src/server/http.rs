@@ -66,11 +66,12 @@ pub struct Reply {
     status: u16,
     kind: &'static str,
     body: Vec<u8>,
+    location: Option<String>,
 }
 
 impl Reply {
     pub fn new(kind: &'static str, body: impl Into<Vec<u8>>) -> Reply {
-        Reply { status: 200, kind, body: body.into() }
+        Reply { status: 200, kind, body: body.into(), location: None }
     }
 
     pub fn json(body: Vec<u8>) -> Reply {
@@ -78,7 +79,12 @@ impl Reply {
     }
 
     pub fn words(status: u16, words: &str) -> Reply {
-        Reply { status, kind: "text/plain; charset=utf-8", body: format!("{words}\n").into_bytes() }
+        Reply { status, ..Reply::new("text/plain; charset=utf-8", format!("{words}\n")) }
+    }
+
+    /// Leads to another address.
+    pub fn elsewhere(address: String) -> Reply {
+        Reply { location: Some(address), ..Reply::words(303, "The page is elsewhere.") }
     }
 
     pub fn refused(why: &str) -> Reply {
@@ -163,9 +169,9 @@ impl Connection {
     pub fn send(&mut self, reply: Reply, limit: Duration) {
         self.deadline = Instant::now() + limit;
         let mut bytes = Vec::new();
-        let length = reply.body.len();
-        let response =
-            Response::new(reply.status.into(), headers(reply.kind), Cursor::new(reply.body), Some(length), None);
+        let (length, mut headers) = (reply.body.len(), headers(reply.kind));
+        headers.extend(reply.location.and_then(|address| Header::from_bytes("Location", address).ok()));
+        let response = Response::new(reply.status.into(), headers, Cursor::new(reply.body), Some(length), None);
         // In the older version a connection serves one request.
         let printed = response.raw_print(&mut bytes, HTTPVersion(1, 0), &[], false, None);
         if printed.and_then(|()| self.write_all(&bytes)).is_ok() {

@@ -10,7 +10,7 @@ mod question;
 
 use crate::asked::MOST_ASKED;
 use crate::signals::wait_for;
-use gate::Gate;
+use gate::{Gate, Pass};
 use http::{Connection, Head, Reply};
 use presence::Presence;
 use question::Outcome;
@@ -70,6 +70,11 @@ impl Server {
         self.gate.address()
     }
 
+    /// An address that leads to the page once.
+    pub fn once(&self) -> String {
+        self.gate.once()
+    }
+
     /// Serves until the page has been closed for a while.
     pub fn serve(self) {
         let server = Arc::new(self);
@@ -103,7 +108,8 @@ impl Server {
         let Ok(mut connection) = Connection::new(stream, PATIENCE) else { return };
         let reply = match connection.head() {
             Ok(head) => match self.gate.pass(&head) {
-                Ok(path) => self.reply(&path, &head, &mut connection),
+                Ok(Pass::Path(path)) => self.reply(&path, &head, &mut connection),
+                Ok(Pass::Address) => Some(Reply::elsewhere(self.address())),
                 Err(why) => Some(Reply::refused(why)),
             },
             Err(refused) => refused,
