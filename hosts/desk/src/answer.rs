@@ -3,7 +3,7 @@
 //! `docs/JSON.md` documents its shape.
 
 use crate::status::{Failure, Status};
-use serde::Serialize;
+use serde::{Deserialize, Serialize};
 use tickdrizzle::Table;
 
 /// The shape of the value: raised where a field changes its meaning or goes; new fields may come at any time.
@@ -24,8 +24,22 @@ pub struct Answer {
     #[serde(flatten)]
     pub chosen: Option<Chosen>,
     pub hints: Vec<String>,
+    /// What may be tried instead, where a search has found that it fits.
+    pub offer: Option<Offer>,
     /// The files that were written.
     pub written: Vec<String>,
+}
+
+/// What may be tried instead.
+#[derive(Clone, Copy, Debug, PartialEq, Eq, Serialize)]
+#[serde(rename_all = "snake_case")]
+pub enum Offer {
+    /// The rig's table read column first.
+    Mirror,
+    /// The rig's table read row first.
+    Plain,
+    /// The two tables the other way round.
+    Swap,
 }
 
 /// A sheet that was read.
@@ -36,6 +50,8 @@ pub struct Sheet {
     pub role: Role,
     /// The number of cues, where it is a linking table.
     pub order: Option<usize>,
+    /// The row and the column of the sheet where the table begins, counted from 1, where it is one.
+    pub begins: Option<[usize; 2]>,
     /// The table, row after row, where it is one.
     pub table: Option<Vec<Vec<u8>>>,
     /// The names of the cues, from 1 on; empty where they are not known.
@@ -111,7 +127,7 @@ pub struct Fault {
 }
 
 /// Cells of a sheet, with the row and the column of the first, counted from 1.
-#[derive(Clone, Debug, Serialize)]
+#[derive(Clone, Debug, Deserialize, Serialize)]
 pub struct Cells {
     pub row: usize,
     pub column: usize,
@@ -289,6 +305,7 @@ impl Answer {
             result: None,
             chosen: None,
             hints: Vec::new(),
+            offer: None,
             written: Vec::new(),
         }
     }

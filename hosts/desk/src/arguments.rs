@@ -68,6 +68,9 @@ pub struct Page {
 
 #[derive(Debug, Subcommand)]
 pub enum Command {
+    /// Opens all of this as a page in this computer's browser
+    #[command(after_help = OPEN_EXAMPLE)]
+    Open(OpenArguments),
     /// Finds which cue of the rig each cue of the show becomes
     #[command(after_help = MOVE_EXAMPLE)]
     Move(MoveArguments),
@@ -101,6 +104,9 @@ pub enum Command {
     /// Writes a sheet as clean CSV beside the original, for other programs
     #[command(after_help = MEND_EXAMPLE)]
     Mend(MendArguments),
+    /// Answers one question of the page: docs/JSON.md tells how it is asked on standard input
+    #[command(hide = true)]
+    Ask,
     /// Prints what completes the arguments in bash, zsh or fish
     #[command(after_help = COMPLETIONS_EXAMPLE)]
     Completions(CompletionsArguments),
@@ -370,6 +376,22 @@ pub struct MendArguments {
     /// Overwrites a mended sheet that is already there
     #[arg(long, visible_alias = "replace")]
     pub force: bool,
+}
+
+const OPEN_EXAMPLE: &str = "\
+Example: the address has a new port and a new token each time
+  $ tickdrizzle open
+  The page is at http://127.0.0.1:40417/3f6c0d4a9be1f2877d0e5b1c64a8f935/
+  It ends a minute after its page is closed, or by Ctrl-C.";
+
+#[derive(Debug, Args)]
+pub struct OpenArguments {
+    /// Prints the address and opens no browser
+    #[arg(long)]
+    pub no_browser: bool,
+    /// The port to listen on, on 127.0.0.1; a free one where none is given
+    #[arg(long, value_name = "NUMBER", default_value = "0", hide_default_value = true)]
+    pub port: u16,
 }
 
 const COMPLETIONS_EXAMPLE: &str = "\

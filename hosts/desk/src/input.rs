@@ -1,11 +1,10 @@
 //! The files that a command reads: paths, standard input, sheets of workbooks, folders. They are opened for reading only.
 
+use crate::files;
 use crate::names::{is_name_sheet, name_sheets};
 use crate::reader::table;
 use crate::status::{Failure, Status};
 use crate::words::{path_shown, visible};
-use std::fs::{self, File};
-use std::io::{self, Read};
 use std::path::{Path, PathBuf};
 
 /// A longer file is not read: a table has less than 60,000 bytes as text, and a workbook of one some hundred thousand.
@@ -31,7 +30,7 @@ impl Source {
         let text = given.to_string_lossy();
         match text.rsplit_once('#') {
             _ if text == "-" => source(None, None),
-            Some((file, sheet)) if !given.exists() && Path::new(file).is_file() => {
+            Some((file, sheet)) if !files::exists(given) && files::is_file(Path::new(file)) => {
                 source(Some(file.into()), Some(sheet.to_owned()))
             }
             _ => source(Some(given.to_owned()), None),
@@ -39,12 +38,11 @@ impl Source {
     }
 
     pub fn bytes(&self) -> Result<Vec<u8>, Failure> {
-        let mut bytes = Vec::new();
         let read = match &self.file {
-            Some(file) => File::open(file).and_then(|file| file.take(MOST_BYTES + 1).read_to_end(&mut bytes)),
-            None => io::stdin().lock().take(MOST_BYTES + 1).read_to_end(&mut bytes),
+            Some(file) => files::read(file, MOST_BYTES + 1),
+            None => files::read_standard(MOST_BYTES + 1),
         };
-        read.map_err(|error| Failure::reading(&self.given, &error))?;
+        let bytes = read.map_err(|error| Failure::reading(&self.given, &error))?;
         if bytes.len() as u64 > MOST_BYTES {
             return Err(Failure::file(&self.given, "reading failed: the file is too long for a sheet"));
         }
@@ -60,35 +58,34 @@ impl Source {
 /// The files that paths name and that a command may read, with their name sheets. Of a folder these are its show and its rig, or all
 /// sheets.
 pub fn inputs(paths: &[PathBuf], all: bool) -> Vec<PathBuf> {
-    let mut files = Vec::new();
+    let mut found = Vec::new();
     for path in paths {
-        if !path.is_dir() {
-            files.extend(Source::new(path).file);
+        if !files::is_folder(path) {
+            found.extend(Source::new(path).file);
         } else if all {
-            files.extend(sheets(path));
+            found.extend(sheets(path));
         } else {
-            files.extend(["source", "target"].iter().flat_map(|stem| with_endings(&path.join(stem))));
+            found.extend(["source", "target"].iter().flat_map(|stem| with_endings(&path.join(stem))));
         }
     }
-    let names: Vec<_> = files.iter().flat_map(|file| name_sheets(file)).collect();
-    [files, names].concat()
+    let names: Vec<_> = found.iter().flat_map(|file| name_sheets(file)).collect();
+    [found, names].concat()
 }
 
 /// The files of a folder that may hold a table, in the order of their names.
 pub fn sheets(folder: &Path) -> Vec<PathBuf> {
-    let entries = fs::read_dir(folder).into_iter().flatten().flatten().map(|entry| entry.path());
     let has_ending = |path: &PathBuf| {
         let ending = path.extension().unwrap_or_default().to_string_lossy().to_lowercase();
-        ENDINGS.contains(&&*ending) && path.is_file() && !is_name_sheet(path)
+        ENDINGS.contains(&&*ending) && !is_name_sheet(path)
     };
-    let mut sheets: Vec<_> = entries.filter(has_ending).collect();
+    let mut sheets: Vec<_> = files::of_folder(folder).into_iter().filter(has_ending).collect();
     sheets.sort();
     sheets
 }
 
 /// Whether two sources are one sheet of one file.
 pub fn is_same(one: &Source, other: &Source) -> bool {
-    let file = |source: &Source| source.file.as_ref().and_then(|file| file.canonicalize().ok());
+    let file = |source: &Source| source.file.as_ref().and_then(|file| files::resolved(file));
     one.sheet == other.sheet && file(one).is_some() && file(one) == file(other)
 }
 
@@ -120,10 +117,10 @@ pub fn strict_pair(paths: &[PathBuf]) -> Result<[Source; 2], Failure> {
 
 /// The path, where it is a folder.
 fn folder_of(path: &Path) -> Result<&Path, Failure> {
-    match path.metadata() {
+    match files::find(path) {
         Err(error) => Err(Failure::reading(path, &error)),
-        Ok(data) if data.is_dir() => Ok(path),
-        Ok(_) => {
+        Ok(true) => Ok(path),
+        Ok(false) => {
             Err(Failure::usage(format!("{}: this is one sheet; give its folder, or both sheets", path_shown(path))))
         }
     }
@@ -131,7 +128,7 @@ fn folder_of(path: &Path) -> Result<&Path, Failure> {
 
 /// The sheet that a path names: itself, or a folder's show.
 pub fn single(path: &Path) -> Result<Source, Failure> {
-    if path.is_dir() {
+    if files::is_folder(path) {
         in_folder(path, "source", "show")
     } else {
         Ok(Source::new(path))
@@ -142,7 +139,7 @@ pub fn single(path: &Path) -> Result<Source, Failure> {
 pub fn each(paths: &[PathBuf]) -> Result<Vec<Source>, Failure> {
     let mut sources = Vec::new();
     for path in paths {
-        if path.is_dir() {
+        if files::is_folder(path) {
             sources.push(in_folder(path, "source", "show")?);
             sources.push(in_folder(path, "target", "rig")?);
         } else {
@@ -193,12 +190,12 @@ fn in_folder(folder: &Path, stem: &str, what: &str) -> Result<Source, Failure> {
 /// The files of a name with each of the endings that are there.
 pub fn with_endings(stem: &Path) -> Vec<PathBuf> {
     let with = |ending: &&str| PathBuf::from(format!("{}.{ending}", stem.display()));
-    ENDINGS.iter().map(with).filter(|path| path.is_file()).collect()
+    ENDINGS.iter().map(with).filter(|path| files::is_file(path)).collect()
 }
 
 /// What a folder has instead of a sheet, and what may be meant.
 fn missing(folder: &Path, stem: &str, what: &str) -> String {
-    let names = files(folder);
+    let names = names_in(folder);
     let there =
         if names.is_empty() { "The folder has no file.".into() } else { format!("There are: {}.", names.join(", ")) };
     let near: Vec<_> = names.iter().filter(|name| is_near(name, stem)).map(|name| format!("{name:?}")).collect();
@@ -210,11 +207,9 @@ fn missing(folder: &Path, stem: &str, what: &str) -> String {
 }
 
 /// The names of a folder's files, at most twenty, in order.
-fn files(folder: &Path) -> Vec<String> {
+fn names_in(folder: &Path) -> Vec<String> {
     const MOST: usize = 20;
-    let entries = fs::read_dir(folder).into_iter().flatten().flatten();
-    let mut names: Vec<_> =
-        entries.filter(|entry| entry.path().is_file()).map(|entry| name_of(&entry.path())).collect();
+    let mut names: Vec<_> = files::of_folder(folder).iter().map(|path| name_of(path)).collect();
     names.sort();
     if names.len() > MOST {
         let more = names.len() - MOST;

@@ -2,8 +2,10 @@
 
 mod answer;
 mod arguments;
+mod asked;
 mod building;
 mod commands;
+mod files;
 mod input;
 mod names;
 mod output;
@@ -13,6 +15,7 @@ mod pins;
 mod progress;
 mod reader;
 mod repair;
+mod server;
 mod sheet;
 mod signals;
 mod status;
@@ -30,6 +33,8 @@ use views::text::Manner;
 fn main() -> ExitCode {
     let status = match Arguments::try_parse() {
         Ok(Arguments { command: Command::Completions(arguments), .. }) => completions(arguments.shell),
+        Ok(Arguments { command: Command::Open(arguments), options }) => commands::open::run(&arguments, &options),
+        Ok(Arguments { command: Command::Ask, .. }) => ask(),
         Ok(arguments) => finish(&commands::run(&arguments.command, &arguments.options), &arguments),
         Err(error) if error.use_stderr() => {
             let _ = error.print();
@@ -46,8 +51,27 @@ fn completions(shell: clap_complete::Shell) -> Status {
     print(&script, Status::Found)
 }
 
+/// Answers a question of the page.
+fn ask() -> Status {
+    match asked::run() {
+        Ok(text) => print(text.as_bytes(), Status::Found),
+        Err(why) => {
+            let _ = writeln!(io::stderr(), "tickdrizzle: {why}");
+            Status::Usage
+        }
+    }
+}
+
 /// Says what there is to say; how the program ends. Why a command failed is said on standard error.
 fn finish(done: &Done, arguments: &Arguments) -> Status {
+    let (text, errors) = printed(done, arguments);
+    let status = print(&text, done.answer.status);
+    let _ = io::stderr().write_all(errors.as_bytes());
+    status
+}
+
+/// What goes to standard output and to standard error.
+fn printed(done: &Done, arguments: &Arguments) -> (Vec<u8>, String) {
     let (answer, options) = (&done.answer, &arguments.options);
     let is_csv = matches!(&arguments.command, Command::Move(arguments) if arguments.csv)
         || matches!(&arguments.command, Command::Classes(arguments) if arguments.csv)
@@ -64,12 +88,10 @@ fn finish(done: &Done, arguments: &Arguments) -> Status {
         }
         _ => views::text::text(answer, manner(options)).into_bytes(),
     };
-    let status = print(&text, answer.status);
     if failed && !options.json {
         errors += &format!("tickdrizzle: {}\n", answer.says);
     }
-    let _ = io::stderr().write_all(errors.as_bytes());
-    status
+    (text, errors)
 }
 
 /// Whether the answer is short, and whether it has colours: on a terminal, where `NO_COLOR` is not set, or as `--color` says.
@@ -83,7 +105,7 @@ fn manner(options: &Options) -> Manner {
 }
 
 /// Writes to standard output. A failed write is a failure whatever was found, but a reader that has read enough is none.
-fn print(text: &[u8], status: Status) -> Status {
+pub fn print(text: &[u8], status: Status) -> Status {
     let mut output = io::stdout().lock();
     let written = if signals::is_output_closed() && !text.is_empty() {
         Err(io::Error::other("standard output is closed"))

@@ -1,10 +1,11 @@
-//! Writing files: whole or not at all, and never over what a user made.
+//! Writing files: whole or not at all, and never over what a user made. Where the files were sent, none is written: the reply takes them.
 
+use crate::files;
 use crate::signals::uninterrupted;
 use crate::status::Failure;
 use crate::words::path_shown;
 use std::fs::{self, File, Metadata, OpenOptions};
-use std::io::{self, Read, Write};
+use std::io::{self, Write};
 use std::os::fd::AsFd;
 use std::os::unix::fs::MetadataExt;
 use std::path::{Path, PathBuf};
@@ -35,6 +36,9 @@ pub fn is_standard(path: &Path) -> bool {
 /// Asks whether a file may be written: it must be no input, and must not be there, unless it was made by this program, holds these bytes
 /// already, or `force` is set.
 pub fn allowed(path: &Path, bytes: Option<&[u8]>, inputs: &[PathBuf], force: bool) -> Result<(), Failure> {
+    if files::are_sent() {
+        return Ok(());
+    }
     let Ok(data) = path.metadata() else {
         return match path.symlink_metadata() {
             Ok(_) => Err(refused(path, "it is a link to nowhere")),
@@ -72,37 +76,37 @@ fn is_input(data: &Metadata, inputs: &[PathBuf]) -> bool {
 
 /// Whether a file is a page of this program.
 fn is_page(path: &Path) -> bool {
-    let mut front = Vec::new();
-    let read = File::open(path).and_then(|file| file.take(MARK_WITHIN).read_to_end(&mut front));
-    read.is_ok() && front.windows(MARK.len()).any(|part| part == MARK.as_bytes())
+    let front = files::read(path, MARK_WITHIN).unwrap_or_default();
+    front.windows(MARK.len()).any(|part| part == MARK.as_bytes())
 }
 
 /// Whether a file holds these bytes.
 pub fn holds(path: &Path, bytes: &[u8]) -> bool {
-    let mut there = Vec::new();
-    let read = File::open(path).and_then(|file| file.take(bytes.len() as u64 + 1).read_to_end(&mut there));
-    read.is_ok() && there == bytes
+    files::read(path, bytes.len() as u64 + 1).is_ok_and(|there| there == bytes)
 }
 
 /// Writes files, where all of them may be written. What goes to standard output is left to the caller.
 pub fn write(outputs: &[Output], inputs: &[PathBuf], force: bool) -> Result<Vec<String>, Failure> {
-    let files: Vec<_> = outputs.iter().filter(|output| !is_standard(&output.path)).collect();
-    for (place, output) in files.iter().enumerate() {
-        if files[..place].iter().any(|other| resolved(&other.path) == resolved(&output.path)) {
+    let written: Vec<_> = outputs.iter().filter(|output| !is_standard(&output.path)).collect();
+    for (place, output) in written.iter().enumerate() {
+        if written[..place].iter().any(|other| resolved(&other.path) == resolved(&output.path)) {
             return Err(Failure::usage(format!("{}: two outputs cannot go to one file", path_shown(&output.path))));
         }
         allowed(&output.path, Some(&output.bytes), inputs, force)?;
     }
-    for output in &files {
+    for output in written.iter().filter(|_| !files::are_sent()) {
         let special = output.path.metadata().is_ok_and(|data| !data.is_file());
         let done = if special { write_straight(output) } else { uninterrupted(|| write_whole(output)) };
         done.map_err(|error| Failure::writing(&output.path, &error))?;
     }
-    Ok(files.iter().map(|output| path_shown(&output.path)).collect())
+    Ok(written.iter().map(|output| path_shown(&output.path)).collect())
 }
 
 /// The file that a path leads to.
 fn resolved(path: &Path) -> PathBuf {
+    if files::are_sent() {
+        return path.to_owned();
+    }
     let folder = path.parent().filter(|parent| !parent.as_os_str().is_empty()).unwrap_or(Path::new("."));
     path.canonicalize().unwrap_or_else(|_| match (folder.canonicalize(), path.file_name()) {
         (Ok(folder), Some(name)) => folder.join(name),

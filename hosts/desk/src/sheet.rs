@@ -52,6 +52,7 @@ pub fn opened_by(load: Loading, source: &Source, bytes: &[u8], role: Role, stric
     let mut about = Sheet { path: path_shown(&source.given), role, names, ..Sheet::default() };
     // What the library takes as it is needs no reading.
     let as_it_is = Some(bytes).filter(|_| source.sheet.is_none()).and_then(|bytes| load(bytes).ok());
+    about.begins = as_it_is.as_ref().map(|_| [1, 1]);
     let table = as_it_is.or_else(|| read(load, source, bytes, strict, &mut about));
     about.order = table.as_ref().map(Table::order);
     about.table = table.as_ref().map(rows);
@@ -65,6 +66,7 @@ fn read(load: Loading, source: &Source, bytes: &[u8], strict: bool, about: &mut 
         Ok(reading) => {
             about.mended.clone_from(&reading.mended);
             let loaded = load(&reading.text);
+            about.begins = loaded.is_ok().then_some([reading.top + 1, reading.left + 1]);
             if let Err(refusal) = &loaded {
                 about.refusal = Some(explain(&reading, refusal.question, &source.given, about));
                 let ((top, left), rows) = reading.shown();

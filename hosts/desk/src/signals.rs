@@ -1,12 +1,15 @@
-//! Interrupts: the progress line goes, and no file is left half written. And whether standard output was closed at the start.
+//! What is asked of the system itself. Interrupts: the progress line goes, and no file is left half written. Whether standard output was
+//! closed at the start. Limits of a process that answers for a page, and waiting for several things at once.
 //!
 //! All unsafe code of this program is here.
 
 use libc::{c_int, SIGHUP, SIGINT, SIGTERM};
 use std::io::{stderr, IsTerminal};
 use std::mem::MaybeUninit;
+use std::os::fd::{AsRawFd, BorrowedFd};
 use std::ptr;
 use std::sync::atomic::{AtomicBool, Ordering};
+use std::time::Duration;
 
 /// Moves to the front of the line and erases it.
 const ERASE: &[u8] = b"\r\x1b[2K";
@@ -44,6 +47,31 @@ pub fn uninterrupted<T>(work: impl FnOnce() -> T) -> T {
     // SAFETY: the mask was filled above.
     unsafe { libc::pthread_sigmask(libc::SIG_SETMASK, before.as_ptr(), ptr::null_mut()) };
     done
+}
+
+/// What a process that answers for a page may take of memory, addresses that it does not touch included.
+const MOST_MEMORY: u64 = 4 << 30;
+
+/// From now on this process can open no file and no socket, and it ends where the process that has started it does.
+pub fn open_no_files() {
+    let limit = |most: u64| libc::rlimit { rlim_cur: most, rlim_max: most };
+    let standard = u64::try_from(libc::STDERR_FILENO).unwrap_or(0) + 1;
+    // SAFETY: the calls read the limits that are lent, and change nothing else in this program.
+    unsafe {
+        libc::setrlimit(libc::RLIMIT_NOFILE, &limit(standard));
+        libc::setrlimit(libc::RLIMIT_AS, &limit(MOST_MEMORY));
+        libc::setrlimit(libc::RLIMIT_CORE, &limit(0));
+        libc::prctl(libc::PR_SET_PDEATHSIG, libc::SIGKILL);
+    }
+}
+
+/// Waits until something can be read, or has ended, and says of each whether that is so; all are false where the time is over.
+pub fn wait_for<const N: usize>(things: [BorrowedFd; N], limit: Duration) -> [bool; N] {
+    let mut polled = things.map(|thing| libc::pollfd { fd: thing.as_raw_fd(), events: libc::POLLIN, revents: 0 });
+    let milliseconds = c_int::try_from(limit.as_millis()).unwrap_or(c_int::MAX);
+    // SAFETY: the array has as many entries as are said, of open files.
+    let number = unsafe { libc::poll(polled.as_mut_ptr(), N as libc::nfds_t, milliseconds) };
+    polled.map(|thing| number > 0 && thing.revents != 0)
 }
 
 /// Whether the program was started with standard output closed. The standard library opens a device in its place before `main`.

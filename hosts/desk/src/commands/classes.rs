@@ -3,12 +3,12 @@
 use super::Work;
 use crate::answer::{Class, Found, Role};
 use crate::arguments::ClassesArguments;
+use crate::files;
 use crate::input::{self, name_of, Source};
 use crate::progress::Progress;
 use crate::sheet::{opened, original_of};
 use crate::status::{Failure, Status};
 use crate::words::count;
-use std::fs::File;
 use std::path::{Path, PathBuf};
 use tickdrizzle::Table;
 
@@ -73,7 +73,7 @@ fn sentence(classes: usize, sheets: usize) -> String {
 /// The sheets that were given, or those of a folder.
 fn sources(paths: &[PathBuf], csv: bool, work: &mut Work) -> Result<Vec<Source>, Failure> {
     let [folder] = paths else { return input::each_file(paths) };
-    if !folder.is_dir() {
+    if !files::is_folder(folder) {
         return input::each_file(paths);
     }
     if !csv {
@@ -107,7 +107,7 @@ fn left_out(left: Vec<PathBuf>, why: &str, work: &mut Work) {
 /// The files that the program classes reads: 01.csv, 02.csv and so on, until one cannot be opened.
 fn numbered(folder: &Path) -> Vec<PathBuf> {
     let names = (1..=LAST_FILE).map(|number| folder.join(format!("{number:02}.csv")));
-    names.take_while(|path| File::open(path).is_ok()).collect()
+    names.take_while(|path| files::opens(path)).collect()
 }
 
 /// Whether a file holds records that this program printed.

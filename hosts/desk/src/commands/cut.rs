@@ -3,6 +3,7 @@
 use super::Work;
 use crate::answer::{rows, Fault, Found, Role, Sheet};
 use crate::arguments::CutArguments;
+use crate::files;
 use crate::input;
 use crate::output::is_standard;
 use crate::sheet::{open, several};
@@ -69,7 +70,7 @@ fn name_part(work: &mut Work, whole: &Sheet, part: &Part, path: &Path) {
             if !whole.names.is_empty() {
                 work.answer.hints.push("No names were written for the part: some of its cues have none.".into());
             }
-            if beside.exists() {
+            if files::exists(&beside) {
                 work.answer.hints.push(format!("{} was there before and is not about this part.", path_shown(&beside)));
             }
         }

@@ -3,6 +3,7 @@
 use super::Work;
 use crate::answer::{Found, Mending, MendingState, Refusal, Role};
 use crate::arguments::MendArguments;
+use crate::files::is_folder;
 use crate::input::{self, Source};
 use crate::names::{self, is_name_sheet, name_sheets};
 use crate::output::holds;
@@ -44,7 +45,7 @@ fn sources(paths: &[PathBuf]) -> Result<Vec<Source>, Failure> {
     let mut sources = Vec::new();
     for path in paths {
         let tables = input::each(std::slice::from_ref(path))?;
-        let files = tables.iter().filter_map(|table| table.file.clone()).filter(|_| path.is_dir());
+        let files = tables.iter().filter_map(|table| table.file.clone()).filter(|_| is_folder(path));
         let names: Vec<Source> = files.flat_map(|file| name_sheets(&file)).map(|names| Source::new(&names)).collect();
         sources.extend(tables);
         sources.extend(names);

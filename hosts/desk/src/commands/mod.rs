@@ -7,6 +7,7 @@ mod cues;
 mod cut;
 mod mend;
 mod moving;
+pub mod open;
 mod positions;
 mod rigs;
 mod settles;
@@ -39,6 +40,8 @@ pub struct Done {
     pub answer: Answer,
     /// What goes to standard output instead of the answer.
     pub standard: Option<Vec<u8>>,
+    /// The files that were to be written.
+    pub outputs: Vec<Output>,
 }
 
 /// Runs a command that answers.
@@ -84,7 +87,9 @@ pub fn run(command: &Command, options: &Options) -> Done {
         Command::Mend(arguments) => {
             answered("mend", options, &arguments.paths, None, |work| mend::run(arguments, work))
         }
-        Command::Completions(_) => unreachable!("completions are printed before"),
+        Command::Open(_) | Command::Ask | Command::Completions(_) => {
+            unreachable!("commands that have no answer of their own run before")
+        }
     }
 }
 
@@ -117,8 +122,8 @@ fn answered(
         Ok(written) => answer.written.extend(written),
         Err(failure) => answer = Answer::new(command).failed(failure),
     }
-    let standard = outputs.into_iter().find(|output| output::is_standard(&output.path));
-    Done { answer, standard: standard.map(|output| output.bytes) }
+    let standard = outputs.iter().find(|output| output::is_standard(&output.path)).map(|output| output.bytes.clone());
+    Done { answer, standard, outputs }
 }
 
 impl Work<'_> {

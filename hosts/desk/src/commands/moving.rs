@@ -3,7 +3,7 @@
 
 use super::copies::MOST_COPIES;
 use super::{why, Work};
-use crate::answer::{Chosen, Found, Pair, Role};
+use crate::answer::{Chosen, Found, Offer, Pair, Role};
 use crate::arguments::MoveArguments;
 use crate::building::generators;
 use crate::input;
@@ -250,7 +250,12 @@ pub fn run(arguments: &MoveArguments, work: &mut Work) -> Result<(), Failure> {
     }
     if !arguments.csv {
         let is_misfit = work.answer.status == Status::None && !search.pins_matter();
-        work.answer.hints.extend(hint(&sources, source, target, is_misfit, arguments.mirror));
+        if input::is_same(&sources[0], &sources[1]) {
+            work.answer.hints.push("The show and the rig are the same file.".into());
+        } else if let Some((offer, says)) = is_misfit.then(|| offer(source, target, arguments.mirror)).flatten() {
+            work.answer.hints.push(says.into());
+            work.answer.offer = Some(offer);
+        }
     }
     if let Some(path) = &arguments.output {
         match &work.answer.result {
@@ -449,27 +454,17 @@ fn tried(trials: u32) -> String {
     count(trials as usize, "trial")
 }
 
-/// What may have been meant: two different files, the other way to read the rig, or the two tables the other way round.
-fn hint(
-    sources: &[input::Source; 2],
-    source: &Table,
-    target: &Table,
-    is_misfit: bool,
-    is_mirrored: bool,
-) -> Option<String> {
-    if input::is_same(&sources[0], &sources[1]) {
-        return Some("The show and the rig are the same file.".into());
-    }
-    if !is_misfit {
-        return None;
-    }
-    let (search, says) = if source.order() > target.order() {
+/// What fits instead: the other way to read the rig, or the two tables the other way round.
+fn offer(source: &Table, target: &Table, is_mirrored: bool) -> Option<(Offer, &'static str)> {
+    let (search, offer, says) = if source.order() > target.order() {
         let says = "The rig's table fits in the show's: perhaps the two are the wrong way round.";
-        (Search::plain(target, source), says)
+        (Search::plain(target, source), Offer::Swap, says)
     } else if is_mirrored {
-        (Search::plain(source, target), "The rig's table read row first fits: leave out --mirror.")
+        let says = "The rig's table read row first fits: leave out --mirror.";
+        (Search::plain(source, target), Offer::Plain, says)
     } else {
-        (Search::mirrored(source, target), "The rig's table read column first fits: see --mirror.")
+        let says = "The rig's table read column first fits: see --mirror.";
+        (Search::mirrored(source, target), Offer::Mirror, says)
     };
-    within(Some(HINT_TIME), move || search.finds()).filter(|&fits| fits).map(|_| says.into())
+    within(Some(HINT_TIME), move || search.finds()).filter(|&fits| fits).map(|_| (offer, says))
 }

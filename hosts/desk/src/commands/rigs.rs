@@ -6,6 +6,7 @@ use super::{copies, Work};
 use crate::answer::{Fault, Found, Rig, RigOutcome, Role, Sheet};
 use crate::arguments::RigsArguments;
 use crate::building;
+use crate::files;
 use crate::input::{self, Source};
 use crate::patience::told_within;
 use crate::progress::Progress;
@@ -59,7 +60,7 @@ pub fn run(arguments: &RigsArguments, work: &mut Work) -> Result<(), Failure> {
 fn sources(arguments: &RigsArguments, show: &Source, work: &mut Work) -> Vec<Source> {
     let mut sources = Vec::new();
     for path in &arguments.rigs {
-        if path.is_dir() {
+        if files::is_folder(path) {
             sources.extend(in_folder(path, work));
         } else {
             sources.push(Source::new(path));

@@ -30,6 +30,9 @@ pub struct Reading {
     numbers: Option<Vec<Vec<u32>>>,
 }
 
+/// Texts of cells, row after row, with the row and the column of the first, counted from 0.
+pub type Placed = ((usize, usize), Vec<Vec<String>>);
+
 /// What cells look like that stand before a table.
 #[derive(Clone, Copy, PartialEq, Eq)]
 enum Label {
@@ -200,7 +203,7 @@ impl Reading {
     }
 
     /// The cells from the first that is not blank on, with headings, as they are shown, and the place of that one, counted from 0.
-    pub fn shown(&self) -> ((usize, usize), Vec<Vec<String>>) {
+    pub fn shown(&self) -> Placed {
         let (top, left) = self.grid.blank_before();
         let cut = |cell: &Cell| visible(&cell.text.chars().take(LONGEST_IN_GRID).collect::<String>());
         let rows = self.grid.rows.iter().skip(top).take(MOST_IN_GRID.min(self.grid.height.saturating_sub(top)));
@@ -208,6 +211,17 @@ impl Reading {
             row.iter().skip(left).take(MOST_IN_GRID.min(self.grid.width.saturating_sub(left))).map(cut).collect()
         };
         ((top, left), rows.map(cells).collect())
+    }
+
+    /// The cells from the first that is not blank on, with headings, so that they can be written as text and read again: a number by its
+    /// digits, all else as it stands; with the place of the first, counted from 0. Nothing where some cells were not kept.
+    pub fn cells(&self) -> Option<Placed> {
+        let (top, left) = self.grid.blank_before();
+        let text = |cell: &Cell| number(cell).map_or_else(|_| cell.text.clone(), |value| value.to_string());
+        let rows = self.grid.rows.iter().take(self.grid.height).skip(top);
+        let cells = |row: &Vec<Cell>| row.iter().take(self.grid.width).skip(left).map(text).collect();
+        let is_kept = self.grid.height <= MOST_KEPT && self.grid.width <= MOST_KEPT;
+        is_kept.then(|| ((top, left), rows.map(cells).collect()))
     }
 
     /// How many cells each row of the table has.

@@ -17,6 +17,7 @@ mod refusals;
 mod repairs;
 mod rigs;
 mod run;
+mod serving;
 mod sheets;
 mod ways;
 mod workbooks;

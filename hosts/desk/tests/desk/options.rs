@@ -12,7 +12,7 @@ fn json(arguments: &[&str], status: i32) -> Value {
     assert!(outcome.output.starts_with(FIELDS) && outcome.output.ends_with("}\n"), "{}", outcome.output);
     let value: Value = serde_json::from_str(&outcome.output).expect("it is JSON");
     let fields: Vec<_> = value.as_object().expect("it is an object").keys().cloned().collect();
-    assert_eq!(fields, ["command", "hints", "result", "says", "shape", "sheets", "status", "written"]);
+    assert_eq!(fields, ["command", "hints", "offer", "result", "says", "shape", "sheets", "status", "written"]);
     value
 }
 
@@ -28,12 +28,12 @@ fn every_answer_as_json() {
             "says": "The show fits: its 2 cues go to 2 of the rig's 4.",
             "sheets": [
                 {
-                    "path": "examples/named/source.csv", "role": "show", "order": 2, "table": [[1, 2], [2, 1]],
+                    "path": "examples/named/source.csv", "role": "show", "order": 2, "begins": [1, 1], "table": [[1, 2], [2, 1]],
                     "names": ["hold", "second link, up"], "mended": [], "refusal": null, "cells": null,
                     "name_sheet": {"path": "examples/named/source.names.csv", "mended": [], "refusal": null}
                 },
                 {
-                    "path": "examples/named/target.csv", "role": "rig", "order": 4,
+                    "path": "examples/named/target.csv", "role": "rig", "order": 4, "begins": [1, 1],
                     "table": [[1, 1, 4, 4], [1, 2, 3, 4], [1, 3, 2, 4], [1, 4, 1, 4]],
                     "names": found["sheets"][1]["names"], "mended": [], "refusal": null, "cells": null,
                     "name_sheet": {"path": "examples/named/target.names.csv", "mended": [], "refusal": null}
@@ -41,6 +41,7 @@ fn every_answer_as_json() {
             ],
             "result": {"map": {"images": [2, 3], "trials": null, "mirrored": false}},
             "hints": [],
+            "offer": null,
             "written": []
         })
     );
