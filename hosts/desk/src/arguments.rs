@@ -107,6 +107,9 @@ pub enum Command {
     /// Answers one question of the page: docs/JSON.md tells how it is asked on standard input
     #[command(hide = true)]
     Ask,
+    /// Searches rigs for a show, for `rigs`
+    #[command(hide = true)]
+    SearchRigs,
     /// Prints what completes the arguments in bash, zsh or fish
     #[command(after_help = COMPLETIONS_EXAMPLE)]
     Completions(CompletionsArguments),

@@ -132,9 +132,10 @@ fn answer(arguments: &[String]) -> (Done, String) {
     };
     let line = std::iter::once("tickdrizzle").chain(arguments.iter().map(String::as_str));
     match Arguments::try_parse_from(line) {
-        Ok(Arguments { command: Command::Open(_) | Command::Ask | Command::Completions(_), .. }) => {
-            unanswered("this command is not asked from a page".into())
-        }
+        Ok(Arguments {
+            command: Command::Open(_) | Command::Ask | Command::SearchRigs | Command::Completions(_),
+            ..
+        }) => unanswered("this command is not asked from a page".into()),
         Ok(arguments) => {
             let done = commands::run(&arguments.command, &arguments.options);
             let (text, errors) = printed(&done, &arguments);

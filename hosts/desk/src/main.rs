@@ -15,6 +15,7 @@ mod pins;
 mod progress;
 mod reader;
 mod repair;
+mod searcher;
 mod server;
 mod sheet;
 mod signals;
@@ -35,6 +36,9 @@ fn main() -> ExitCode {
         Ok(Arguments { command: Command::Completions(arguments), .. }) => completions(arguments.shell),
         Ok(Arguments { command: Command::Open(arguments), options }) => commands::open::run(&arguments, &options),
         Ok(Arguments { command: Command::Ask, .. }) => ask(),
+        Ok(Arguments { command: Command::SearchRigs, .. }) => {
+            searcher::run().map_or(Status::Failed, |()| Status::Found)
+        }
         Ok(arguments) => finish(&commands::run(&arguments.command, &arguments.options), &arguments),
         Err(error) if error.use_stderr() => {
             let _ = error.print();

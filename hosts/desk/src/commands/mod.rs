@@ -6,7 +6,7 @@ mod copies;
 mod cues;
 mod cut;
 mod mend;
-mod moving;
+pub mod moving;
 pub mod open;
 mod positions;
 mod rigs;
@@ -87,7 +87,7 @@ pub fn run(command: &Command, options: &Options) -> Done {
         Command::Mend(arguments) => {
             answered("mend", options, &arguments.paths, None, |work| mend::run(arguments, work))
         }
-        Command::Open(_) | Command::Ask | Command::Completions(_) => {
+        Command::Open(_) | Command::Ask | Command::SearchRigs | Command::Completions(_) => {
             unreachable!("commands that have no answer of their own run before")
         }
     }

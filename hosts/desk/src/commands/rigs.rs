@@ -1,15 +1,14 @@
 //! Which rigs take a show: each is read and searched by itself, on all cores.
 
 use super::classes::in_folder;
-use super::moving::Search;
 use super::{copies, Work};
 use crate::answer::{Fault, Found, Rig, RigOutcome, Role, Sheet};
 use crate::arguments::RigsArguments;
 use crate::building;
 use crate::files;
 use crate::input::{self, Source};
-use crate::patience::told_within;
 use crate::progress::Progress;
+use crate::searcher::{Searcher, Told};
 use crate::sheet::{open, opened_by, several};
 use crate::status::{Failure, Status};
 use crate::words::{count, path_shown};
@@ -17,17 +16,10 @@ use std::sync::atomic::{AtomicUsize, Ordering};
 use std::sync::Mutex;
 use std::thread;
 use std::time::{Duration, Instant};
-use tickdrizzle::{Copies, Table};
+use tickdrizzle::Table;
 
 /// How long the searches on one rig may take where no time is given.
 const PATIENCE: Duration = Duration::from_secs(10);
-
-/// What the searches on a rig tell, one after another.
-enum Told {
-    Fits(bool),
-    Copies(Copies),
-    Mirrored(bool),
-}
 
 pub fn run(arguments: &RigsArguments, work: &mut Work) -> Result<(), Failure> {
     work.page_is_allowed()?;
@@ -38,11 +30,15 @@ pub fn run(arguments: &RigsArguments, work: &mut Work) -> Result<(), Failure> {
     let Some(show) = sheet.table else { return Ok(()) };
     let limit = arguments.timeout.unwrap_or(PATIENCE);
     let line = Progress::counting("looking at rigs", rigs.len(), work.options.quiet);
-    let searched = on_all_cores(&rigs, |rig| {
-        let searched = search(&show, rig, work.options.strict, limit);
-        line.step();
-        searched
-    });
+    let searched = on_all_cores(
+        &rigs,
+        || Searcher::new(&show),
+        |searcher, rig| {
+            let searched = search(searcher, rig, work.options.strict, limit);
+            line.step();
+            searched
+        },
+    );
     drop(line);
     let mut results = Vec::new();
     for (about, mut rig) in searched {
@@ -74,18 +70,23 @@ fn sources(arguments: &RigsArguments, show: &Source, work: &mut Work) -> Vec<Sou
     sources
 }
 
-/// Does something with each of some things, on all cores; the results in their order.
-fn on_all_cores<T: Sync, R: Send>(things: &[T], work: impl Fn(&T) -> R + Sync) -> Vec<R> {
+/// Does something with each of some things, on all cores, each with a tool of its own; the results in their order.
+fn on_all_cores<T: Sync, S, R: Send>(
+    things: &[T],
+    tool: impl Fn() -> S + Sync,
+    work: impl Fn(&mut S, &T) -> R + Sync,
+) -> Vec<R> {
     let cores = thread::available_parallelism().map_or(1, usize::from).min(things.len());
     let next = AtomicUsize::new(0);
     let results = Mutex::new(Vec::new());
     thread::scope(|scope| {
         for _ in 0..cores {
             scope.spawn(|| {
+                let mut tool = tool();
                 while let Some((place, thing)) =
                     Some(next.fetch_add(1, Ordering::Relaxed)).and_then(|place| Some((place, things.get(place)?)))
                 {
-                    let result = work(thing);
+                    let result = work(&mut tool, thing);
                     results.lock().expect("no thread has failed").push((place, result));
                 }
             });
@@ -96,8 +97,8 @@ fn on_all_cores<T: Sync, R: Send>(things: &[T], work: impl Fn(&T) -> R + Sync) -
     results.into_iter().map(|(_, result)| result).collect()
 }
 
-/// Reads a rig and searches it: whether the show fits, then how often, or whether it fits mirrored.
-fn search(show: &Table, source: &Source, strict: bool, limit: Duration) -> (Sheet, Rig) {
+/// Reads a rig and searches it.
+fn search(searcher: &mut Searcher, source: &Source, strict: bool, limit: Duration) -> (Sheet, Rig) {
     let begun = Instant::now();
     let (mut about, table) = match source.bytes() {
         Ok(bytes) => {
@@ -112,25 +113,17 @@ fn search(show: &Table, source: &Source, strict: bool, limit: Duration) -> (Shee
         Rig { sheet: 0, outcome: RigOutcome::Refused, copies: None, more: false, mirrored: None, milliseconds: 0 };
     if let Some(table) = table {
         rig.outcome = RigOutcome::Stopped;
-        let lent = (show.clone(), table);
-        let (told, _) = told_within(Some(limit), move |tell| searches(&lent.0, &lent.1, tell));
-        for thing in told {
-            match thing {
+        for told in searcher.search(&table, limit) {
+            match told {
                 Told::Fits(fits) => rig.outcome = if fits { RigOutcome::Fits } else { RigOutcome::None },
-                Told::Copies(Copies::Number(number)) => rig.copies = Some(number),
-                Told::Copies(Copies::More) => (rig.copies, rig.more) = (Some(copies::MOST_COPIES), true),
+                Told::Copies(number) => rig.copies = Some(number),
+                Told::MoreCopies => (rig.copies, rig.more) = (Some(copies::MOST_COPIES), true),
                 Told::Mirrored(fits) => rig.mirrored = Some(fits),
             }
         }
     }
     rig.milliseconds = begun.elapsed().as_millis();
     (about, rig)
-}
-
-fn searches(show: &Table, rig: &Table, tell: &dyn Fn(Told) -> bool) {
-    let fits = Search::plain(show, rig).finds();
-    tell(Told::Fits(fits));
-    tell(if fits { Told::Copies(show.copies(rig)) } else { Told::Mirrored(Search::mirrored(show, rig).finds()) });
 }
 
 /// A sheet that could not be read.

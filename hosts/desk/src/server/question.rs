@@ -1,15 +1,13 @@
 //! A question, answered by a process of its own: a call of the library cannot be stopped, but a process can.
 
 use super::http::has_left;
+use crate::searcher::PROGRAM;
 use crate::signals::wait_for;
 use std::io::{Read, Write};
 use std::net::TcpStream;
 use std::os::fd::AsFd;
 use std::process::{Child, Command, Stdio};
 use std::time::{Duration, Instant};
-
-/// This program, also where its file has been replaced meanwhile.
-const PROGRAM: &str = "/proc/self/exe";
 
 /// A question that takes longer is stopped.
 const PATIENCE: Duration = Duration::from_secs(600);

@@ -117,3 +117,17 @@ fn as_a_plain_search_says() {
         }
     }
 }
+
+#[test]
+fn searches_that_take_too_long_take_nothing_from_later_ones() {
+    let here = folder("rigs-long");
+    put(&here, "show.csv", graph(50, 1));
+    fs::create_dir(here.join("rigs")).expect("folders can be made");
+    for rig in 1..=6 {
+        put(&here, &format!("rigs/{rig}.csv"), graph(110, 2));
+    }
+    put(&here, "rigs/itself.csv", graph(50, 1));
+    let told = run_in(&here, &["rigs", "show.csv", "rigs", "--timeout", "300ms", "--quiet"]);
+    let says = "1 of 7 rigs takes the show of 52 cues; 6 could not be told within 300ms.";
+    assert_eq!((told.output.lines().next(), told.errors.as_str(), told.status), (Some(says), "", 0));
+}
