@@ -8,7 +8,6 @@ use lib.ListN.{length, replicate, length-replicate}
 use Rattle.semigroups.specs.Lists.{at}
 use Rattle.semigroups.specs.Tables.{product, Element}
 use Rattle.semigroups.specs.Scratch.{scratchSize, marked}
-use Rattle.semigroups.specs.InnerCalls.{scratchAfter}
 use Rattle.semigroups.proofs.Tables.{filled-closed}
 use Rattle.semigroups.proofs.Candidates.{size-limit, length-scratch, marked-candidate}
 use Rattle.backtrack.specs.InnerState.{foundIn, bounded}

@@ -1,6 +1,5 @@
 -- `force_with` meets its contract: an embedding among the rows sends c to what row c holds alone, and keeps products. Assumes nothing.
 use mathlib.Core.Path.{_≡_, sym, _∙_}
-use Prim.Native.Nat.{_≤_}
 use native.Mathlib.Omega.{arith}
 use borrow.Author.Needs.{needs}
 use Rattle.semigroups.specs.Tables.{product, Element}

@@ -1,6 +1,6 @@
 -- `propagate` meets its contract. The invariant: no embedding among the rows is lost, and the rows are narrowed by each row that was used. The measure is how
 -- many rows were not used. Assumes nothing.
-use mathlib.Core.Path.{_≡_, refl}
+use mathlib.Core.Path.{refl}
 use mathlib.Core.Bool.{false≢true}
 use native.Mathlib.Omega.{arith}
 use borrow.Author.Tests.{not-true, not-false}
