@@ -149,7 +149,8 @@ export function drawPartners(reply, actions) {
   }
   const title = `${reply.answer.sheets[0].path} on ${reply.answer.sheets[1].path}`
   fill(byId('partners'),
-    element('header', { class: 'printed' }, element('h1', {}, `Partners: ${title}`), element('p', {}, new Date().toISOString().slice(0, 10))),
+    element('header', { class: 'printed' }, element('h1', {}, `Partners: ${title}`), element('p', {}, new Date().toISOString().slice(0, 10)),
+      element('p', {}, reply.answer.says)),
     element('div', { class: 'head' },
       element('h2', {}, map ? 'Partners' : `Partners of ${count(pairs.length, 'cue')} that can be moved`),
       element('label', { class: 'filter' }, element('span', {}, 'Find'), element('input', { type: 'search', placeholder: 'number or name', oninput: event => filter(event.target.value) })),
