@@ -19,7 +19,7 @@ use Rattle.calls.specs.Allowed.{allows, allowed}
 use Rattle.calls.specs.Among.{amongRefusal, callAmong}
 use Rattle.calls.specs.Subsemigroups.{subsemigroupSays, partAfter, elementsAfter}
 use Rattle.calls.specs.Copies.{copiesSays, copiesScratch}
-use Rattle.calls.specs.CallsExamples.{SearchExamples, LimitedExamples, AmongExamples, SubsemigroupExamples, CopiesExamples}
+use Rattle.calls.specs.CallsExamples.{SearchExamples, LimitedExamples, CallAmongExamples, SubsemigroupCallExamples, CopiesCallExamples}
 
 pub search-examples : SearchExamples
 unfolding call searchRefusal earliest maps isEmbedding isHomomorphism candidate marks marked packedByte bit scratchSize grid product isElement badCell badTriple power periodFrom index period idempotentPower indexPeriod sameIndexPeriod range elements at all find keep sum firstOf least member distinct earlier lists count orElse flatMap associates
@@ -29,14 +29,14 @@ pub limited-examples : LimitedExamples
 unfolding limitedCall limited foundWithin firstWork searchWork trialWork inTurn fits passes searchRefusal candidate marks marked packedByte bit scratchSize grid product isElement badCell badTriple power periodFrom index period idempotentPower indexPeriod sameIndexPeriod range elements at all find keep sum firstOf least member distinct earlier lists count orElse flatMap associates
 limited-examples = (refl, refl, refl, refl)
 
-pub among-examples : AmongExamples
+pub among-examples : CallAmongExamples
 unfolding callAmong amongRefusal allowed allows earliest maps isEmbedding isHomomorphism candidate marks marked packedByte bit scratchSize grid product isElement badCell badTriple power periodFrom index period idempotentPower indexPeriod sameIndexPeriod range elements at all find keep sum firstOf least member distinct earlier lists count orElse flatMap associates
 among-examples = (refl, refl, refl, refl)
 
-pub subsemigroup-examples : SubsemigroupExamples
+pub subsemigroup-examples : SubsemigroupCallExamples
 unfolding subsemigroupSays partAfter elementsAfter subsemigroupRefusal firstOf orElse isElement badCell badTriple generated grown setOf products associates product grid partCells renumbered numberIn least lists elements range at all find keep member flatMap
 subsemigroup-examples = (refl, refl, refl)
 
-pub copies-examples : CopiesExamples
+pub copies-examples : CopiesCallExamples
 unfolding copiesSays copiesScratch copiesRefusal copiesCapped capped copies imageSets withoutRepeats sameList setOf candidate marks packedByte bit power periodFrom index period idempotentPower indexPeriod sameIndexPeriod firstOf orElse badCell badTriple associates scratchSize product grid isElement isHomomorphism isEmbedding maps lists elements range at all find keep sum count least member distinct earlier flatMap
 copies-examples = (refl, refl)

@@ -17,11 +17,11 @@ use Rattle.calls.specs.Copies.{copiesSays, copiesScratch}
 abbrev pub group : List ℕ
 group = 1 ∷ 2 ∷ 2 ∷ 1 ∷ []
 
-abbrev pub two : List ℕ
-two = 1 ∷ 1 ∷ 4 ∷ 4 ∷ 1 ∷ 2 ∷ 3 ∷ 4 ∷ 1 ∷ 3 ∷ 2 ∷ 4 ∷ 1 ∷ 4 ∷ 1 ∷ 4 ∷ []
+abbrev pub degreeTwo : List ℕ
+degreeTwo = 1 ∷ 1 ∷ 4 ∷ 4 ∷ 1 ∷ 2 ∷ 3 ∷ 4 ∷ 1 ∷ 3 ∷ 2 ∷ 4 ∷ 1 ∷ 4 ∷ 1 ∷ 4 ∷ []
 
 abbrev pub groupInTwo : Lent
-groupInTwo = lend group 2 two 4 (7 ∷ 8 ∷ []) (9 ∷ 9 ∷ [])
+groupInTwo = lend group 2 degreeTwo 4 (7 ∷ 8 ∷ []) (9 ∷ 9 ∷ [])
 
 -- The embedding `2,3` is found and is the only one. 1 may go to 1, 2 and 4, and 2 to 3: the bits worth 1, 2, 8 and 64.
 abbrev pub SearchExamples : Type 0
@@ -36,16 +36,16 @@ LimitedExamples =
     × (limitedCall embeddings 3 groupInTwo .says ≡ gives stopped) × (limitedCall embeddings 3 groupInTwo .mapBytes ≡ 7 ∷ 8 ∷ [])
 
 -- All pairs allow it; without the pair of 1 and 2 it is not allowed, and that mark is cleared.
-abbrev pub AmongExamples : Type 0
-AmongExamples =
+abbrev pub CallAmongExamples : Type 0
+CallAmongExamples =
     (callAmong first (255 ∷ []) groupInTwo .says ≡ gives found) × (callAmong first (255 ∷ []) groupInTwo .mapBytes ≡ 2 ∷ 3 ∷ [])
     × (callAmong first (253 ∷ []) groupInTwo .says ≡ gives nothing) × (callAmong first (253 ∷ []) groupInTwo .scratch ≡ 73 ∷ 9 ∷ [])
 
 -- The exchange generates the group.
-abbrev pub SubsemigroupExamples : Type 0
-SubsemigroupExamples =
-    (subsemigroupSays 4 two (3 ∷ []) 5 3 ≡ gives 2) × (elementsAfter 4 two (3 ∷ []) 5 (9 ∷ 9 ∷ 9 ∷ []) ≡ 2 ∷ 3 ∷ 9 ∷ [])
-    × (partAfter 4 two (3 ∷ []) (9 ∷ 9 ∷ 9 ∷ 9 ∷ 9 ∷ []) 3 ≡ 1 ∷ 2 ∷ 2 ∷ 1 ∷ 9 ∷ [])
+abbrev pub SubsemigroupCallExamples : Type 0
+SubsemigroupCallExamples =
+    (subsemigroupSays 4 degreeTwo (3 ∷ []) 5 3 ≡ gives 2) × (elementsAfter 4 degreeTwo (3 ∷ []) 5 (9 ∷ 9 ∷ 9 ∷ []) ≡ 2 ∷ 3 ∷ 9 ∷ [])
+    × (partAfter 4 degreeTwo (3 ∷ []) (9 ∷ 9 ∷ 9 ∷ 9 ∷ 9 ∷ []) 3 ≡ 1 ∷ 2 ∷ 2 ∷ 1 ∷ 9 ∷ [])
 
-abbrev pub CopiesExamples : Type 0
-CopiesExamples = (copiesSays 2 group 4 two 2 ≡ gives (copies.number 1)) × (copiesScratch 2 group 4 two (9 ∷ 9 ∷ []) ≡ 75 ∷ 9 ∷ [])
+abbrev pub CopiesCallExamples : Type 0
+CopiesCallExamples = (copiesSays 2 group 4 degreeTwo 2 ≡ gives (copies.number 1)) × (copiesScratch 2 group 4 degreeTwo (9 ∷ 9 ∷ []) ≡ 75 ∷ 9 ∷ [])

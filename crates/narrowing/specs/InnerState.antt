@@ -17,15 +17,15 @@ use Rattle.narrowing.specs.InnerRows.{Begins, Images}
 use Rattle.narrowing.specs.declared.Partial.{Partial}
 
 -- The list placed so far.
-abbrev pub prefix : Partial → List ℕ
-prefix p = take (p .len) (p .image)
+abbrev pub placedList : Partial → List ℕ
+placedList p = take (p .len) (p .image)
 
 abbrev pub rowsIn : Partial → ℕ → ℕ → Bool
 rowsIn p = has (p .lo) (p .hi)
 
 -- What a call must return.
 abbrev pub Due : Product → ℕ → Product → ℕ → List ℕ → List ℕ → Bool → Partial → Option (List ℕ)
-Due s m t n scratch after tight p = earliestExtension m s n t (marked n scratch) (bounded tight after) (m - p .len) (prefix p)
+Due s m t n scratch after tight p = earliestExtension m s n t (marked n scratch) (bounded tight after) (m - p .len) (placedList p)
 
 -- The images placed are elements, and zeros follow them.
 pub record PlacedImages (n : ℕ) (image : List ℕ) (len : ℕ) : Type 0 where
@@ -46,8 +46,8 @@ pub record Reached (s : Product) (m : ℕ) (t : Product) (n : ℕ) (scratch afte
   pub within : p .len ≤ m
   pub marks : (i : ℕ) → Element (p .len) i → marked n scratch i (at (p .image) i) ≡ true
   pub settled : Settled s t (p .image) (p .len) (p .len) (p .lo) (p .hi)
-  pub passed : p .ok ≡ true → Placed n (prefix p) × (passes s t (prefix p) ≡ true)
+  pub passed : p .ok ≡ true → Placed n (placedList p) × (passes s t (placedList p) ≡ true)
   pub covers : (f : List ℕ) → Embedding m s n t f → Among m (marked n scratch) f → Begins f (p .image) (p .len) → (p .ok ≡ true) × Among m (has (p .lo) (p .hi)) f
   pub space : scratchSize m n ≤ length scratch
   pub bound : length after ≡ m
-  pub same : tight ≡ true → take (p .len) after ≡ prefix p
+  pub same : tight ≡ true → take (p .len) after ≡ placedList p

@@ -18,7 +18,7 @@ use Rattle.semigroups.specs.Tables.{Element}
 use Rattle.semigroups.specs.Scratch.{marked}
 use Rattle.semigroups.proofs.Booleans.{and-left, and-right, at-most-or-above, equal-or-not}
 use Rattle.rows.specs.declared.Row.{Row}
-use Rattle.rows.specs.InnerRows.{hasBit, inRow, isEmpty, rowOf, has, packedRow, masked, singleRow, lowest, Alone, RowInside, Only, Shrinks, Forced, Marked}
+use Rattle.rows.specs.InnerRows.{hasBit, inRow, isEmpty, rowOf, has, packedRow, masked, singleRow, lowestElement, Alone, RowInside, Only, Shrinks, Forced, Marked}
 use Rattle.rows.proofs.Words.{bit-of-word, bit-past, single-word, other-word}
 use Rattle.rows.proofs.Masks.{and-bit, inside-inside, inside-mask, inside-old, inside-bit, ones-zero, ones-power}
 
@@ -144,8 +144,8 @@ power-zeros (suc d) (suc k) h =
     let half : 2 ^ suc k / 2 ≡ 2 ^ k = omega arith in
     ap₂ under even (ap (trailingZeros d) half) ∙ ap suc (power-zeros d k (omega arith))
 
-lowest-single : (v : ℕ) → Element 120 v → lowest (singleRow v) ≡ v
-unfolding lowest
+lowest-single : (v : ℕ) → Element 120 v → lowestElement (singleRow v) ≡ v
+unfolding lowestElement
 lowest-single v hv = ⊎-elim low high (at-most-or-above v 60)
   where
     place : ℕ → ℕ → ℕ
@@ -165,10 +165,10 @@ lowest-single v hv = ⊎-elim low high (at-most-or-above v 60)
         ap₂ place (w .0) (w .1) ∙ (let z : trailingZeros 64 (2 ^ (v - 61)) + 61 ≡ v = omega arith in z)
 
 module _ (row : Row) where
-  only-lowest : (v : ℕ) → Element 120 v → row ≡ singleRow v → lowest row ≡ v
-  only-lowest v hv e = ap lowest e ∙ lowest-single v hv
+  only-lowest : (v : ℕ) → Element 120 v → row ≡ singleRow v → lowestElement row ≡ v
+  only-lowest v hv e = ap lowestElement e ∙ lowest-single v hv
 
-  pub not-alone : (Element 120 (lowest row) → row ≡ singleRow (lowest row) → ⊥) → Alone row 0
+  pub not-alone : (Element 120 (lowestElement row) → row ≡ singleRow (lowestElement row) → ⊥) → Alone row 0
   not-alone h =
       record {
         most = omega arith;
@@ -176,7 +176,7 @@ module _ (row : Row) where
         holds = λ l. absurd (let z : ⊥ = omega arith in z);
       }
 
-  pub is-alone : Element 120 (lowest row) → row ≡ singleRow (lowest row) → Alone row (lowest row)
+  pub is-alone : Element 120 (lowestElement row) → row ≡ singleRow (lowestElement row) → Alone row (lowestElement row)
   is-alone h e = record { most = h .1; found = only-lowest; holds = λ l. e }
 
 -- ---- a row masked

@@ -51,8 +51,8 @@ unfoldable pub singleRow : ℕ → Row
 singleRow v = packedRow 120 (λ y. eqb y v)
 
 -- The element of the lowest bit of the row that is set.
-unfoldable pub lowest : Row → ℕ
-lowest row = cond (eqb (row .lo) 0) (trailingZeros 64 (row .hi) + 61) (trailingZeros 64 (row .lo) + 1)
+unfoldable pub lowestElement : Row → ℕ
+lowestElement row = cond (eqb (row .lo) 0) (trailingZeros 64 (row .hi) + 61) (trailingZeros 64 (row .lo) + 1)
 
 -- The number is that of the element that the row holds alone, or 0 if there is no such element.
 pub record Alone (row : Row) (r : ℕ) : Type 0 where

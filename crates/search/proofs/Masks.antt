@@ -20,7 +20,7 @@ use Rattle.semigroups.proofs.Packing.{bit-small}
 use Rattle.semigroups.proofs.Candidates.{byte-below, length-marks, are-marks, marks-exactly, marked-candidate}
 use Rattle.rows.specs.InnerRows as rows
 use Rattle.rows.proofs.Masks.{and-bit}
-use Rattle.search.specs.InnerMasks.{masked, clearsNothing}
+use Rattle.search.specs.InnerMasks.{maskedBytes, clearsNothing}
 
 -- A bit of a masked byte is set where it is in both.
 and-bits : (a b r : ℕ) → eqb (bit (bitAnd a b) r) 1 ≡ (eqb (bit a r) 1 && eqb (bit b r) 1)
@@ -28,12 +28,12 @@ unfolding bit rows.hasBit
 and-bits a b r = and-bit a b r
 
 module _ (size : ℕ) (pairs scratch : List ℕ) where
-  pub length-masked : length (masked size pairs scratch) ≡ size
-  unfolding masked
+  pub length-masked : length (maskedBytes size pairs scratch) ≡ size
+  unfolding maskedBytes
   length-masked = length-map (range 0 size) (λ b. bitAnd (getD scratch b 0) (getD pairs b 0)) ∙ length-range 0 size
 
-  pub masked-byte : (b : ℕ) → b < size → getD (masked size pairs scratch) b 0 ≡ bitAnd (getD scratch b 0) (getD pairs b 0)
-  unfolding masked
+  pub masked-byte : (b : ℕ) → b < size → getD (maskedBytes size pairs scratch) b 0 ≡ bitAnd (getD scratch b 0) (getD pairs b 0)
+  unfolding maskedBytes
   masked-byte b h =
       getD-map (λ b. bitAnd (getD scratch b 0) (getD pairs b 0)) (range 0 size) 0 b (omega (arith, length-range 0 size))
       ∙ ap (λ (k : ℕ). bitAnd (getD scratch k 0) (getD pairs k 0)) (getD-range 0 size b h ∙ (let z : 0 + b ≡ b = omega arith in z))
@@ -43,7 +43,7 @@ module _ (m n : ℕ) (p : ℕ → ℕ → Bool) (pairs before : List ℕ) where
   filled = scratchAfter m n p before
 
   abbrev bytes : List ℕ
-  bytes = masked (scratchSize m n) pairs filled
+  bytes = maskedBytes (scratchSize m n) pairs filled
 
   abbrev kept : ℕ → ℕ → Bool
   kept i j = p i j && marked n pairs i j
@@ -108,25 +108,25 @@ module _ (size : ℕ) (pairs start : List ℕ) where
   -- The bytes before the place are masked, and those from it on are as they were.
   pub record Masking (place : ℕ) (buffer : List ℕ) : Type 0 where
     pub inside : place ≤ size
-    pub so-far : buffer ≡ written (masked size pairs start) start place
+    pub so-far : buffer ≡ written (maskedBytes size pairs start) start place
 
   pub mask-begin : Masking 0 start
-  mask-begin = record { inside = omega arith; so-far = sym (written-none (masked size pairs start) start) }
+  mask-begin = record { inside = omega arith; so-far = sym (written-none (maskedBytes size pairs start) start) }
 
   module _ (room : size ≤ length start) {place : ℕ} {buffer : List ℕ} (a : Masking place buffer) where
     pub mask-length : length buffer ≡ length start
     mask-length =
         let i = a .inside in
         let l = length-masked size pairs start in
-        ap length (a .so-far) ∙ length-written (masked size pairs start) start place (omega arith) (omega arith)
+        ap length (a .so-far) ∙ length-written (maskedBytes size pairs start) start place (omega arith) (omega arith)
 
     -- The byte at the place is not written yet.
     ahead : place < size → getD buffer place 0 ≡ getD start place 0
     unfolding written
     ahead h =
         let l = length-masked size pairs start in
-        let front = take place (masked size pairs start) in
-        let here : length front ≡ place = length-take-le place (masked size pairs start) (omega arith) in
+        let front = take place (maskedBytes size pairs start) in
+        let here : length front ≡ place = length-take-le place (maskedBytes size pairs start) (omega arith) in
         ap (λ (b : List ℕ). getD b place 0) (a .so-far ∙ ap (λ (r : List ℕ). front ++ r) (drop-cons start place 0 (omega arith)))
         ∙ ap (λ (k : ℕ). getD (front ++ getD start place 0 ∷ drop (suc place) start) k 0) (sym here)
         ∙ getD-append-seam front (getD start place 0) (drop (suc place) start) 0
@@ -138,14 +138,14 @@ module _ (size : ℕ) (pairs start : List ℕ) where
         record {
           inside = omega arith;
           so-far = ap (λ (b : List ℕ). set b place v) (a .so-far)
-              ∙ write-next (masked size pairs start) start place v (omega arith) (omega arith) (ap (λ (x : ℕ). bitAnd x (getD pairs place 0)) (ahead h) ∙ sym (masked-byte size pairs start place h));
+              ∙ write-next (maskedBytes size pairs start) start place v (omega arith) (omega arith) (ap (λ (x : ℕ). bitAnd x (getD pairs place 0)) (ahead h) ∙ sym (masked-byte size pairs start place h));
         }
 
-    pub mask-end : size ≤ place → buffer ≡ overwritten (masked size pairs start) start
+    pub mask-end : size ≤ place → buffer ≡ overwritten (maskedBytes size pairs start) start
     mask-end h =
         let i = a .inside in
-        let end : place ≡ length (masked size pairs start) = let l = length-masked size pairs start in omega arith in
-        a .so-far ∙ written-all (masked size pairs start) start place end ∙ ap (λ (k : ℕ). masked size pairs start ++ drop k start) end
+        let end : place ≡ length (maskedBytes size pairs start) = let l = length-masked size pairs start in omega arith in
+        a .so-far ∙ written-all (maskedBytes size pairs start) start place end ∙ ap (λ (k : ℕ). maskedBytes size pairs start ++ drop k start) end
 
 -- ---- whether anything is cleared
 

@@ -30,7 +30,7 @@ ghost use Rattle.calls.specs.Limited.{limitedCall};
 ghost use Rattle.calls.specs.Allowed.{allowedCandidate};
 ghost use Rattle.calls.specs.Among.{amongRefusal, callAmong};
 ghost use Rattle.search.specs.InnerAmong.{answeredAmong};
-ghost use Rattle.search.specs.InnerMasks.{masked, clearsNothing};
+ghost use Rattle.search.specs.InnerMasks.{maskedBytes, clearsNothing};
 use backtrack::Found;
 use tables::Fault;
 use tables::PairVerdict;
@@ -486,7 +486,7 @@ pub fn first_within(
 // Clears each bit of the first `size` bytes of scratch that is not set in the pairs.
 fn keep_pairs(pairs: &[u8], size: usize, scratch: &mut [u8])
     requires { ⌜ (size ≤ length (now pairs)) × (size ≤ length (now scratch)) ⌝ }
-    ensures scratch { λ _. ⌜ now (scratch .exit) ≡ overwritten (masked size (now (pairs .entry)) (now (scratch .entry))) (now (scratch .entry)) ⌝ }
+    ensures scratch { λ _. ⌜ now (scratch .exit) ≡ overwritten (maskedBytes size (now (pairs .entry)) (now (scratch .entry))) (now (scratch .entry)) ⌝ }
 {
     let mut place: usize = 0;
     while place < size {

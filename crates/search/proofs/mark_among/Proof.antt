@@ -6,7 +6,7 @@ use Rattle.semigroups.specs.Tables.{product}
 use Rattle.semigroups.specs.Calls.{overwritten}
 use Rattle.semigroups.specs.Maps.{embeddings}
 use Rattle.semigroups.specs.Candidates.{candidate}
-use Rattle.search.specs.InnerMasks.{masked, clearsNothing}
+use Rattle.search.specs.InnerMasks.{maskedBytes, clearsNothing}
 use Rattle.search.proofs.Masks.{masked-scratch}
 use borrow.Author.Needs.{needs}
 use Rattle.search.proofs.mark_among.Statement.{statement}
@@ -33,7 +33,7 @@ returns c =
     let size = c .before .before .before .before .before .before .scratch-size .ensures in
     let marks = c .before .before .before .before .before .before .before .before .before .mark .ensures in (
       c .before .before .before .before .allows-all .ensures ∙ ap₂ (λ (size : ℕ) (scratch : List ℕ). clearsNothing size (a .pairs .now) scratch) size marks,
-      c .before .before .keep-pairs .ensures ∙ ap₂ (λ (size : ℕ) (scratch : List ℕ). overwritten (masked size (a .pairs .now) scratch) scratch) size marks
+      c .before .before .keep-pairs .ensures ∙ ap₂ (λ (size : ℕ) (scratch : List ℕ). overwritten (maskedBytes size (a .pairs .now) scratch) scratch) size marks
           ∙ masked-scratch (a .m) (a .n) (candidate embeddings (a .m) (product (a .m) (a .source .now)) (a .n) (product (a .n) (a .target .now))) (a .pairs .now) (a .scratch .now),
     )
 
