@@ -5,8 +5,9 @@
 use crate::answer::{Answer, Cells, Found};
 use crate::arguments::{Arguments, Command};
 use crate::commands::{self, Done};
+use crate::input::Source;
 use crate::names::is_name_sheet;
-use crate::reader::table;
+use crate::reader::{self, table};
 use crate::status::{Failure, Status};
 use crate::views::text::{chosen, rig_in_words};
 use crate::words::shown;
@@ -56,7 +57,7 @@ pub struct Replied {
     rigs: Vec<String>,
     /// The files that the command has written.
     files: Vec<Written>,
-    /// The cells of each sheet that was sent by its bytes; nothing where they cannot be read or were not all kept.
+    /// What each table that was sent by its bytes has been read as.
     read: Vec<SheetRead>,
 }
 
@@ -69,6 +70,9 @@ struct Written {
 #[derive(Debug, Serialize)]
 struct SheetRead {
     name: String,
+    /// The names of a workbook's sheets.
+    sheets: Vec<String>,
+    /// Nothing where they cannot be read or were not all kept.
     cells: Option<Cells>,
 }
 
@@ -88,7 +92,7 @@ pub fn run() -> Result<String, String> {
 
 fn reply(asked: Asked) -> Result<Replied, String> {
     let mut sent = BTreeMap::new();
-    let (mut read, mut saved) = (Vec::new(), Vec::new());
+    let (mut by_bytes, mut saved) = (Vec::new(), Vec::new());
     for file in asked.files {
         let path = PathBuf::from(&file.name);
         let bytes = match (&file.base64, &file.cells) {
@@ -100,7 +104,7 @@ fn reply(asked: Asked) -> Result<Replied, String> {
             return Err(format!("{}: the file is too long for a sheet", shown(&file.name)));
         }
         if file.base64.is_some() && !is_name_sheet(&path) {
-            read.push(SheetRead { name: file.name.clone(), cells: cells(&bytes) });
+            by_bytes.push(file.name.clone());
         }
         if file.cells.is_some() && asked.save {
             saved.push(Written { name: corrected(&path), text: String::from_utf8_lossy(&bytes).into_owned() });
@@ -110,6 +114,8 @@ fn reply(asked: Asked) -> Result<Replied, String> {
         }
     }
     files::see_only(sent);
+    let sources: Vec<_> = asked.arguments.iter().map(|argument| Source::new(Path::new(argument))).collect();
+    let read = by_bytes.into_iter().map(|name| sheet_read(name, &sources)).collect();
     let (done, printed) = answer(&asked.arguments);
     let written = |output: crate::output::Output| Written {
         name: output.path.display().to_string(),
@@ -147,9 +153,18 @@ fn answer(arguments: &[String]) -> (Done, String) {
     }
 }
 
+/// What a file has been read as: of a workbook the sheet that an argument names, or the first.
+fn sheet_read(name: String, sources: &[Source]) -> SheetRead {
+    let path = PathBuf::from(&name);
+    let bytes = files::read(&path, MOST_BYTES as u64).unwrap_or_default();
+    let sheet =
+        sources.iter().find(|source| source.file.as_ref() == Some(&path)).and_then(|source| source.sheet.as_deref());
+    SheetRead { sheets: reader::sheets(&bytes), cells: cells(&bytes, sheet), name }
+}
+
 /// The cells of a sheet.
-fn cells(bytes: &[u8]) -> Option<Cells> {
-    let ((top, left), rows) = table::read(bytes, None).ok()?.cells()?;
+fn cells(bytes: &[u8], sheet: Option<&str>) -> Option<Cells> {
+    let ((top, left), rows) = table::read(bytes, sheet).ok()?.cells()?;
     Some(Cells { row: top + 1, column: left + 1, rows })
 }
 
@@ -226,7 +241,7 @@ mod tests {
         let read_again = |row: usize, column: usize, rows: &[&[&str]]| {
             let rows = rows.iter().map(|row| row.iter().map(|cell| (*cell).into()).collect()).collect();
             let sent = Cells { row, column, rows };
-            let read = cells(&written(&sent).expect("they are written")).expect("they are read");
+            let read = cells(&written(&sent).expect("they are written"), None).expect("they are read");
             assert_eq!((read.row, read.column, read.rows), (sent.row, sent.column, sent.rows));
         };
         read_again(1, 1, &[&["1", "2"], &["2", "1"]]);

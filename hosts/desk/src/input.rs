@@ -28,12 +28,13 @@ impl Source {
     pub fn new(given: &Path) -> Source {
         let source = |file: Option<PathBuf>, sheet| Source { given: given.to_owned(), file, sheet };
         let text = given.to_string_lossy();
-        match text.rsplit_once('#') {
+        // The name of a file and that of a sheet may have the sign too.
+        let parts = text.rmatch_indices('#').map(|(place, _)| (&text[..place], &text[place + 1..]));
+        let mut parts = parts.filter(|(file, _)| !files::exists(given) && files::is_file(Path::new(file)));
+        match parts.next() {
             _ if text == "-" => source(None, None),
-            Some((file, sheet)) if !files::exists(given) && files::is_file(Path::new(file)) => {
-                source(Some(file.into()), Some(sheet.to_owned()))
-            }
-            _ => source(Some(given.to_owned()), None),
+            Some((file, sheet)) => source(Some(file.into()), Some(sheet.to_owned())),
+            None => source(Some(given.to_owned()), None),
         }
     }
 

@@ -11,7 +11,7 @@ export function element(tag, attributes = {}, ...children) {
     else if (name === 'class') made.className = value
     else made.setAttribute(name, value === true ? '' : value)
   }
-  made.append(...children.flat().filter(child => child !== null && child !== undefined && child !== false))
+  made.append(...children.flat(Infinity).filter(child => child !== null && child !== undefined && child !== false))
   return made
 }
 
@@ -21,7 +21,7 @@ const called = made => made.id || made.ariaLabel || made.textContent
 
 /** Shows a section with these children, or hides it where there are none. What had the focus has it again. */
 export function fill(section, ...children) {
-  const shown = children.flat().filter(Boolean)
+  const shown = children.flat(Infinity).filter(Boolean)
   const active = section.contains(document.activeElement) ? document.activeElement : null
   section.replaceChildren(...shown)
   section.hidden = !shown.length

@@ -2,7 +2,7 @@
 
 import { drawAnswer, drawPartners } from './answer.js'
 import { byId, save } from './elements.js'
-import { drawMore } from './more.js'
+import { drawMore, openMore } from './more.js'
 import { drawRigs } from './rigs.js'
 import { ask, stayPresent } from './server.js'
 import { acceptDrops, drawCards, filesOf, onWarning, take } from './sheets.js'
@@ -12,12 +12,12 @@ import { drawTables, setMode } from './tables.js'
 // Before this nothing is shown of a search.
 const MOMENT = 300
 
-/** What is known of the state: replies, and the search that is under way. */
-const model = { reply: null, rigs: null, cut: null, told: '', note: '', busy: -1, stopped: -1, time: '1m' }
+/** What is known of the state: replies, and the searches that are under way. */
+const model = { reply: null, rigs: null, comparing: '', cut: null, told: null, note: '', busy: -1, stopped: -1, time: '1m' }
 
 let search = null
 
-const filesFor = sheets => [...new Set(sheets)].flatMap(filesOf)
+const filesFor = sheets => [...new Set(sheets)].flatMap(sheet => filesOf(sheet))
 const isUsable = sheet => Boolean(sheet?.about.table)
 
 function warn(text) {
@@ -63,14 +63,35 @@ async function asking(args, files, options = {}) {
   }
 }
 
-/** Asks something beside the answer; nothing where that fails, which is told. */
-async function askBeside(args, files, options) {
+/** Asks something more while the answer stands. */
+async function askingMore(args, files) {
+  const reply = await asking(args, files)
+  if (!reply && model.stopped >= 0) Object.assign(model, { note: `Stopped after ${model.stopped} s.`, stopped: -1 })
+  return reply
+}
+
+// What is asked beside the answer, by its kind.
+const beside = {}
+
+/** Asks something beside the answer, instead of what of this kind is under way; nothing where it is stopped or fails, which is told. */
+async function askBeside(kind, args, files) {
+  beside[kind]?.abort()
+  const controller = new AbortController()
+  beside[kind] = controller
   try {
-    return await ask(args, files, options)
+    return await ask(args, files, { signal: controller.signal })
   } catch (error) {
-    warn(error.message)
+    if (error.name !== 'AbortError') warn(error.message)
     return null
+  } finally {
+    if (beside[kind] === controller) delete beside[kind]
   }
+}
+
+/** Asks for files and saves them. */
+async function saveWritten(args, sheets) {
+  const reply = await askBeside('save', args, filesFor(sheets))
+  reply?.files.forEach(file => save(file.name, file.text))
 }
 
 // What the replies belong to: they are asked anew where it has changed.
@@ -94,7 +115,8 @@ async function lookForPartners() {
   const wanted = usable ? key([show, rig], mirror, preferNames, way, pins, not, model.time) : ''
   if (wanted === asked.move) return
   asked.move = wanted
-  Object.assign(model, { reply: null, note: '', told: '' })
+  beside.told?.abort()
+  Object.assign(model, { reply: null, note: '', told: null })
   if (!usable) return search?.controller.abort()
   const reply = await asking(moveArguments(), filesFor([show, rig]))
   if (asked.move !== wanted) return
@@ -107,13 +129,21 @@ async function compareRigs() {
   const wanted = isUsable(show) && rigs.length > 1 ? key([show, ...rigs]) : ''
   if (wanted === asked.rigs) return
   asked.rigs = wanted
-  model.rigs = null
-  if (!wanted) return
-  const reply = await askBeside(['rigs', show.name, ...rigs.map(rig => rig.name)], filesFor([show, ...rigs]))
+  Object.assign(model, { rigs: null, comparing: '' })
+  if (!wanted) return beside.rigs?.abort()
+  const later = setTimeout(() => {
+    model.comparing = 'busy'
+    draw()
+  }, MOMENT)
+  const reply = await askBeside('rigs', rigsArguments(), filesFor([show, ...rigs]))
+  clearTimeout(later)
   if (asked.rigs !== wanted) return
-  model.rigs = reply
+  Object.assign(model, { rigs: reply, comparing: reply ? '' : 'stopped' })
   draw()
 }
+
+const rigsArguments = () => ['rigs', state().show.name, ...state().rigs.map(rig => rig.name)]
+const cutArguments = () => ['cut', state().show.name, '--cues', state().part.join(',')]
 
 async function cutPart() {
   const { show, part } = state()
@@ -122,7 +152,7 @@ async function cutPart() {
   asked.cut = wanted
   model.cut = null
   if (!wanted) return
-  const reply = await askBeside(['cut', show.name, '--cues', part.join(','), '--output', 'part.csv'], filesFor([show]))
+  const reply = await askBeside('cut', [...cutArguments(), '--output', 'part.csv'], filesFor([show]))
   if (asked.cut !== wanted) return
   model.cut = reply
   draw()
@@ -130,7 +160,7 @@ async function cutPart() {
 
 function draw() {
   drawAnswer(model, actions)
-  drawRigs(model.rigs, actions)
+  drawRigs(model, actions)
   drawPartners(model.reply, actions)
   drawTables(model.reply?.answer)
   drawMore(model, actions)
@@ -150,7 +180,7 @@ function refresh() {
 
 /** Asks for the answer in another form, and says it beside the answer. */
 async function note(args) {
-  const reply = await asking(args, filesFor([state().show, currentRig()]))
+  const reply = await askingMore(args, filesFor([state().show, currentRig()]))
   if (reply) model.note = reply.answer.says
   draw()
 }
@@ -178,7 +208,7 @@ const actions = {
     const rig = currentRig()
     if (!isUsable(show) || !isUsable(rig) || model.reply?.answer.status !== 'found') return
     const before = model.reply
-    const reply = await asking(moveArguments([`--next=${way + 1}`]), filesFor([show, rig]))
+    const reply = await askingMore(moveArguments([`--next=${way + 1}`]), filesFor([show, rig]))
     if (!reply || model.reply !== before) return draw()
     if (reply.answer.status === 'found') {
       asked.move = key([show, rig], mirror, preferNames, way + 1, pins, not, model.time)
@@ -194,7 +224,7 @@ const actions = {
   async why() {
     const before = model.reply
     const { show, mirror } = state()
-    const reply = await asking(['why', show.name, currentRig().name, '--timeout', model.time], filesFor([show, currentRig()]))
+    const reply = await askingMore(['why', show.name, currentRig().name, '--timeout', model.time], filesFor([show, currentRig()]))
     if (reply && model.reply === before && !mirror) model.reply = { ...reply, answer: { ...reply.answer, offer: before?.answer.offer } }
     draw()
   },
@@ -203,43 +233,72 @@ const actions = {
     const rig = currentRig()
     change({ ...fresh, show: rig, rigs: rigs.map(other => other === rig ? show : other), part: [] })
   },
-  async savePartners() {
-    const reply = await askBeside(moveArguments().concat('--output', 'partners.csv'), filesFor([state().show, currentRig()]))
-    reply?.files.forEach(file => save(file.name, file.text))
-  },
-  async savePage() {
-    const reply = await askBeside(moveArguments().concat('--html', 'moving.html'), filesFor([state().show, currentRig()]))
-    reply?.files.forEach(file => save(file.name, file.text))
-  },
+  savePartners: () => saveWritten([...moveArguments(), '--output', 'partners.csv'], [state().show, currentRig()]),
+  savePage: () => saveWritten([...moveArguments(), '--html', 'moving.html'], [state().show, currentRig()]),
   async saveRigs() {
     const { show, rigs } = state()
-    const reply = await askBeside(['rigs', show.name, ...rigs.map(rig => rig.name), '--csv'], filesFor([show, ...rigs]))
+    const reply = await askBeside('save', [...rigsArguments(), '--csv'], filesFor([show, ...rigs]))
     if (reply) save('rigs.csv', reply.printed)
+  },
+  saveRigsPage: () => saveWritten([...rigsArguments(), '--html', 'rigs.html'], [state().show, ...state().rigs]),
+  stopComparing: () => beside.rigs?.abort(),
+  compareAgain() {
+    asked.rigs = ''
+    refresh()
   },
   savePart() {
     model.cut?.files.forEach(file => save(file.name, file.text))
   },
+  savePartPage: () => saveWritten([...cutArguments(), '--html', 'part.html'], [state().show]),
   usePart() {
     const files = (model.cut?.files ?? []).map(file => new File([file.text], file.name))
     if (files.length) take(files, 'show')
   },
-  classes() {
+  classes(more) {
     const { show, rigs } = state()
     const sheets = [show, ...rigs].filter(Boolean)
-    actions.tell(['classes', ...sheets.map(sheet => sheet.name)], sheets)
+    const args = ['classes', ...sheets.map(sheet => sheet.name), ...more]
+    actions.tell(args, sheets, { args: [...args, '--html', 'classes.html'], sheets })
   },
-  async tell(args, sheets) {
-    const reply = await askBeside(args, filesFor(sheets))
-    if (reply) model.told = reply.printed || reply.answer.says
+  list: most => actions.tell(moveArguments([`--all=${most}`]), [state().show, currentRig()]),
+  limited(trials) {
+    const { show, mirror } = state()
+    const rig = currentRig()
+    actions.tell(['move', show.name, rig.name, `--limit=${trials}`, ...(mirror ? ['--mirror'] : [])], [show, rig])
+  },
+  /** Checks a table by cues that build it; where none is given they are asked for first. */
+  async checkBy(sheet, cues) {
+    const given = cues.length ? cues : (await askBeside('told', ['cues', sheet.name], filesOf(sheet)))?.answer.result?.building.cues
+    if (given) actions.tell(['check', sheet.name, `--cues=${given.join(',')}`], [sheet])
+  },
+  /** Saves a sheet as other programs take it, made from what was dropped or from its corrected cells. */
+  async mend(sheet) {
+    const reply = await actions.telling(['mend', sheet.name], filesOf(sheet, !sheet.corrected))
+    reply?.files.forEach(file => save(file.name, file.text))
+  },
+  tell: (args, sheets, page) => actions.telling(args, filesFor(sheets), page),
+  /** Asks and shows what is printed, with the arguments of a page of it where there is one. */
+  async telling(args, files, page) {
+    openMore()
+    const later = setTimeout(() => {
+      model.told = { busy: true }
+      draw()
+    }, MOMENT)
+    const reply = await askBeside('told', args, files)
+    clearTimeout(later)
+    if (!beside.told) model.told = reply && { text: reply.printed || reply.answer.says, page }
     draw()
     byId('more').scrollIntoView({ block: 'nearest' })
+    return reply
   },
+  stopTelling: () => beside.told?.abort(),
+  savePageOf: ({ args, sheets }) => saveWritten(args, sheets),
 }
 
 /** Keys that work anywhere but where something is typed. */
 function press(event) {
-  if (event.target.closest('input,select,textarea') || byId('help').open) return
   const modified = event.ctrlKey || event.metaKey
+  if (event.target.closest(modified ? 'input' : 'input,select') || byId('help').open) return
   const key = event.key.toLowerCase()
   const does = modified
     ? { z: event.shiftKey ? redo : undo, y: redo }[key]

@@ -1,14 +1,16 @@
 // Several rigs side by side: which of them take the show.
 
 import { button, byId, element, fill } from './elements.js'
+import { sameness } from './more.js'
 import { change, fresh, state } from './state.js'
 
 const MARKS = { fits: 'Fits', none: 'No', stopped: 'Not told', refused: 'Refused' }
 
-/** The rigs with what came of each, as the program words it; `busy` where it is not known yet. */
-export function drawRigs(reply, actions) {
+/** The rigs with what came of each, as the program words it. */
+export function drawRigs({ rigs: reply, comparing }, actions) {
   const { rigs, rig: current } = state()
-  if (rigs.length < 2 || !reply) return fill(byId('rigs'))
+  if (rigs.length < 2) return fill(byId('rigs'))
+  if (!reply) return fill(byId('rigs'), unknown(comparing, actions))
   const found = reply.answer.result?.rigs ?? []
   if (!found.length) return fill(byId('rigs'), element('p', {}, reply.answer.says))
   const row = (rig, place) => {
@@ -24,8 +26,15 @@ export function drawRigs(reply, actions) {
   fill(byId('rigs'),
     element('div', { class: 'head' },
       element('h2', {}, reply.answer.says),
-      element('div', { class: 'buttons' }, button('Save as CSV', actions.saveRigs), button('Which are the same?', actions.classes))),
+      element('div', { class: 'buttons' }, button('Save as CSV', actions.saveRigs), button('Save as a page', actions.saveRigsPage), sameness(actions))),
     element('div', { class: 'scroll' }, element('table', { class: 'rigs' },
       element('thead', {}, element('tr', {}, ['Rig', 'The show', 'In words', 'Time'].map(text => element('th', { scope: 'col' }, text)))),
       element('tbody', {}, found.map(row)))))
+}
+
+/** What is shown before the rigs are compared. */
+function unknown(comparing, actions) {
+  const line = (text, does, act) => element('div', { class: 'head' }, element('h2', { role: 'status' }, text), button(does, act))
+  if (comparing === 'busy') return line('Comparing the rigs …', 'Stop comparing', actions.stopComparing)
+  return comparing === 'stopped' && line('Stopped: not all rigs were compared.', 'Compare again', actions.compareAgain)
 }

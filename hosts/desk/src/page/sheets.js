@@ -1,7 +1,7 @@
 // Sheets: dropped or chosen, read by the program, corrected, saved as new files.
 //
-// A sheet has the name of its file, its cells as they stand, perhaps a name sheet, and `about`, what the program says of it. Like all
-// that can be undone it is never changed but replaced.
+// A sheet has the name of its file, of a workbook's sheet with # and its title, its cells as they stand, perhaps a name sheet, and
+// `about`, what the program says of it. Like all that can be undone it is never changed but replaced.
 
 import { byId, button, count, element, fill, save } from './elements.js'
 import { ask, Unanswered } from './server.js'
@@ -17,30 +17,36 @@ const sheets = () => [state().show, ...state().rigs].filter(Boolean)
 const stem = name => name.replace(/\.[^.]*$/, '')
 const isNameSheet = name => stem(name).endsWith('.names')
 
-/** A name that no other sheet has, and that is no option of a command. */
-function freeName(wanted, taken) {
+/** A name that no other sheet has, and that is no option of a command, with # and a title behind it. */
+function freeName(wanted, taken, title = '') {
   const plain = wanted.replace(/^-+/, '') || 'sheet.csv'
-  let name = plain
+  const behind = title && `#${title}`
+  let name = plain + behind
   for (let number = 2; taken.includes(name); number++) {
-    name = `${stem(plain)} (${number})${plain.slice(stem(plain).length)}`
+    name = `${stem(plain)} (${number})${plain.slice(stem(plain).length)}${behind}`
   }
   return name
 }
 
-/** The files that a sheet is sent as. */
-export function filesOf(sheet) {
-  const table = sheet.cells ? { name: sheet.name, cells: sheet.cells } : { name: sheet.name, base64: sheet.base64 }
+/** The name of the file that holds a sheet. */
+const fileOf = ({ name, title }) => title ? name.slice(0, -1 - title.length) : name
+
+/** The files that a sheet is sent as: its cells, or what was dropped. */
+export function filesOf(sheet, asDropped = !sheet.cells) {
+  const table = asDropped ? { name: fileOf(sheet), base64: sheet.base64 } : { name: sheet.name, cells: sheet.cells }
   if (!sheet.names) return [table]
   const ending = sheet.names.name.slice(stem(sheet.names.name).length).toLowerCase()
-  return [table, { name: `${stem(sheet.name)}.names${ending}`, base64: sheet.names.base64 }]
+  return [table, { name: `${stem(table.name)}.names${ending}`, base64: sheet.names.base64 }]
 }
 
-/** What the program says of a sheet. */
+/** The sheet with what the program says of it. What was mended when its file was read stays told. */
 async function read(sheet) {
   const reply = await ask(['check', sheet.name], filesOf(sheet))
   const about = reply.answer.sheets[0]
   if (!about) throw new Unanswered(reply.answer.says)
-  return { about, hints: reply.answer.hints, cells: reply.read[0]?.cells ?? sheet.cells }
+  const [file] = reply.read
+  const fromFile = file ? { cells: file.cells, titles: file.sheets, mended: about.mended } : {}
+  return { ...sheet, ...fromFile, about, hints: reply.answer.hints }
 }
 
 function base64Of(file) {
@@ -69,10 +75,9 @@ export async function take(list, place) {
     for (const sent of tables) {
       const names = nameSheets.find(other => stem(stem(other.name)) === stem(sent.name)) ?? null
       nameSheets = nameSheets.filter(other => other !== names)
-      const sheet = { name: freeName(sent.name, taken), base64: sent.base64, cells: null, names, corrected: false }
+      const sheet = { name: freeName(sent.name, taken), title: '', base64: sent.base64, cells: null, names, corrected: false }
       taken.push(sheet.name)
-      const { about, hints, cells } = await read(sheet)
-      made.push({ ...sheet, about, hints, cells, mended: about.mended })
+      made.push(await read(sheet))
     }
     if (made.length) put(made, place)
     for (const names of nameSheets) await giveNames(names, place)
@@ -104,11 +109,21 @@ async function giveNames(names, place) {
 }
 
 /** Puts a sheet with other fields in the place of one, once the program has looked at it. */
-async function renew(sheet, fields) {
-  const next = { ...sheet, ...fields }
-  const { about, hints } = await read(next)
-  if (!sheets().includes(sheet)) return
-  change({ ...replaced(sheet, { ...next, about, hints }), way: 0 })
+async function renew(sheet, fields, also = { way: 0 }) {
+  const next = await read({ ...sheet, ...fields })
+  if (sheets().includes(sheet)) change({ ...replaced(sheet, next), ...also })
+}
+
+/** Takes the sheet of this title from the same workbook. */
+async function chooseTitle(sheet, title) {
+  const taken = sheets().filter(other => other !== sheet).map(other => other.name)
+  const name = freeName(fileOf(sheet), taken, title)
+  const also = sheet === state().show ? { ...fresh, part: [] } : fresh
+  try {
+    await renew(sheet, { name, title, cells: null, corrected: false }, also)
+  } catch (error) {
+    warn(error.message)
+  }
 }
 
 /** Corrects cells of a sheet: rows and columns as a spreadsheet counts them, from 1. */
@@ -152,6 +167,13 @@ function emptyCard(place) {
     element('p', { class: 'faint' }, '.ods, .xlsx, CSV or other text, and name sheets. At most 120 cues.'))]
 }
 
+/** Which sheet of its workbook this is, where that has several. */
+function titles(sheet) {
+  const option = title => element('option', { value: title, selected: title === (sheet.title || sheet.titles[0]) }, title)
+  return sheet.titles.length > 1 && element('label', { class: 'titles' }, 'Sheet ',
+    element('select', { 'aria-label': `Sheet of ${fileOf(sheet)}`, onchange: event => chooseTitle(sheet, event.target.value) }, sheet.titles.map(option)))
+}
+
 /** A sheet in a line or two: its name, what it is, what was mended. */
 function sheetEntry(sheet, place, chosen) {
   const { about } = sheet
@@ -165,6 +187,7 @@ function sheetEntry(sheet, place, chosen) {
   return element('li', { class: `sheet ${about.refusal ? 'bad' : 'good'}${several && chosen ? ' chosen' : ''}` },
     element('div', { class: 'line' },
       choose || element('strong', { class: 'name' }, sheet.name),
+      titles(sheet),
       element('span', { class: 'what' }, what),
       sheet.corrected && element('span', { class: 'tag' }, 'corrected'),
       element('span', { class: 'room' }),

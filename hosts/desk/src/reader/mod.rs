@@ -53,6 +53,14 @@ pub fn grids(bytes: &[u8], sheet: Option<&str>) -> Result<Vec<Grid>, Unread> {
     }
 }
 
+/// The names of a workbook's sheets, the first of very many; none of other files.
+pub fn sheets(bytes: &[u8]) -> Vec<String> {
+    const MOST: usize = 256;
+    let mut names = if is_workbook(bytes) { workbook::sheets(bytes).unwrap_or_default() } else { Vec::new() };
+    names.truncate(MOST);
+    names
+}
+
 /// Whether the bytes are those of a workbook, .ods or .xlsx.
 pub fn is_workbook(bytes: &[u8]) -> bool {
     bytes.starts_with(b"PK\x03\x04")

@@ -10,8 +10,8 @@ use zip::ZipArchive;
 
 const CONTENT: &str = "content.xml";
 
-/// The cells of the sheet of this name, or of the first.
-pub fn grid(archive: &mut ZipArchive<Cursor<&[u8]>>, sheet: Option<&str>) -> Result<Grid, Unread> {
+/// The names of the sheets.
+pub fn sheets(archive: &mut ZipArchive<Cursor<&[u8]>>) -> Result<Vec<String>, Unread> {
     let mut names = Vec::new();
     each_event(archive, CONTENT, |around, event| {
         if let Event::Start(start) = event {
@@ -21,7 +21,12 @@ pub fn grid(archive: &mut ZipArchive<Cursor<&[u8]>>, sheet: Option<&str>) -> Res
         }
         Ok(true)
     })?;
-    let (wanted, said) = chosen(&names, sheet)?;
+    Ok(names)
+}
+
+/// The cells of the sheet of this name, or of the first.
+pub fn grid(archive: &mut ZipArchive<Cursor<&[u8]>>, sheet: Option<&str>) -> Result<Grid, Unread> {
+    let (wanted, said) = chosen(&sheets(archive)?, sheet)?;
     let mut reading = Reading { wanted, ..Reading::default() };
     each_event(archive, CONTENT, |around, event| reading.take(around, event))?;
     reading.grid.changes.extend(said);

@@ -20,22 +20,43 @@ const DEEPEST: usize = 100;
 
 type Archive<'a> = ZipArchive<Cursor<&'a [u8]>>;
 
+/// A workbook of either kind.
+enum Book<'a> {
+    Ods(Archive<'a>),
+    Xlsx(Archive<'a>),
+}
+
 /// The cells of a sheet: the one of this name, or the first.
 pub fn grid(bytes: &[u8], sheet: Option<&str>) -> Result<Grid, Unread> {
-    if !has_few_files(bytes) {
-        return Err(broken("an archive with very many files, or cut short"));
-    }
-    let mut archive = ZipArchive::new(Cursor::new(bytes)).map_err(|_| broken("an archive that is damaged"))?;
-    let has = |archive: &Archive, name: &str| archive.file_names().any(|file| file == name);
-    let mut grid = if has(&archive, "content.xml") {
-        ods::grid(&mut archive, sheet)?
-    } else if has(&archive, "xl/workbook.xml") {
-        xlsx::grid(&mut archive, sheet)?
-    } else {
-        return Err(broken("an archive without a spreadsheet"));
+    let mut grid = match open(bytes)? {
+        Book::Ods(mut archive) => ods::grid(&mut archive, sheet)?,
+        Book::Xlsx(mut archive) => xlsx::grid(&mut archive, sheet)?,
     };
     grid.fill_up();
     Ok(grid)
+}
+
+/// The names of the sheets.
+pub fn sheets(bytes: &[u8]) -> Result<Vec<String>, Unread> {
+    match open(bytes)? {
+        Book::Ods(mut archive) => ods::sheets(&mut archive),
+        Book::Xlsx(mut archive) => xlsx::sheets(&mut archive),
+    }
+}
+
+fn open(bytes: &[u8]) -> Result<Book<'_>, Unread> {
+    if !has_few_files(bytes) {
+        return Err(broken("an archive with very many files, or cut short"));
+    }
+    let archive = ZipArchive::new(Cursor::new(bytes)).map_err(|_| broken("an archive that is damaged"))?;
+    let has = |name: &str| archive.file_names().any(|file| file == name);
+    if has("content.xml") {
+        Ok(Book::Ods(archive))
+    } else if has("xl/workbook.xml") {
+        Ok(Book::Xlsx(archive))
+    } else {
+        Err(broken("an archive without a spreadsheet"))
+    }
 }
 
 pub fn broken(there: impl Into<String>) -> Unread {

@@ -22,6 +22,12 @@ const MOST_ELEMENTS: usize = 1 << 16;
 /// No row and no column is counted farther.
 const FARTHEST: usize = 1 << 24;
 
+/// The names of the sheets.
+pub fn sheets(archive: &mut Archive) -> Result<Vec<String>, Unread> {
+    let sheets = elements(archive, WORKBOOK, b"sheet", ["name", "id"])?;
+    Ok(sheets.into_iter().map(|[name, _]| name).collect())
+}
+
 /// The cells of the sheet of this name, or of the first.
 pub fn grid(archive: &mut Archive, sheet: Option<&str>) -> Result<Grid, Unread> {
     let sheets = elements(archive, WORKBOOK, b"sheet", ["name", "id"])?;

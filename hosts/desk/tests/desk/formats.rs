@@ -130,6 +130,9 @@ fn a_sheet_of_a_workbook() {
     }
     put(&here, "odd#name.csv", "1\r\n");
     assert_eq!(run_in(&here, &["check", "odd#name.csv"]), answer("odd#name.csv: a linking table of 1 cue.\n", 0));
+    put(&here, "odd#book.ods", ods(&[("Hall", &Rows::new()), ("Act #2", &numbers(&[vec![1]]))]));
+    let odd = "odd#book.ods#Act #2";
+    assert_eq!(run_in(&here, &["check", odd]), answer(&format!("{odd}: a linking table of 1 cue.\n"), 0));
 }
 
 #[test]

@@ -3,6 +3,7 @@
 
 use crate::random::Random;
 use crate::run::{folder, graph, names, program, put, root, run};
+use crate::workbooks::{numbers, ods, xlsx};
 use serde_json::{json, Value};
 use std::fs;
 use std::io::{BufRead, BufReader, Read, Write};
@@ -276,6 +277,34 @@ fn answers_are_those_of_the_command_line() {
         let words = run(&arguments);
         assert_eq!(reply["printed"], words.output + &words.errors, "{arguments:?}");
     }
+}
+
+#[test]
+fn the_sheets_of_a_workbook_are_named_and_the_one_that_is_asked_for_is_read() {
+    let served = Served::new("served-workbook");
+    let (one, two) = (numbers(&[vec![1]]), numbers(&[vec![1, 2], vec![2, 1]]));
+    for (name, bytes) in
+        [("book.ods", ods(&[("Hall", &one), ("Act 2", &two)])), ("book.xlsx", xlsx(&[("Hall", &one), ("Act 2", &two)]))]
+    {
+        let file = json!({ "name": name, "base64": base64(&bytes) });
+        for (sheet, rows) in
+            [("", json!([["1"]])), ("#Hall", json!([["1"]])), ("#Act 2", json!([["1", "2"], ["2", "1"]]))]
+        {
+            let reply = served.ask(&json!({ "arguments": ["check", format!("{name}{sheet}")], "files": [file] }));
+            let cells = json!({ "row": 1, "column": 1, "rows": rows });
+            assert_eq!(
+                reply["read"],
+                json!([{ "name": name, "sheets": ["Hall", "Act 2"], "cells": cells }]),
+                "{sheet}"
+            );
+            assert_eq!(reply["answer"]["sheets"][0]["path"], format!("{name}{sheet}"));
+        }
+        let none = served.ask(&json!({ "arguments": ["check", format!("{name}#Act 3")], "files": [file] }));
+        assert_eq!((&none["answer"]["status"], &none["read"][0]["cells"]), (&json!("refused"), &Value::Null));
+    }
+    let text = json!({ "name": "a.csv", "base64": base64(b"1\r\n") });
+    let reply = served.ask(&json!({ "arguments": ["check", "a.csv"], "files": [text] }));
+    assert_eq!(reply["read"][0]["sheets"], json!([]));
 }
 
 #[test]
