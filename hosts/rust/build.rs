@@ -13,7 +13,7 @@ const VERSION: &str = env!("CARGO_PKG_VERSION");
 fn main() {
     let package = PathBuf::from(env::var_os("CARGO_MANIFEST_DIR").expect("Cargo gives the package's folder"));
     let root = package.join("../..");
-    if root.join("crates/exports").exists() {
+    if package.ends_with("hosts/rust") && root.join("crates/exports").exists() {
         link_built(&root);
     } else {
         link_installed();
