@@ -23,7 +23,7 @@ use Rattle.backtrack.specs.InnerState.{prefix, Holds, Ready, foundIn, Re
 use Rattle.constraints.specs.InnerTracking.{Tracks}
 use Rattle.constraints.proofs.Placing.{prefix-length, image-padded, used-image}
 use Rattle.backtrack.proofs.Limits.{resumed, within-nothing, within-skip, within-unpaid, within-paid, over-stopped, over-found, not-over}
-use Rattle.backtrack.proofs.Steps.{lowest, leftFrom, whole, begin, end, isOpen, tested, shut, opened, fails, goes, still}
+use Rattle.backtrack.proofs.Steps.{lowest, leftFrom, whole, begin, end, isOpen, tested, shut, opened, fails, goes, still-bound}
 
 -- Nothing placed.
 pub start : (s : Product) (m : ℕ) (t : Product) (n : ℕ) (scratch after : List ℕ) (tight : Bool) (p : Partial) → p .len ≡ 0 → Holds s n t p → scratchSize m n ≤ length scratch → length after ≡ m
@@ -230,7 +230,7 @@ module _ {s : Product} {m : ℕ} {t : Product} {n : ℕ} {scratch after : List �
               bound = T .ready .bound;
               same = λ w.
                   ap (λ (k : ℕ). take k after) (len ∙ add-one (p .len) ∙ ap suc (sym (long s m t n scratch after tight p (T .ready))))
-                  ∙ still s t (marked n scratch) n after (prefix p) tight kept d shorter x (T .element .0) (ap (eqb x) (sym low-here) ∙ w) ∙ sym eq;
+                  ∙ still-bound after (prefix p) tight kept shorter x (T .element .0) (ap (eqb x) (sym low-here) ∙ w) ∙ sym eq;
             }
 
         -- What the call for the next element leaves.

@@ -3,7 +3,7 @@ use mathlib.Core.Path.{_≡_, refl, sym, ap, ap₂, _∙_}
 use mathlib.Core.Bool.{Bool, true, false, cond, false≢true}
 use mathlib.Core.Option.{Option, none, some}
 use mathlib.Core.List.{List}
-use Prim.Native.Nat.{ℕ, _+_, _-_, _≤_, _<_}
+use Prim.Native.Nat.{ℕ, _+_, _-_, _≤_}
 use native.Mathlib.Omega.{arith}
 use borrow.Author.Tests.{leb-true, leb-false, le-leb, lt-leb}
 use lib.Dec.{leb}
@@ -87,21 +87,3 @@ module _ (go : ℕ → Remainder) where
   not-over exhausted e f = absurd (false≢true (sym e))
   not-over (remaining left none) e f = refl
   not-over (remaining left (some l)) e f = absurd (false≢true (sym f))
-
--- It is stopped exactly if more trials are needed, and else says what is found and what is left.
-module _ (limit : ℕ) (w : Work) where
-  pub within-stopped : outcomeOf (within limit w) .stopped ≡ true → limit < w .trials
-  unfolding within outcomeOf
-  within-stopped = go (leb (w .trials) limit) refl
-    where
-      go : (b : Bool) → leb (w .trials) limit ≡ b → outcomeOf (cond b (remaining (limit - w .trials) (w .found)) exhausted) .stopped ≡ true → limit < w .trials
-      go true e h = absurd (false≢true h)
-      go false e h = leb-false (w .trials) limit e
-
-  pub within-ended : outcomeOf (within limit w) .stopped ≡ false → (w .trials ≤ limit) × (within limit w ≡ remaining (limit - w .trials) (w .found))
-  unfolding within outcomeOf
-  within-ended = go (leb (w .trials) limit) refl
-    where
-      go : (b : Bool) → leb (w .trials) limit ≡ b → outcomeOf (cond b (remaining (limit - w .trials) (w .found)) exhausted) .stopped ≡ false → (w .trials ≤ limit) × (cond b (remaining (limit - w .trials) (w .found)) exhausted ≡ remaining (limit - w .trials) (w .found))
-      go true e h = (leb-true (w .trials) limit e, refl)
-      go false e h = absurd (false≢true (sym h))

@@ -25,6 +25,29 @@ use Rattle.backtrack.specs.InnerState.{bounded}
 abbrev pub lowest : Bool → List ℕ → ℕ → ℕ
 lowest tight after i = cond tight (getD after i 0) 0
 
+-- ---- the bound
+
+module _ (after p : List ℕ) (tight : Bool) (same : tight ≡ true → take (length p) after ≡ p) where
+  -- A whole list is late enough unless it is the bound itself.
+  pub bound-itself : length after ≡ length p → beyond (bounded tight after) p ≡ not tight
+  bound-itself l = go tight refl
+    where
+      go : (b : Bool) → tight ≡ b → beyond (bounded b after) p ≡ not b
+      go false e = refl
+      go true e =
+          let eq : after ≡ p = sym (take-all (length p) after (omega arith)) ∙ same e in
+          ap (λ (a : List ℕ). earlier a p) eq ∙ earlier-irreflexive p
+
+  -- Where x is the bound's own entry, the list with x is still the beginning of the bound.
+  pub still-bound : length p < length after → (x : ℕ) → 1 ≤ x → eqb x (lowest tight after (length p)) ≡ true → take (suc (length p)) after ≡ p ++ x ∷ []
+  still-bound room x lx q = go tight refl q
+    where
+      go : (b : Bool) → tight ≡ b → eqb x (lowest b after (length p)) ≡ true → take (suc (length p)) after ≡ p ++ x ∷ []
+      go false e r = absurd (let w = eqb-true x 0 r in let z : ⊥ = omega arith in z)
+      go true e r = take-suc after (length p) 0 room ∙ ap₂ {C = List ℕ} (λ (l : List ℕ) (v : ℕ). l ++ v ∷ []) (same e) (sym (eqb-true x (getD after (length p) 0) r))
+
+-- ---- what is left
+
 -- The work at x of the search after p, where d elements are left to place after x.
 abbrev searchAt : Product → Product → (ℕ → ℕ → Bool) → Ask → ℕ → ℕ → List ℕ → ℕ → Work
 searchAt s t candidate ask n d p x = workAt s t candidate ask p x (counted s t candidate ask n d (p ++ x ∷ []))
@@ -63,13 +86,7 @@ module _ (s t : Product) (candidate : ℕ → ℕ → Bool) (n : ℕ) where
     -- A whole list: it is found unless it is the bound itself.
     pub whole : length after ≡ length p → work (cond (not tight) (some p) none) 0 ≡ counted s t candidate (bounded tight after) n 0 p
     unfolding counted
-    whole l = go tight refl
-      where
-        go : (b : Bool) → tight ≡ b → work (cond (not b) (some p) none) 0 ≡ work (cond (beyond (bounded b after) p) (some p) none) 0
-        go false e = refl
-        go true e =
-            let eq : after ≡ p = sym (take-all (length p) after (omega arith)) ∙ same e in
-            ap {B = Work} (λ (b : Bool). work (cond b (some p) none) 0) (sym (ap (λ (a : List ℕ). earlier a p) eq ∙ earlier-irreflexive p))
+    whole l = ap {B = Work} (λ (b : Bool). work (cond b (some p) none) 0) (sym (bound-itself after p tight same l))
 
     module _ (d : ℕ) (room : length p < length after) where
       abbrev left : ℕ → Work
@@ -165,11 +182,3 @@ module _ (s t : Product) (candidate : ℕ → ℕ → Bool) (n : ℕ) where
             opened o h
             ∙ ap (λ (b : Bool). following (andThen (work none 1) (cond b (counted s t candidate (bounded tight after) n d (p ++ x ∷ [])) (work none 0)))) e
             ∙ ap (λ (w : Work). following (andThen (work none 1) w)) (narrowed (leb-true low x (and-left (leb low x) (not (member x p) && candidate (suc (length p)) x) o)))
-
-        -- The call for the next element is bound only where it has to be.
-        pub still : eqb x low ≡ true → take (suc (length p)) after ≡ p ++ x ∷ []
-        still q = go tight refl q
-          where
-            go : (b : Bool) → tight ≡ b → eqb x (lowest b after (length p)) ≡ true → take (suc (length p)) after ≡ p ++ x ∷ []
-            go false e r = absurd (let w = eqb-true x 0 r in let z : ⊥ = omega arith in z)
-            go true e r = take-suc after (length p) 0 room ∙ ap₂ {C = List ℕ} (λ (l : List ℕ) (v : ℕ). l ++ v ∷ []) (same e) (sym (eqb-true x (getD after (length p) 0) r))

@@ -144,7 +144,7 @@ impl Partial {
 }
 
 // Returns the outcome with no map: the search was stopped, or it ended with `left` trials left.
-fn no_map(stopped: bool, left: u32) -> Outcome
+pub fn no_map(stopped: bool, left: u32) -> Outcome
     ensures answer { λ r. ⌜ r ≡ record { stopped = stopped; left = left; ok = false; image = replicate 120 0 } ⌝ }
 {
     Outcome {

@@ -16,6 +16,7 @@ use Rattle.csv.specs.Records.{recordText, lineText, rowsText}
 use Rattle.csv.proofs.Decimals.{digits-few}
 use Rattle.csv.proofs.Writing.{Writing, write-first, write-room, write-last, sets-overwritten}
 use Rattle.lines.proofs.Lines.{written}
+use Rattle.lines.proofs.Records.{record-three, fields-length, line-more, line-short, line-written}
 use Rattle.classification.specs.Classes.{Note, refusedBy, inClass}
 use Rattle.classification.specs.Held.{notesFrom}
 use Rattle.classification.specs.InnerHeld.{totalLine, totalText}
@@ -24,10 +25,6 @@ use Rattle.classification.proofs.Held.{held, length-from, note-from, na
 
 -- ---- a record
 
-record-three : (a b c : List ℕ) → recordText (a ∷ b ∷ c ∷ []) ≡ a ++ ((44 ∷ b) ++ (44 ∷ c))
-unfolding recordText flatMap
-record-three a b c = ap (λ (l : List ℕ). a ++ ((44 ∷ b) ++ l)) (append-nil (44 ∷ c))
-
 -- A further field.
 record-four : (a b c d : List ℕ) → recordText (a ∷ b ∷ c ∷ d ∷ []) ≡ recordText (a ∷ b ∷ c ∷ []) ++ (44 ∷ d)
 record-four a b c d = four ∙ sym (ap (λ (l : List ℕ). l ++ (44 ∷ d)) (record-three a b c) ∙ append-assoc a ((44 ∷ b) ++ (44 ∷ c)) (44 ∷ d) ∙ ap (λ (l : List ℕ). a ++ l) (append-assoc (44 ∷ b) (44 ∷ c) (44 ∷ d)))
@@ -35,54 +32,14 @@ record-four a b c d = four ∙ sym (ap (λ (l : List ℕ). l ++ (44 ∷ d)) (rec
     four : recordText (a ∷ b ∷ c ∷ d ∷ []) ≡ a ++ ((44 ∷ b) ++ ((44 ∷ c) ++ (44 ∷ d)))
     four = unfold recordText flatMap in ap (λ (l : List ℕ). a ++ ((44 ∷ b) ++ ((44 ∷ c) ++ l))) (append-nil (44 ∷ d))
 
-pub fields-length : (w : List ℕ) (a b : ℕ) → length (recordText (w ∷ numeral a ∷ numeral b ∷ [])) ≡ length w + length (numeral a) + length (numeral b) + 2
-fields-length w a b = ap length (record-three w (numeral a) (numeral b)) ∙ simp length-append (omega arith)
-
--- The line break more.
-pub line-more : (r : List (List ℕ)) → length (lineText r) ≡ length (recordText r) + 2
-unfolding lineText
-line-more r = length-append (recordText r) (13 ∷ 10 ∷ [])
-
-line-length : (w : List ℕ) (a b : ℕ) → length (lineText (w ∷ numeral a ∷ numeral b ∷ [])) ≡ length w + length (numeral a) + length (numeral b) + 4
-line-length w a b = omega (arith, line-more (w ∷ numeral a ∷ numeral b ∷ []), fields-length w a b)
-
 pub class-more : (k n l : ℕ) → length (lineText (noteRecord k (inClass n l))) ≡ length (recordText (classWord ∷ numeral k ∷ numeral n ∷ [])) + length (numeral l) + 3
 class-more k n l =
     let e = simp length-append at (ap length (record-four classWord (numeral k) (numeral n) (numeral l))) in
     omega (arith, line-more (noteRecord k (inClass n l)), e)
 
-line-short : (w : List ℕ) (a b : ℕ) → length (lineText (w ∷ numeral a ∷ numeral b ∷ [])) ≤ length w + 10
-line-short w a b = omega (arith, line-length w a b, digits-few a, digits-few b)
-
 note-short : (k : ℕ) (x : Note) → length (lineText (noteRecord k x)) ≤ 19
 note-short k (refusedBy q) = omega (arith, line-short (114 ∷ 101 ∷ 102 ∷ 117 ∷ 115 ∷ 101 ∷ 100 ∷ []) k q)
 note-short k (inClass n l) = omega (arith, class-more k n l, fields-length classWord k n, digits-few k, digits-few n, digits-few l)
-
--- Three fields one after the other.
-pub fields-written : (before word : List ℕ) (start a b : ℕ) {o₁ o₂ o₃ : List ℕ} {p₁ p₂ p₃ : ℕ}
-    → p₁ ≡ start + length word → o₁ ≡ sets before start word
-    → p₂ ≡ p₁ + length (44 ∷ numeral a) → o₂ ≡ sets o₁ p₁ (44 ∷ numeral a)
-    → p₃ ≡ p₂ + length (44 ∷ numeral b) → o₃ ≡ sets o₂ p₂ (44 ∷ numeral b)
-    → (p₃ ≡ start + length (recordText (word ∷ numeral a ∷ numeral b ∷ []))) × (o₃ ≡ sets before start (recordText (word ∷ numeral a ∷ numeral b ∷ [])))
-fields-written before word start a b q₁ e₁ q₂ e₂ q₃ e₃ =
-    let whole = recordText (word ∷ numeral a ∷ numeral b ∷ []) in
-    let w₁ = written (write-first before start whole) word ((44 ∷ numeral a) ++ (44 ∷ numeral b)) (record-three word (numeral a) (numeral b)) e₁ q₁ in
-    let w₂ = written w₁ (44 ∷ numeral a) (44 ∷ numeral b) refl e₂ q₂ in
-    let w₃ = written w₂ (44 ∷ numeral b) [] (sym (append-nil (44 ∷ numeral b))) e₃ q₃ in
-    let all = write-last w₃ refl in
-    (all .1, all .0)
-
--- A record without its line break, then the break.
-pub line-written : (before : List ℕ) (start : ℕ) (r : List (List ℕ)) {o₁ o₂ : List ℕ} {p₁ p₂ : ℕ}
-    → p₁ ≡ start + length (recordText r) → o₁ ≡ sets before start (recordText r) → p₂ ≡ p₁ + 2 → o₂ ≡ sets o₁ p₁ (13 ∷ 10 ∷ [])
-    → (p₂ ≡ start + length (lineText r)) × (o₂ ≡ sets before start (lineText r))
-unfolding lineText
-line-written before start r q₁ e₁ q₂ e₂ =
-    let whole = recordText r ++ 13 ∷ 10 ∷ [] in
-    let w₁ = written (write-first before start whole) (recordText r) (13 ∷ 10 ∷ []) refl e₁ q₁ in
-    let w₂ = written w₁ (13 ∷ 10 ∷ []) [] refl e₂ q₂ in
-    let all = write-last w₂ refl in
-    (all .1, all .0)
 
 -- Three fields, one field more, then the break.
 pub class-written : (before : List ℕ) (start k n l : ℕ) {o₁ o₂ o₃ : List ℕ} {p₁ p₂ p₃ : ℕ}

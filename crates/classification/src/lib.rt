@@ -1,14 +1,13 @@
 // Which files hold isomorphic tables: the program `classes`, from the bytes of its files to the bytes that it prints. It holds two tables at a time. `wanted`
 // returns which file is to be read next, `step` takes its bytes, and `put` writes the whole output from what was noted of each file.
 ghost use mathlib.Core.Path.{_≡_};
-ghost use mathlib.Core.List.{List, _∷_, []};
+ghost use mathlib.Core.List.{List};
 ghost use Prim.Native.Nat.{ℕ, _+_, _*_, _≤_, _<_};
 ghost use lib.ListN.{length, take};
 ghost use lib.Seq.{sets};
 ghost use Rattle.semigroups.specs.Tables.{largestOrder, Accepted};
 ghost use Rattle.semigroups.specs.Calls.{overwritten};
-ghost use Rattle.csv.specs.Decimals.{numeral};
-ghost use Rattle.csv.specs.Records.{recordText, lineText, rowsText};
+ghost use Rattle.csv.specs.Records.{lineText, rowsText};
 ghost use Rattle.csv.specs.Calls.{cellsAfter};
 ghost use Rattle.files.specs.Files.{fileRefusal, room};
 ghost use Rattle.classification.specs.Classes as classes;
@@ -19,8 +18,9 @@ ghost use Rattle.classification.specs.InnerHeld.{totalText};
 use files::failed_question;
 use files::load_then_check;
 use lines::put_break;
-use lines::put_bytes;
 use lines::put_field;
+use lines::put_fields;
+use lines::put_record;
 use search::Kind;
 use tables::Numbered;
 use tables::limits::CELLS;
@@ -148,29 +148,6 @@ fn members(orders: &[u8; 50], numbers: &[u8; 50], count: usize, a: usize) -> usi
     found
 }
 
-// Writes a word and two numbers as fields, without a line break, at `at`. Returns the place after them.
-fn put_fields(out: &mut [u8], at: usize, word: &[u8], a: usize, b: usize) -> usize
-    requires small { ⌜ (a < 1000) × (b < 1000) ⌝ }
-    requires room { ⌜ at + length (recordText (now word ∷ numeral a ∷ numeral b ∷ [])) ≤ length (now out) ⌝ }
-    ensures answer { λ r. ⌜ r ≡ at + length (recordText (now (word .entry) ∷ numeral a ∷ numeral b ∷ [])) ⌝ }
-    ensures out { λ _. ⌜ now (out .exit) ≡ sets (now (out .entry)) at (recordText (now (word .entry) ∷ numeral a ∷ numeral b ∷ [])) ⌝ }
-{
-    let mut place = put_bytes(out, at, word);
-    place = put_field(out, place, a);
-    put_field(out, place, b)
-}
-
-// Writes the record of a word and two numbers at `at`. Returns the place after it.
-fn put_line(out: &mut [u8], at: usize, word: &[u8], a: usize, b: usize) -> usize
-    requires small { ⌜ (a < 1000) × (b < 1000) ⌝ }
-    requires room { ⌜ at + length (lineText (now word ∷ numeral a ∷ numeral b ∷ [])) ≤ length (now out) ⌝ }
-    ensures answer { λ r. ⌜ r ≡ at + length (lineText (now (word .entry) ∷ numeral a ∷ numeral b ∷ [])) ⌝ }
-    ensures out { λ _. ⌜ now (out .exit) ≡ sets (now (out .entry)) at (lineText (now (word .entry) ∷ numeral a ∷ numeral b ∷ [])) ⌝ }
-{
-    let place = put_fields(out, at, word, a, b);
-    put_break(out, place)
-}
-
 // Writes the record of file k, which is accepted, at `at`. Returns the place after it.
 fn put_class(out: &mut [u8], at: usize, k: usize, order: usize, lowest: usize) -> usize
     requires small { ⌜ (k < 1000) × (order < 1000) × (lowest < 1000) ⌝ }
@@ -191,7 +168,7 @@ fn put_note(out: &mut [u8], at: usize, k: usize, order: u8, number: u8) -> usize
     ensures out { λ _. ⌜ now (out .exit) ≡ sets (now (out .entry)) at (lineText (output.noteRecord k (noteFrom order number))) ⌝ }
 {
     if order == 0 {
-        return put_line(out, at, b"refused", k, number as usize);
+        return put_record(out, at, b"refused", k, number as usize);
     }
     put_class(out, at, k, order as usize, number as usize)
 }
@@ -228,7 +205,7 @@ fn put_total(
 {
     if is_in(a, orders[a - 1], numbers[a - 1]) {
         let total = members(orders, numbers, count, a);
-        return put_line(out, at, b"total", a, total);
+        return put_record(out, at, b"total", a, total);
     }
     at
 }

@@ -24,6 +24,16 @@ unused : (b : Bool) → eqb (cond b 1 0) 0 ≡ not b
 unused true = refl
 unused false = refl
 
+-- Images followed by zeros: all of them, and with one more.
+module _ (image : List ℕ) (len : ℕ) (padded : drop len image ≡ replicate (120 - len) 0) where
+  pub padded-image : length (take len image) ≡ len → image ≡ take len image ++ replicate (120 - length (take len image)) 0
+  padded-image l = sym (take-append-drop len image) ∙ ap (λ (l : List ℕ). take len image ++ l) (padded ∙ ap (λ (k : ℕ). replicate (120 - k) 0) (sym l))
+
+  pub padded-more : (x : ℕ) → len < 120 → drop (len + 1) (set image len x) ≡ replicate (120 - (len + 1)) 0
+  padded-more x room =
+      drop-set-lt (len + 1) image len x (omega arith) ∙ sym (drop-drop 1 len image) ∙ ap (drop 1) padded
+      ∙ ap (λ (k : ℕ). drop 1 (replicate k 0)) (let e : 120 - len ≡ suc (120 - (len + 1)) = omega arith in e)
+
 module _ (n : ℕ) (image used : List ℕ) (len : ℕ) (P : Placing n image used len) where
   pub prefix-length : length (take len image) ≡ len
   prefix-length = let l = P .long in let f = P .fit in length-take-le len image (omega arith)
@@ -42,7 +52,7 @@ module _ (n : ℕ) (image used : List ℕ) (len : ℕ) (P : Placing n image used
 
   -- All of the images, as what is placed and zeros.
   pub image-padded : image ≡ take len image ++ replicate (120 - length (take len image)) 0
-  image-padded = sym (take-append-drop len image) ∙ ap (λ (l : List ℕ). take len image ++ l) (P .padded ∙ ap (λ (k : ℕ). replicate (120 - k) 0) (sym prefix-length))
+  image-padded = padded-image image len (P .padded) prefix-length
 
   -- ---- one more image
 
@@ -52,11 +62,6 @@ module _ (n : ℕ) (image used : List ℕ) (len : ℕ) (P : Placing n image used
 
     pub more-before : take len (set image len x) ≡ take len image
     more-before = take-set-le len image len x (omega arith)
-
-    more-padded : drop (len + 1) (set image len x) ≡ replicate (120 - (len + 1)) 0
-    more-padded =
-        drop-set-lt (len + 1) image len x (omega arith) ∙ sym (drop-drop 1 len image) ∙ ap (drop 1) (P .padded)
-        ∙ ap (λ (k : ℕ). drop 1 (replicate k 0)) (let e : 120 - len ≡ suc (120 - (len + 1)) = omega arith in e)
 
     more-uses : (y : ℕ) → y ≤ 120 → getD (set used x 1) y 0 ≡ cond (member y (take len image) || eqb y x) 1 0
     more-uses y hy =
@@ -74,7 +79,7 @@ module _ (n : ℕ) (image used : List ℕ) (len : ℕ) (P : Placing n image used
           long = length-set image len x ∙ P .long;
           wide = length-set used x 1 ∙ P .wide;
           fit = omega arith;
-          padded = more-padded;
+          padded = padded-more image len (P .padded) x room;
           placed = rw more-prefix (placed-more n (take len image) x (P .placed) hx fresh);
           uses = λ y hy. rw (more-prefix, member-snoc y (take len image) x) (more-uses y hy);
         }

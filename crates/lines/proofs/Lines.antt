@@ -1,7 +1,7 @@
 -- Writing the pieces of a line, one after the other. Assumes nothing.
 use mathlib.Core.Path.{_≡_, ap, _∙_}
 use mathlib.Core.List.{List, [], _∷_, _++_, flatMap, append-assoc, append-nil}
-use Prim.Native.Nat.{ℕ, suc, _+_, _-_, _≤_, _<_}
+use Prim.Native.Nat.{ℕ, suc, _+_, _≤_, _<_}
 use native.Mathlib.Numerals.{add-one}
 use native.Mathlib.Omega.{arith}
 use lib.ListN.{length, drop, getD, set, drop-of-length-le}
@@ -29,14 +29,7 @@ pub copied-all : {before out : List ℕ} {at : ℕ} (bytes : List ℕ) {i : ℕ}
     → (at + i ≡ at + length bytes) × (out ≡ sets before at bytes)
 copied-all bytes h w = let all = write-last w (drop-of-length-le bytes h) in (all .1, all .0)
 
--- ---- the text of a record of three fields, and of two
-
-pub three-fields : (a b c : List ℕ) → lineText (a ∷ b ∷ c ∷ []) ≡ a ++ ((44 ∷ b) ++ ((44 ∷ c) ++ 13 ∷ 10 ∷ []))
-unfolding lineText recordText flatMap
-three-fields a b c =
-    let line-end : List ℕ = 13 ∷ 10 ∷ [] in
-    append-assoc a ((44 ∷ b) ++ ((44 ∷ c) ++ [])) line-end
-    ∙ ap (λ (l : List ℕ). a ++ l) (append-assoc (44 ∷ b) ((44 ∷ c) ++ []) line-end ∙ ap (λ (l : List ℕ). (44 ∷ b) ++ (l ++ line-end)) (append-nil (44 ∷ c)))
+-- ---- the text of a record of two fields
 
 pub two-fields : (a b : List ℕ) → lineText (a ∷ b ∷ []) ≡ a ++ ((44 ∷ b) ++ 13 ∷ 10 ∷ [])
 unfolding lineText recordText flatMap

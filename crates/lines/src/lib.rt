@@ -1,11 +1,12 @@
-// The pieces of RFC 4180 lines, each written at a given place of a lent buffer: bytes, a decimal number, a field after a comma, a line break. Each function
-// returns the place after what it wrote, and changes no other byte. `digit_count` returns how many digits a number has.
+// The pieces of RFC 4180 lines, each written at a given place of a lent buffer: bytes, a decimal number, a field after a comma, a line break, a record of a
+// word and two numbers. Each function returns the place after what it wrote, and changes no other byte. `digit_count` returns how many digits a number has.
 ghost use mathlib.Core.Path.{_≡_};
 ghost use mathlib.Core.List.{_∷_, []};
 ghost use Prim.Native.Nat.{_+_, _≤_, _<_};
 ghost use lib.ListN.{length};
 ghost use lib.Seq.{sets};
 ghost use Rattle.csv.specs.Decimals.{numeral};
+ghost use Rattle.csv.specs.Records.{recordText, lineText};
 
 // Returns how many digits k has in decimal.
 pub fn digit_count(k: usize) -> usize
@@ -77,4 +78,27 @@ pub fn put_break(out: &mut [u8], at: usize) -> usize
     out[at] = 13;
     out[at + 1] = 10;
     at + 2
+}
+
+// Writes a word and two numbers as fields, without a line break, at `at`. Returns the place after them.
+pub fn put_fields(out: &mut [u8], at: usize, word: &[u8], a: usize, b: usize) -> usize
+    requires small { ⌜ (a < 1000) × (b < 1000) ⌝ }
+    requires room { ⌜ at + length (recordText (now word ∷ numeral a ∷ numeral b ∷ [])) ≤ length (now out) ⌝ }
+    ensures answer { λ r. ⌜ r ≡ at + length (recordText (now (word .entry) ∷ numeral a ∷ numeral b ∷ [])) ⌝ }
+    ensures out { λ _. ⌜ now (out .exit) ≡ sets (now (out .entry)) at (recordText (now (word .entry) ∷ numeral a ∷ numeral b ∷ [])) ⌝ }
+{
+    let mut place = put_bytes(out, at, word);
+    place = put_field(out, place, a);
+    put_field(out, place, b)
+}
+
+// Writes the record of a word and two numbers at `at`. Returns the place after it.
+pub fn put_record(out: &mut [u8], at: usize, word: &[u8], a: usize, b: usize) -> usize
+    requires small { ⌜ (a < 1000) × (b < 1000) ⌝ }
+    requires room { ⌜ at + length (lineText (now word ∷ numeral a ∷ numeral b ∷ [])) ≤ length (now out) ⌝ }
+    ensures answer { λ r. ⌜ r ≡ at + length (lineText (now (word .entry) ∷ numeral a ∷ numeral b ∷ [])) ⌝ }
+    ensures out { λ _. ⌜ now (out .exit) ≡ sets (now (out .entry)) at (lineText (now (word .entry) ∷ numeral a ∷ numeral b ∷ [])) ⌝ }
+{
+    let place = put_fields(out, at, word, a, b);
+    put_break(out, place)
 }

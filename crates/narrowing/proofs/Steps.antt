@@ -5,10 +5,10 @@ use mathlib.Core.Option.{Option, none, some}
 use mathlib.Core.List.{List, [], _∷_, _++_, append-assoc, Memᴰ·of-map}
 use Prim.Native.Nat.{ℕ, suc, _+_, _≤_, _<_}
 use native.Mathlib.Omega.{arith}
-use borrow.Author.Tests.{eqb-true, eqb-false, ne-eqb}
+use borrow.Author.Tests.{eqb-false, ne-eqb}
 use lib.Dec.{eqb}
 use lib.ListN.{length, getD, take, drop}
-use lib.Seq.{split-at, take-suc, take-all}
+use lib.Seq.{split-at}
 use Rattle.semigroups.specs.Lists.{elements, at, all, earlier, lists}
 use Rattle.semigroups.specs.Tables.{Product, Element}
 use Rattle.semigroups.specs.MapsLaws.{Embedding, Among}
@@ -16,11 +16,11 @@ use Rattle.semigroups.specs.Maps.{isEmbedding, Ask, first, next, beyond}
 use Rattle.semigroups.specs.InnerSearch.{isWanted}
 use Rattle.semigroups.proofs.Booleans.{clash}
 use Rattle.semigroups.proofs.Lists.{find-same}
-use Rattle.semigroups.proofs.ListOrder.{earlier-irreflexive, earlier-skip, earlier-head, earlier-above}
+use Rattle.semigroups.proofs.ListOrder.{earlier-skip, earlier-head, earlier-above}
 use Rattle.semigroups.proofs.Completions.{extensions, findExtension, find-entry, firstFrom, first-start, first-skip, first-hit, first-end}
 use Rattle.semigroups.proofs.Search.{no-extension, whole-extension}
 use Rattle.backtrack.specs.InnerState.{bounded}
-use Rattle.backtrack.proofs.Steps.{lowest}
+use Rattle.backtrack.proofs.Steps.{lowest, bound-itself}
 
 module _ (m : ℕ) (s : Product) (n : ℕ) (t : Product) (start : ℕ → ℕ → Bool) where
   abbrev want : Ask → List ℕ → Bool
@@ -31,13 +31,7 @@ module _ (m : ℕ) (s : Product) (n : ℕ) (t : Product) (start : ℕ → ℕ �
   module _ (after p : List ℕ) (tight : Bool) (same : tight ≡ true → take (length p) after ≡ p) where
     -- A whole list is found if it is an embedding and not the bound itself.
     pub whole : length after ≡ length p → Among m start p → findExtension (want (bounded tight after)) n 0 p ≡ cond (isEmbedding m s n t p && not tight) (some p) none
-    whole l among = whole-extension m s n t start (bounded tight after) p among ∙ ap {B = Option (List ℕ)} (λ (b : Bool). cond (isEmbedding m s n t p && b) (some p) none) (go tight refl)
-      where
-        go : (b : Bool) → tight ≡ b → beyond (bounded b after) p ≡ not b
-        go false e = refl
-        go true e =
-            let eq : after ≡ p = sym (take-all (length p) after (omega arith)) ∙ same e in
-            ap (λ (a : List ℕ). earlier a p) eq ∙ earlier-irreflexive p
+    whole l among = whole-extension m s n t start (bounded tight after) p among ∙ ap {B = Option (List ℕ)} (λ (b : Bool). cond (isEmbedding m s n t p && b) (some p) none) (bound-itself after p tight same l)
 
     module _ (d : ℕ) (room : length p < length after) where
       abbrev here : ℕ → Option (List ℕ)
@@ -101,10 +95,3 @@ module _ (m : ℕ) (s : Product) (n : ℕ) (t : Product) (start : ℕ → ℕ �
 
         pub hit : low ≤ x → (f : List ℕ) → findExtension (want (bounded (eqb x low) after)) n d (p ++ x ∷ []) ≡ some f → left x ≡ some f
         hit l f e = first-hit here n x f (hx .1) (inner l ∙ e)
-
-        pub still : eqb x low ≡ true → take (suc (length p)) after ≡ p ++ x ∷ []
-        still q = go tight refl q
-          where
-            go : (b : Bool) → tight ≡ b → eqb x (lowest b after (length p)) ≡ true → take (suc (length p)) after ≡ p ++ x ∷ []
-            go false e r = absurd (let w = eqb-true x 0 r in let z : ⊥ = omega arith in z)
-            go true e r = take-suc after (length p) 0 room ∙ ap₂ {C = List ℕ} (λ (l : List ℕ) (v : ℕ). l ++ v ∷ []) (same e) (sym (eqb-true x (getD after (length p) 0) r))

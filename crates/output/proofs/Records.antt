@@ -14,40 +14,22 @@ use Rattle.csv.specs.Records.{lineText, rowsText}
 use Rattle.semigroups.specs.Calls.{overwritten}
 use Rattle.csv.proofs.Decimals.{digits-few}
 use Rattle.csv.proofs.Writing.{Writing, write-first, write-last, sets-overwritten}
-use Rattle.lines.proofs.Lines.{written, three-fields, two-fields}
+use Rattle.lines.proofs.Lines.{written, two-fields}
+use Rattle.lines.proofs.Records.{line-short}
 use Rattle.files.specs.Answers.{refusedWord}
 use Rattle.output.specs.Records.{foundWord, firstRecord, pairRecord, pairRecords, foundRecords, refusedRecords}
 
 -- ---- a record
 
-pub first-length : (word : List ℕ) (a b : ℕ) → length (lineText (firstRecord word a b)) ≡ length word + length (numeral a) + length (numeral b) + 4
-unfolding firstRecord
-first-length word a b = ap length (three-fields word (numeral a) (numeral b)) ∙ simp length-append (omega arith)
-
 pub first-short : (word : List ℕ) (a b : ℕ) → length (lineText (firstRecord word a b)) ≤ length word + 10
-first-short word a b = omega (arith, first-length word a b, digits-few a, digits-few b)
+unfolding firstRecord
+first-short word a b = line-short word a b
 
 pub pair-length : (i x : ℕ) → length (lineText (numeral i ∷ numeral x ∷ [])) ≡ length (numeral i) + length (numeral x) + 3
 pair-length i x = ap length (two-fields (numeral i) (numeral x)) ∙ simp length-append (omega arith)
 
 pub pair-short : (i x : ℕ) → length (lineText (numeral i ∷ numeral x ∷ [])) ≤ 9
 pair-short i x = omega (arith, pair-length i x, digits-few i, digits-few x)
-
-pub first-written : (before word : List ℕ) (a b : ℕ) {o₁ o₂ o₃ o₄ : List ℕ} {p₁ p₂ p₃ p₄ : ℕ}
-    → p₁ ≡ 0 + length word → o₁ ≡ sets before 0 word
-    → p₂ ≡ p₁ + length (44 ∷ numeral a) → o₂ ≡ sets o₁ p₁ (44 ∷ numeral a)
-    → p₃ ≡ p₂ + length (44 ∷ numeral b) → o₃ ≡ sets o₂ p₂ (44 ∷ numeral b)
-    → p₄ ≡ p₃ + 2 → o₄ ≡ sets o₃ p₃ (13 ∷ 10 ∷ [])
-    → (p₄ ≡ length (lineText (firstRecord word a b))) × (o₄ ≡ sets before 0 (lineText (firstRecord word a b)))
-unfolding firstRecord
-first-written before word a b q₁ e₁ q₂ e₂ q₃ e₃ q₄ e₄ =
-    let whole = lineText (word ∷ numeral a ∷ numeral b ∷ []) in
-    let w₁ = written (write-first before 0 whole) word ((44 ∷ numeral a) ++ ((44 ∷ numeral b) ++ 13 ∷ 10 ∷ [])) (three-fields word (numeral a) (numeral b)) e₁ q₁ in
-    let w₂ = written w₁ (44 ∷ numeral a) ((44 ∷ numeral b) ++ 13 ∷ 10 ∷ []) refl e₂ q₂ in
-    let w₃ = written w₂ (44 ∷ numeral b) (13 ∷ 10 ∷ []) refl e₃ q₃ in
-    let w₄ = written w₃ (13 ∷ 10 ∷ []) [] refl e₄ q₄ in
-    let all = write-last w₄ refl in
-    (let r = all .1 in omega arith, all .0)
 
 pub pair-written : (before : List ℕ) (start i x : ℕ) {o₁ o₂ o₃ : List ℕ} {p₁ p₂ p₃ : ℕ}
     → p₁ ≡ start + length (numeral i) → o₁ ≡ sets before start (numeral i)

@@ -15,9 +15,9 @@ ghost use Rattle.output.specs.ProgramLaws.{longestOutput};
 use files::failed_question;
 use files::load_then_check;
 use lines::put_break;
-use lines::put_bytes;
 use lines::put_field;
 use lines::put_number;
+use lines::put_record;
 use search::Kind;
 use tables::Numbered;
 use tables::limits::CELLS;
@@ -26,16 +26,13 @@ use tables::limits::OUTPUT;
 use tables::limits::SCRATCH;
 
 // Writes the record of a word and two numbers to the start of `out`. Returns its length.
-fn put_record(out: &mut [u8], word: &[u8], a: usize, b: usize) -> usize
+fn put_first(out: &mut [u8], word: &[u8], a: usize, b: usize) -> usize
     requires small { ⌜ (a < 1000) × (b < 1000) ⌝ }
     requires room { ⌜ length (now word) + 10 ≤ length (now out) ⌝ }
     ensures answer { λ r. ⌜ r ≡ length (lineText (firstRecord (now (word .entry)) a b)) ⌝ }
     ensures out { λ _. ⌜ now (out .exit) ≡ sets (now (out .entry)) 0 (lineText (firstRecord (now (word .entry)) a b)) ⌝ }
 {
-    let mut at = put_bytes(out, 0, word);
-    at = put_field(out, at, a);
-    at = put_field(out, at, b);
-    put_break(out, at)
+    put_record(out, 0, word, a, b)
 }
 
 // Writes the record of an element and its image at `at`. Returns the place after it.
@@ -73,7 +70,7 @@ fn put_found(out: &mut [u8], n: usize, map: &[u8]) -> usize
     ensures answer { λ r. ⌜ r ≡ length (rowsText (foundRecords (length (now (map .entry))) n (now (map .entry)))) ⌝ }
     ensures out { λ _. ⌜ now (out .exit) ≡ overwritten (rowsText (foundRecords (length (now (map .entry))) n (now (map .entry)))) (now (out .entry)) ⌝ }
 {
-    let at = put_record(out, b"found", map.len(), n);
+    let at = put_first(out, b"found", map.len(), n);
     put_pairs(out, at, map)
 }
 
@@ -97,7 +94,7 @@ fn put_answer(out: &mut [u8; OUTPUT], source: &[u8], m: usize, target: &[u8], n:
         &mut scratch,
     );
     if !found {
-        return put_record(out, b"none", m, n);
+        return put_first(out, b"none", m, n);
     }
     put_found(out, n, &map[..m])
 }
@@ -110,12 +107,12 @@ pub fn recue(source: &[u8], target: &[u8], out: &mut [u8; OUTPUT]) -> usize
     let mut source_cells = [0u8; CELLS];
     let first = load_then_check(source, &mut source_cells);
     let Numbered::Number(m) = first else {
-        return put_record(out, b"refused", 1, failed_question(first));
+        return put_first(out, b"refused", 1, failed_question(first));
     };
     let mut target_cells = [0u8; CELLS];
     let second = load_then_check(target, &mut target_cells);
     let Numbered::Number(n) = second else {
-        return put_record(out, b"refused", 2, failed_question(second));
+        return put_first(out, b"refused", 2, failed_question(second));
     };
     let source_size = m * m;
     let target_size = n * n;

@@ -2,18 +2,21 @@
 use mathlib.Core.Path.{_≡_, sym, ap, ap₂, _∙_}
 use mathlib.Core.Bool.{Bool, false}
 use mathlib.Core.List.{List}
-use mathlib.Core.Option.{Option, none, some}
-use Prim.Native.Nat.{ℕ, _≤_, _<_}
+use mathlib.Core.Option.{Option, none, some, Option·getD}
+use Prim.Native.Nat.{ℕ, _-_, _≤_, _<_}
 use Rattle.semigroups.specs.Questions.{Refusal}
-use Rattle.semigroups.specs.Calls.{refused, gives}
-use Rattle.semigroups.specs.Maps.{Kind, sought}
+use Rattle.semigroups.specs.Calls.{Answer, refused, gives}
+use Rattle.semigroups.specs.Maps.{Kind, first, sought}
 use Rattle.semigroups.specs.Trials.{Work, Limited, stopped, ended, limited, foundWithin}
 use Rattle.semigroups.proofs.Trials.{limited-ends, limited-stops}
+use Rattle.backtrack.specs.declared.Outcome.{Outcome}
+use Rattle.backtrack.specs.InnerState.{within, outcomeOf}
 use Rattle.search.specs.declared.Limit.the-variants.{Trials}
-use Rattle.search.specs.declared.Searched.{Searched}
-use Rattle.calls.specs.Calls.{Lent, called, refusalOf, leaving, marksOf}
+use Rattle.calls.specs.Calls.{Lent, Called, called, refusalOf, leaving, marksOf}
 use Rattle.calls.specs.Limited.{firstWork, limitedCall}
-use Rattle.search.specs.InnerSearching.{endedUnless, searchedSays, searched}
+use Rattle.search.specs.InnerSearching.{searched, workOf}
+use Rattle.search.proofs.Marked.{endedUnless, limited-says}
+use Rattle.search.proofs.Searching.{given}
 use Rattle.search.proofs.Works.{first-work}
 
 module _ (kind : Kind) (limit : ℕ) (l : Lent) where
@@ -27,14 +30,29 @@ module _ (kind : Kind) (limit : ℕ) (l : Lent) where
     unfolding limitedCall
     by-work a o e = ap₂ (λ (q : Option Refusal) (a : Limited). leaving (marksOf kind l) l q a (foundWithin limit (firstWork kind l))) p (e .0) ∙ ap (leaving (marksOf kind l) l none a) (e .1)
 
-    -- What the search below the questions comes to, once it is read.
-    pub as-limited : (r : Searched) {bytes scratch : List ℕ} → called (gives (searchedSays r)) bytes scratch ≡ searched kind false (Trials limit) l → (stops finds : Bool) → r .stopped ≡ stops → r .found ≡ finds
-        → called (gives (endedUnless stops finds (r .trials))) bytes scratch ≡ limitedCall kind limit l
-    unfolding searched limitedCall
-    as-limited r {bytes = bytes} {scratch = scratch} h stops finds e f =
-        ap₂ (λ (b c : Bool). called (gives (endedUnless b c (r .trials))) bytes scratch) (sym e) (sym f) ∙ h
-        ∙ ap (λ (w : Work). leaving (marksOf kind l) l none (limited limit w) (foundWithin limit w)) (sym (first-work kind l))
-        ∙ ap (λ (q : Option Refusal). leaving (marksOf kind l) l q (limited limit (firstWork kind l)) (foundWithin limit (firstWork kind l))) (sym p)
+    -- What the search below the questions comes to, once its outcome is read.
+    module _ (r : Outcome) {bytes scratch : List ℕ} (h : called (gives r) bytes scratch ≡ searched kind false (Trials limit) l) where
+      abbrev done : Work
+      done = workOf kind first (l .m) (l .source) (l .n) (l .target)
+
+      outcome : r ≡ outcomeOf (within limit done)
+      unfolding searched
+      outcome = given (ap (λ (c : Called (Answer Outcome)). c .says) h)
+
+      pub left-within : r .left ≤ limit
+      left-within = limited-says limit done r outcome .0
+
+      pub as-limited : (stops finds : Bool) → r .stopped ≡ stops → r .ok ≡ finds → called (gives (endedUnless stops finds (limit - r .left))) bytes scratch ≡ limitedCall kind limit l
+      unfolding searched limitedCall
+      as-limited stops finds e f =
+          let said = limited-says limit done r outcome .1 in
+          let map = ap (λ (c : Called (Answer Outcome)). c .mapBytes) h ∙ ap (λ (o : Option (List ℕ)). Option·getD o (l .mapBytes)) (said .1) in
+          let marks = ap (λ (c : Called (Answer Outcome)). c .scratch) h in
+          let says : endedUnless stops finds (limit - r .left) ≡ limited limit done = ap₂ (λ (b c : Bool). endedUnless b c (limit - r .left)) (sym e) (sym f) ∙ said .0 in
+          let made : called (gives (endedUnless stops finds (limit - r .left))) bytes scratch ≡ leaving (marksOf kind l) l none (limited limit done) (foundWithin limit done) = cc in
+          made
+          ∙ ap (λ (w : Work). leaving (marksOf kind l) l none (limited limit w) (foundWithin limit w)) (sym (first-work kind l))
+          ∙ ap (λ (q : Option Refusal). leaving (marksOf kind l) l q (limited limit (firstWork kind l)) (foundWithin limit (firstWork kind l))) (sym p)
 
     -- A call that is stopped, or ends, by its work.
     pub stops : limit < firstWork kind l .trials → limitedCall kind limit l ≡ leaving (marksOf kind l) l none stopped none

@@ -1,105 +1,129 @@
--- What the search over the marks answers, from its work, with a limit or without. Assumes nothing.
+-- The outcome of a search over the marks, from its work, with a limit or without. Assumes nothing.
 use mathlib.Core.Path.{_≡_, refl, sym, ap, ap₂, _∙_}
-use mathlib.Core.Bool.{Bool, true, false, cond, false≢true}
+use mathlib.Core.Bool.{Bool, true, false, cond}
+use mathlib.Core.Logic.{_⊎_, inl, inr}
 use mathlib.Core.List.{List, []}
-use mathlib.Core.Option.{Option, none, some, Option·getD}
-use Prim.Native.Nat.{ℕ, _-_, _≤_}
+use mathlib.Core.Option.{none, some, Option·getD, Option·none-ne-some}
+use Prim.Native.Nat.{ℕ, _-_, _≤_, _<_}
 use native.Mathlib.Omega.{arith}
+use borrow.Author.Tests.{le-leb, lt-leb}
+use lib.Dec.{leb}
 use lib.ListN.{length, take, replicate}
 use lib.Seq.{take-at}
 use Rattle.semigroups.specs.Tables.{product, Filled}
 use Rattle.semigroups.specs.Scratch.{marked}
-use Rattle.semigroups.specs.Maps.{sought}
-use Rattle.semigroups.specs.Trials.{Work, Limited, stopped, ended}
+use Rattle.semigroups.specs.Maps.{Sought, sought}
+use Rattle.semigroups.specs.InnerSearch.{search}
+use Rattle.semigroups.specs.Trials.{Work, work, Limited, stopped, ended, limited, foundWithin}
 use Rattle.semigroups.proofs.Tables.{product-element}
 use Rattle.semigroups.proofs.Search.{search-map}
+use Rattle.semigroups.proofs.Booleans.{at-most-or-above}
 use Rattle.semigroups.proofs.Trials.{counted-finds, limited-ends, limited-stops}
 use Rattle.backtrack.specs.declared.Found.{Found}
 use Rattle.backtrack.specs.declared.Outcome.{Outcome}
-use Rattle.backtrack.specs.InnerState.{foundIn, bounded, remaining, within, outcomeOf}
-use Rattle.backtrack.proofs.Extending.{none-found}
-use Rattle.backtrack.proofs.Limits.{within-stopped, within-ended}
+use Rattle.backtrack.specs.InnerState.{foundIn, bounded, Remainder, exhausted, remaining, within, outcomeOf}
+use Rattle.backtrack.proofs.Limits.{within-nothing}
 use Rattle.search.specs.declared.Limit.{Limit}
 use Rattle.search.specs.declared.Limit.the-variants.{Unlimited, Trials}
 use Rattle.search.specs.Answers.{soughtIf}
-use Rattle.search.specs.InnerSearching.{saidUnder, foundUnder, markedWork}
+use Rattle.search.specs.InnerSearching.{trialsIn, remainderUnder, mapIn, markedWork}
 
--- ---- what is found
+-- ---- the outcome
 
-pub found-none : (w : Work) (r : Found) → r ≡ foundIn (w .found) → r .ok ≡ false → w .found ≡ none
-found-none w r finding e = none-found (w .found) (ap (λ (f : Found). f .ok) (sym finding) ∙ e)
+-- An outcome finds the map that is in the remainder.
+ok-in : (q : Remainder) (r : Outcome) → r ≡ outcomeOf q → soughtIf (r .ok) ≡ sought (mapIn q)
+unfolding outcomeOf foundIn
+ok-in exhausted r e = ap (λ (z : Outcome). soughtIf (z .ok)) e
+ok-in (remaining k none) r e = ap (λ (z : Outcome). soughtIf (z .ok)) e
+ok-in (remaining k (some f)) r e = ap (λ (z : Outcome). soughtIf (z .ok)) e
 
--- The map found has an image for each element.
-module _ (next : Bool) (m : ℕ) (source : List ℕ) (n : ℕ) (target bytes scratch : List ℕ) (filled : Filled m source) where
+-- What is written of an outcome, where a map has m images.
+written-in : (m : ℕ) (bytes : List ℕ) (q : Remainder) → ((f : List ℕ) → mapIn q ≡ some f → length f ≡ m) → (r : Outcome) → r ≡ outcomeOf q
+    → cond (r .ok) (take m (r .image)) bytes ≡ Option·getD (mapIn q) bytes
+unfolding outcomeOf foundIn
+written-in m bytes exhausted size r e = ap (λ (z : Outcome). cond (z .ok) (take m (z .image)) bytes) e
+written-in m bytes (remaining k none) size r e = ap (λ (z : Outcome). cond (z .ok) (take m (z .image)) bytes) e
+written-in m bytes (remaining k (some f)) size r e = ap (λ (z : Outcome). cond (z .ok) (take m (z .image)) bytes) e ∙ take-at f (replicate (120 - length f) 0) m (size f refl)
+
+-- Where no work is done there is no map, whatever the limit.
+pub no-work : (limit : Limit) → record { stopped = false; left = trialsIn limit; ok = false; image = replicate 120 0 } ≡ outcomeOf (remainderUnder limit (work none 0))
+unfolding outcomeOf foundIn
+no-work Unlimited = refl
+no-work (Trials limit) = ap outcomeOf (sym (within-nothing limit none))
+
+pub nothing-written : (limit : Limit) (bytes : List ℕ) → bytes ≡ Option·getD (mapIn (remainderUnder limit (work none 0))) bytes
+nothing-written Unlimited bytes = refl
+nothing-written (Trials limit) bytes = ap (λ (q : Remainder). Option·getD (mapIn q) bytes) (sym (within-nothing limit none))
+
+-- ---- the work over the marks
+
+module _ (next : Bool) (m : ℕ) (source : List ℕ) (n : ℕ) (target bytes scratch : List ℕ) where
   abbrev w : Work
   w = markedWork next m source n target bytes scratch
 
-  size : (f : List ℕ) → w .found ≡ some f → length f ≡ m
-  size f e =
-      search-map m (product m source) n (product n target) (marked n scratch) (bounded next bytes) (product-element m source (filled .size) (filled .in-range)) f
-      (sym (counted-finds (product m source) (product n target) (marked n scratch) (bounded next bytes) n m []) ∙ e)
-      .homomorphism .size
+  -- A search without a limit finds what the counted search finds.
+  pub marked-unlimited : (r : Found) → r ≡ foundIn (search (product m source) (product n target) (marked n scratch) (bounded next bytes) n m [])
+      → record { stopped = false; left = 0; ok = r .ok; image = r .image } ≡ outcomeOf (remaining 0 (w .found))
+  unfolding outcomeOf
+  marked-unlimited r e =
+      ap {B = Outcome} (λ (f : Found). record { stopped = false; left = 0; ok = f .ok; image = f .image })
+      (e ∙ ap foundIn (sym (counted-finds (product m source) (product n target) (marked n scratch) (bounded next bytes) n m [])))
 
-  pub found-some : (r : Found) → r ≡ foundIn (w .found) → r .ok ≡ true → w .found ≡ some (take m (r .image))
-  unfolding foundIn
-  found-some r finding e = go (w .found) refl
-    where
-      go : (o : Option (List ℕ)) → w .found ≡ o → o ≡ some (take m (r .image))
-      go none q = absurd (false≢true (ap (λ (f : Found). f .ok) (sym (finding ∙ ap foundIn q)) ∙ e))
-      go (some f) q = ap some (sym (ap (λ (h : Found). take m (h .image)) (finding ∙ ap foundIn q) ∙ take-at f (replicate (120 - length f) 0) m (size f q)))
+  module _ (filled : Filled m source) where
+    -- The map found has an image for each element.
+    size : (f : List ℕ) → w .found ≡ some f → length f ≡ m
+    size f e =
+        search-map m (product m source) n (product n target) (marked n scratch) (bounded next bytes) (product-element m source (filled .size) (filled .in-range)) f
+        (sym (counted-finds (product m source) (product n target) (marked n scratch) (bounded next bytes) n m []) ∙ e)
+        .homomorphism .size
 
--- ---- what is said and the map that is left
+    size-under : (limit : Limit) (f : List ℕ) → mapIn (remainderUnder limit w) ≡ some f → length f ≡ m
+    unfolding within
+    size-under Unlimited f e = size f e
+    size-under (Trials limit) f e = go (leb (w .trials) limit) e
+      where
+        go : (b : Bool) → mapIn (cond b (remaining (limit - w .trials) (w .found)) exhausted) ≡ some f → length f ≡ m
+        go true e = size f e
+        go false e = absurd (Option·none-ne-some f e)
+
+    -- What is written of the outcome.
+    pub written : (limit : Limit) (r : Outcome) → r ≡ outcomeOf (remainderUnder limit w) → cond (r .ok) (take m (r .image)) bytes ≡ Option·getD (mapIn (remainderUnder limit w)) bytes
+    written limit r e = written-in m bytes (remainderUnder limit w) (size-under limit) r e
+
+-- ---- what is said
 
 -- Without a limit.
-pub leaves-found : (w : Work) (bytes : List ℕ) (o : Option (List ℕ)) → w .found ≡ o → (sought o ≡ sought (w .found)) × (Option·getD o bytes ≡ Option·getD (w .found) bytes)
-leaves-found w bytes o e = (ap sought (sym e), ap (λ (q : Option (List ℕ)). Option·getD q bytes) (sym e))
+pub unlimited-says : (w : Work) (r : Outcome) → r ≡ outcomeOf (remaining 0 (w .found)) → soughtIf (r .ok) ≡ sought (w .found)
+unlimited-says w r e = ok-in (remaining 0 (w .found)) r e
 
--- What is written where a search found a map.
-pub leaves-put : (next : Bool) (m : ℕ) (source : List ℕ) (n : ℕ) (target bytes scratch : List ℕ) → Filled m source → (r : Found) → r ≡ foundIn (markedWork next m source n target bytes scratch .found)
-    → (soughtIf (r .ok) ≡ sought (markedWork next m source n target bytes scratch .found)) × (cond (r .ok) (take m (r .image)) bytes ≡ Option·getD (markedWork next m source n target bytes scratch .found) bytes)
-leaves-put next m source n target bytes scratch filled r finding = go (r .ok) refl
-  where
-    work : Work
-    work = markedWork next m source n target bytes scratch
+-- With a limit, from whether it was stopped, whether it found a map, and its trials.
+abbrev pub endedUnless : Bool → Bool → ℕ → Limited
+endedUnless true found trials = stopped
+endedUnless false found trials = ended (soughtIf found) trials
 
-    go : (b : Bool) → r .ok ≡ b → (soughtIf b ≡ sought (work .found)) × (cond b (take m (r .image)) bytes ≡ Option·getD (work .found) bytes)
-    go true e = leaves-found work bytes (some (take m (r .image))) (found-some next m source n target bytes scratch filled r finding e)
-    go false e = leaves-found work bytes none (found-none work r finding e)
-
--- With a limit.
-abbrev pub Leaves : Limit → Work → List ℕ → Limited → Option (List ℕ) → Type 0
-Leaves limit w bytes a o = (a ≡ saidUnder limit w) × (Option·getD o bytes ≡ Option·getD (foundUnder limit w) bytes)
-
-module _ (limit : ℕ) (w : Work) (bytes : List ℕ) (r : Outcome) (finding : r ≡ outcomeOf (within limit w)) where
-  pub leaves-stopped : r .stopped ≡ true → Leaves (Trials limit) w bytes stopped none
-  leaves-stopped e =
-      let z = limited-stops w limit (within-stopped limit w (ap (λ (q : Outcome). q .stopped) (sym finding) ∙ e)) in
-      (sym (z .0), ap (λ (q : Option (List ℕ)). Option·getD q bytes) (sym (z .1)))
-
-  module _ (e : r .stopped ≡ false) where
-    ended-here : (w .trials ≤ limit) × (within limit w ≡ remaining (limit - w .trials) (w .found))
-    ended-here = within-ended limit w (ap (λ (q : Outcome). q .stopped) (sym finding) ∙ e)
-
-    answered : r ≡ outcomeOf (remaining (limit - w .trials) (w .found))
-    answered = finding ∙ ap outcomeOf (ended-here .1)
-
-    left-trials : r .left ≡ limit - w .trials
-    unfolding outcomeOf
-    left-trials = ap (λ (q : Outcome). q .left) answered
-
-    pub left-within : r .left ≤ limit
-    left-within = let k = left-trials in omega arith
-
-    spent : w .trials ≡ limit - r .left
-    spent = let h = ended-here .0 in let k = left-trials in omega arith
-
-    pub found-here : record { ok = r .ok; image = r .image } ≡ foundIn (w .found)
-    unfolding outcomeOf
-    found-here = ap {B = Found} (λ (q : Outcome). record { ok = q .ok; image = q .image }) answered
-
-    pub leaves-ended : (o : Option (List ℕ)) → w .found ≡ o → Leaves (Trials limit) w bytes (ended (sought o) (limit - r .left)) o
-    leaves-ended o q =
-        let z = limited-ends w limit (ended-here .0) in (
-          sym (z .0 ∙ ap₂ (λ (p : Option (List ℕ)) (k : ℕ). ended (sought p) k) q spent),
-          ap (λ (p : Option (List ℕ)). Option·getD p bytes) (sym (z .1 ∙ q)),
-        )
+module _ (limit : ℕ) (w : Work) (r : Outcome) (e : r ≡ outcomeOf (within limit w)) where
+  -- The trials that are left are within the limit; the others were made.
+  pub limited-says : (r .left ≤ limit) × ((endedUnless (r .stopped) (r .ok) (limit - r .left) ≡ limited limit w) × (mapIn (within limit w) ≡ foundWithin limit w))
+  unfolding within outcomeOf
+  limited-says = go (at-most-or-above (w .trials) limit)
+    where
+      go : (w .trials ≤ limit) ⊎ (limit < w .trials) → (r .left ≤ limit) × ((endedUnless (r .stopped) (r .ok) (limit - r .left) ≡ limited limit w) × (mapIn (within limit w) ≡ foundWithin limit w))
+      go (inl h) =
+          let ends = limited-ends w limit h in
+          let here : within limit w ≡ remaining (limit - w .trials) (w .found) = rw (le-leb (w .trials) limit h) in
+          let is : r ≡ outcomeOf (remaining (limit - w .trials) (w .found)) = e ∙ ap outcomeOf here in
+          let left : r .left ≡ limit - w .trials = ap (λ (z : Outcome). z .left) is in
+          let spent : limit - r .left ≡ w .trials = omega arith in (
+            omega arith,
+            (
+              ap₂ (λ (b : Bool) (k : ℕ). endedUnless b (r .ok) k) (ap (λ (z : Outcome). z .stopped) is) spent
+                  ∙ ap (λ (o : Sought). ended o (w .trials)) (ok-in (remaining (limit - w .trials) (w .found)) r is) ∙ sym (ends .0),
+              ap mapIn here ∙ sym (ends .1),
+            ),
+          )
+      go (inr h) =
+          let stops = limited-stops w limit h in
+          let here : within limit w ≡ exhausted = rw (lt-leb (w .trials) limit h) in
+          let is : r ≡ outcomeOf exhausted = e ∙ ap outcomeOf here in
+          let left : r .left ≡ 0 = ap (λ (z : Outcome). z .left) is in
+          (omega arith, (ap (λ (b : Bool). endedUnless b (r .ok) (limit - r .left)) (ap (λ (z : Outcome). z .stopped) is) ∙ sym (stops .0), ap mapIn here ∙ sym (stops .1)))

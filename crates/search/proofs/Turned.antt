@@ -2,7 +2,7 @@
 use mathlib.Core.Path.{_≡_, sym, ap, ap₂, subst, _∙_}
 use mathlib.Core.Bool.{Bool}
 use mathlib.Core.List.{List}
-use mathlib.Core.Option.{none, Option·getD}
+use mathlib.Core.Option.{Option·getD}
 use Prim.Native.Nat.{ℕ, _*_, _≤_}
 use lib.ListN.{length, take}
 use lib.Seq.{length-take-le}
@@ -15,10 +15,10 @@ use Rattle.semigroups.specs.Trials.{Work}
 use Rattle.semigroups.specs.Candidates.{candidate}
 use Rattle.semigroups.proofs.Turned.{turned-front, turned-accepted}
 use Rattle.candidates.proofs.Marks.{scratch-same}
-use Rattle.backtrack.specs.InnerState.{bounded}
+use Rattle.backtrack.specs.InnerState.{bounded, outcomeOf}
 use Rattle.search.specs.declared.Limit.{Limit}
 use Rattle.calls.specs.Calls.{lend, called}
-use Rattle.search.specs.InnerSearching.{saidUnder, foundUnder, searched}
+use Rattle.search.specs.InnerSearching.{remainderUnder, mapIn, searched}
 use Rattle.search.proofs.Works.{same-candidate, turned-work}
 
 pub turned-call : (next : Bool) (limit : Limit) (m : ℕ) (source : List ℕ) (n : ℕ) (target bytes scratch : List ℕ) → Accepted n target
@@ -26,7 +26,7 @@ pub turned-call : (next : Bool) (limit : Limit) (m : ℕ) (source : List ℕ) (n
 unfolding searched scratchAfter
 turned-call next limit m source n target bytes scratch accepted =
     let s = product m source in
-    ap₂ (λ (w : Work) (b : List ℕ). called (gives (saidUnder limit w)) (Option·getD (foundUnder limit w) bytes) b) (turned-work m source n target accepted (bounded next bytes))
+    ap₂ (λ (w : Work) (b : List ℕ). called (gives (outcomeOf (remainderUnder limit w))) (Option·getD (mapIn (remainderUnder limit w)) bytes) b) (turned-work m source n target accepted (bounded next bytes))
     (scratch-same m n (candidate isomorphisms m s n (product n (turnedCells n target))) (candidate reversed m s n (product n target)) (same-candidate m source n target accepted) scratch)
 
 -- ---- the room that the turned target is written to

@@ -1,6 +1,6 @@
 -- What the functions that a search calls once every question has passed return and leave, with a limit or without. No contract of an entry point cites this.
 -- Assumes nothing.
-use mathlib.Core.Bool.{Bool, true, false, cond}
+use mathlib.Core.Bool.{Bool, cond}
 use mathlib.Core.Option.{none, Option}
 use mathlib.Core.List.{List, []}
 use Prim.Native.Nat.{ℕ}
@@ -9,16 +9,15 @@ use Rattle.semigroups.specs.Maps.{Kind, Ask, Sought, sought}
 use Rattle.semigroups.specs.Candidates.{candidate}
 use Rattle.semigroups.specs.Tables.{product}
 use Rattle.semigroups.specs.Scratch.{marked}
-use Rattle.semigroups.specs.Trials.{Work, work, Limited, stopped, ended, limited, foundWithin}
+use Rattle.semigroups.specs.Trials.{Work, work}
 use Rattle.semigroups.specs.InnerTrials.{counted}
-use Rattle.backtrack.specs.InnerState.{bounded}
+use Rattle.backtrack.specs.declared.Outcome.{Outcome}
+use Rattle.backtrack.specs.InnerState.{bounded, Remainder, exhausted, remaining, within, outcomeOf}
 use Rattle.calls.specs.Calls.{Lent, Called, leaving, answerOf, marksOf}
-use Rattle.search.specs.Answers.{soughtIf}
 use Rattle.calls.specs.Kinds.{orderFits}
 use Rattle.calls.specs.Limited.{readBy}
 use Rattle.search.specs.declared.Limit.{Limit}
 use Rattle.search.specs.declared.Limit.the-variants.{Unlimited, Trials}
-use Rattle.search.specs.declared.Searched.{Searched}
 
 -- What a call says and leaves once every question has passed.
 unfoldable pub answered : Kind → Ask → Lent → Called (Answer Sought)
@@ -32,29 +31,26 @@ workOf kind ask m source n target =
     let searched = counted s (readBy kind t) (candidate kind m s n t) ask n m [] in
     cond (orderFits kind m n) searched (work none 0)
 
--- The result of a search, from its three values in the code: whether it was stopped, whether it found a map, and its number of trials.
-abbrev pub endedUnless : Bool → Bool → ℕ → Limited
-endedUnless true found trials = stopped
-endedUnless false found trials = ended (soughtIf found) trials
+-- How many trials a search may take before the first one; without a limit they are not counted.
+abbrev pub trialsIn : Limit → ℕ
+trialsIn Unlimited = 0
+trialsIn (Trials limit) = limit
 
-abbrev pub searchedSays : Searched → Limited
-searchedSays r = endedUnless (r .stopped) (r .found) (r .trials)
+-- What becomes of the work under a limit; without a limit the trials are not counted, and none is left.
+abbrev pub remainderUnder : Limit → Work → Remainder
+remainderUnder Unlimited w = remaining 0 (w .found)
+remainderUnder (Trials limit) w = within limit w
 
--- The result of the work under a limit; without a limit the trials are not counted and their number is 0.
-abbrev pub saidUnder : Limit → Work → Limited
-saidUnder Unlimited w = ended (sought (w .found)) 0
-saidUnder (Trials limit) w = limited limit w
-
--- The map that is found under a limit, or none.
-abbrev pub foundUnder : Limit → Work → Option (List ℕ)
-foundUnder Unlimited w = w .found
-foundUnder (Trials limit) w = foundWithin limit w
+-- The map that is found, or none.
+abbrev pub mapIn : Remainder → Option (List ℕ)
+mapIn exhausted = none
+mapIn (remaining left o) = o
 
 -- The result of a search between accepted tables, for the first map, or with true for the next one after the bytes of the map buffer.
-unfoldable pub searched : Kind → Bool → Limit → Lent → Called (Answer Limited)
+unfoldable pub searched : Kind → Bool → Limit → Lent → Called (Answer Outcome)
 searched kind next limit l =
-    let w = workOf kind (bounded next (l .mapBytes)) (l .m) (l .source) (l .n) (l .target) in
-    leaving (marksOf kind l) l none (saidUnder limit w) (foundUnder limit w)
+    let r = remainderUnder limit (workOf kind (bounded next (l .mapBytes)) (l .m) (l .source) (l .n) (l .target)) in
+    leaving (marksOf kind l) l none (outcomeOf r) (mapIn r)
 
 -- The work of the search over the marks in scratch.
 abbrev pub markedWork : Bool → ℕ → List ℕ → ℕ → List ℕ → List ℕ → List ℕ → Work

@@ -6,8 +6,7 @@
 // Pairs are bits, laid out as those of the scratch buffer are: bit (i - 1) * n + (j - 1) is set where i may go to j. An embedding is allowed if the bit of
 // each element with its image is set. No byte of the pairs changes.
 ghost use mathlib.Core.Path.{_≡_};
-ghost use mathlib.Core.Bool.{cond};
-ghost use mathlib.Core.Option.{none, Option·getD};
+ghost use mathlib.Core.Bool.{cond, false};
 ghost use Prim.Native.Nat.{_*_, _≤_};
 ghost use lib.ListN.{length, take};
 ghost use Rattle.semigroups.specs.InnerSearch.{plainKind};
@@ -17,13 +16,12 @@ ghost use Rattle.semigroups.specs.Scratch.{scratchSize};
 ghost use Rattle.semigroups.specs.Questions.{searchRefusal};
 ghost use Rattle.semigroups.specs.Calls.{gives, overwritten};
 ghost use Rattle.semigroups.specs.InnerCalls.{scratchAfter};
-ghost use Rattle.semigroups.specs.Maps.{embeddings, reversed, first, next, sought};
+ghost use Rattle.semigroups.specs.Maps.{embeddings, reversed, first, next};
 ghost use Rattle.semigroups.specs.Candidates.{candidate};
-ghost use Rattle.backtrack.specs.InnerState.{bounded};
+ghost use Rattle.backtrack.specs.InnerState.{bounded, remaining, outcomeOf};
 ghost use Rattle.tables.specs.Answers.{refusalNumbers};
-ghost use Rattle.search.specs.declared.Limit.the-variants.{Unlimited, Trials};
 ghost use Rattle.search.specs.Answers.{kindOf, searchFaultRefusal, questionsRefusal, soughtIf, searchAnswerSays, limitedAnswerSays};
-ghost use Rattle.search.specs.InnerSearching.{answered, searchedSays, saidUnder, foundUnder, searched, markedWork};
+ghost use Rattle.search.specs.InnerSearching.{answered, trialsIn, remainderUnder, searched, markedWork};
 ghost use Rattle.calls.specs.Kinds.{orderFits};
 ghost use Rattle.calls.specs.Calls.{lend, called, call};
 ghost use Rattle.calls.specs.Limited.{limitedCall};
@@ -32,6 +30,7 @@ ghost use Rattle.calls.specs.Among.{amongRefusal, callAmong};
 ghost use Rattle.search.specs.InnerAmong.{answeredAmong};
 ghost use Rattle.search.specs.InnerMasks.{maskedBytes, clearsNothing};
 use backtrack::Found;
+use backtrack::Outcome;
 use tables::Fault;
 use tables::PairVerdict;
 use tables::Refusal;
@@ -87,107 +86,63 @@ enum Limit {
     Trials(u32),
 }
 
-// What a search comes to: whether it found a map; whether its limit stopped it; and its number of trials, which is 0 if they are not counted.
-struct Searched {
-    found: bool,
-    stopped: bool,
-    trials: u32,
-}
-
 // ---- over given marks
 
-// Writes the map that a search found to `map`. Returns whether it found one.
-fn put_found(result: Found, m: usize, map: &mut [u8]) -> bool
+// Returns how many trials are left of a limit before the first one, or 0 if there is no limit: trials are not counted then.
+fn allowance(limit: Limit) -> u32
+    ensures answer { λ r. ⌜ r ≡ trialsIn limit ⌝ }
+{
+    match limit {
+        Limit::Unlimited => 0,
+        Limit::Trials(trials) => trials,
+    }
+}
+
+// Returns what a search without a limit found as the outcome of a search: it was not stopped, and no trials are counted.
+fn unlimited(found: Found) -> Outcome
+    ensures answer { λ r. ⌜ r ≡ record { stopped = false; left = 0; ok = found .ok; image = found .image } ⌝ }
+{
+    let image = found.image;
+    Outcome {
+        stopped: false,
+        left: 0,
+        ok: found.ok,
+        image,
+    }
+}
+
+// Searches the marks in scratch for the first map, or with `next` for the next one after `after`, within the limit. Returns the outcome.
+fn find_marked(
+    next: bool,
+    limit: Limit,
+    source: &[u8],
+    m: usize,
+    target: &[u8],
+    n: usize,
+    after: &[u8],
+    scratch: &[u8],
+) -> Outcome
+    requires { ⌜ Filled m (now source) × Filled n (now target) ⌝ }
+    requires { ⌜ (scratchSize m n ≤ length (now scratch)) × (length (now after) ≡ m) ⌝ }
+    ensures answer { λ r. ⌜ r ≡ outcomeOf (remainderUnder limit (markedWork next m (now (source .entry)) n (now (target .entry)) (now (after .entry)) (now (scratch .entry)))) ⌝ }
+{
+    match limit {
+        Limit::Unlimited => unlimited(narrowing::find(source, m, target, n, scratch, after, next)),
+        Limit::Trials(trials) => {
+            backtrack::find_within(source, m, target, n, scratch, after, next, trials)
+        }
+    }
+}
+
+// Writes the map of the outcome, if it has one, to `map`.
+fn put_found(result: Outcome, m: usize, map: &mut [u8])
     requires { ⌜ (length (now map) ≡ m) × (m ≤ 120) ⌝ }
-    ensures answer { λ r. ⌜ r ≡ result .ok ⌝ }
     ensures map { λ _. ⌜ now (map .exit) ≡ cond (result .ok) (take m (result .image)) (now (map .entry)) ⌝ }
 {
     let ok = result.ok;
-    if !ok {
-        return false;
-    }
-    let image = result.image;
-    maps::write_images(map, &image, m);
-    true
-}
-
-// Searches the marks in scratch for the first map, or with `next` for the next one after the bytes of `map`, and writes it to `map`. Returns whether there
-// is one.
-fn find_marked(
-    next: bool,
-    source: &[u8],
-    m: usize,
-    target: &[u8],
-    n: usize,
-    map: &mut [u8],
-    scratch: &[u8],
-) -> bool
-    requires { ⌜ Filled m (now source) × Filled n (now target) ⌝ }
-    requires { ⌜ (length (now map) ≡ m) × (scratchSize m n ≤ length (now scratch)) ⌝ }
-    ensures answer { λ r. ⌜ soughtIf r ≡ sought (markedWork next m (now (source .entry)) n (now (target .entry)) (now (map .entry)) (now (scratch .entry)) .found) ⌝ }
-    ensures map { λ _. ⌜ now (map .exit) ≡ Option·getD (markedWork next m (now (source .entry)) n (now (target .entry)) (now (map .entry)) (now (scratch .entry)) .found) (now (map .entry)) ⌝ }
-{
-    let result = narrowing::find(source, m, target, n, scratch, &*map, next);
-    put_found(result, m, map)
-}
-
-// Searches the marks in scratch as `find_marked` does. Before that, elements with one candidate narrow the candidates of the others.
-fn find_narrowed(
-    next: bool,
-    source: &[u8],
-    m: usize,
-    target: &[u8],
-    n: usize,
-    map: &mut [u8],
-    scratch: &[u8],
-) -> bool
-    requires { ⌜ Filled m (now source) × Filled n (now target) ⌝ }
-    requires { ⌜ (length (now map) ≡ m) × (scratchSize m n ≤ length (now scratch)) ⌝ }
-    ensures answer { λ r. ⌜ soughtIf r ≡ sought (markedWork next m (now (source .entry)) n (now (target .entry)) (now (map .entry)) (now (scratch .entry)) .found) ⌝ }
-    ensures map { λ _. ⌜ now (map .exit) ≡ Option·getD (markedWork next m (now (source .entry)) n (now (target .entry)) (now (map .entry)) (now (scratch .entry)) .found) (now (map .entry)) ⌝ }
-{
-    let result = narrowing::find_narrowed(source, m, target, n, scratch, &*map, next);
-    put_found(result, m, map)
-}
-
-// Searches the marks in scratch as `find_marked` does, within a limit of trials, and writes the map to `map`. Returns what the search comes to.
-fn find_marked_within(
-    next: bool,
-    limit: u32,
-    source: &[u8],
-    m: usize,
-    target: &[u8],
-    n: usize,
-    map: &mut [u8],
-    scratch: &[u8],
-) -> Searched
-    requires { ⌜ Filled m (now source) × Filled n (now target) ⌝ }
-    requires { ⌜ (length (now map) ≡ m) × (scratchSize m n ≤ length (now scratch)) ⌝ }
-    ensures answer { λ r. ⌜ searchedSays r ≡ saidUnder (Trials limit) (markedWork next m (now (source .entry)) n (now (target .entry)) (now (map .entry)) (now (scratch .entry))) ⌝ }
-    ensures map { λ _. ⌜ now (map .exit) ≡ Option·getD (foundUnder (Trials limit) (markedWork next m (now (source .entry)) n (now (target .entry)) (now (map .entry)) (now (scratch .entry)))) (now (map .entry)) ⌝ }
-{
-    let result = backtrack::find_within(source, m, target, n, scratch, &*map, next, limit);
-    if result.stopped {
-        return Searched {
-            found: false,
-            stopped: true,
-            trials: 0,
-        };
-    }
-    let trials = limit - result.left;
-    if !result.ok {
-        return Searched {
-            found: false,
-            stopped: false,
-            trials,
-        };
-    }
-    let image = result.image;
-    maps::write_images(map, &image, m);
-    Searched {
-        found: true,
-        stopped: false,
-        trials,
+    if ok {
+        let image = result.image;
+        maps::write_images(map, &image, m);
     }
 }
 
@@ -216,7 +171,7 @@ fn mark(onto: bool, source: &[u8], m: usize, target: &[u8], n: usize, scratch: &
     }
 }
 
-// Marks the candidates in scratch and searches for embeddings, or with `onto` for isomorphisms. Returns what the search comes to.
+// Marks the candidates in scratch and searches for embeddings, or with `onto` for isomorphisms. Returns the outcome.
 fn search_straight(
     onto: bool,
     next: bool,
@@ -227,35 +182,21 @@ fn search_straight(
     n: usize,
     map: &mut [u8],
     scratch: &mut [u8],
-) -> Searched
+) -> Outcome
     requires { ⌜ Accepted m (now source) × Accepted n (now target) ⌝ }
     requires { ⌜ (length (now map) ≡ m) × (scratchSize m n ≤ length (now scratch)) ⌝ }
-    ensures call { λ r. ⌜ called (gives (searchedSays r)) (now (map .exit)) (now (scratch .exit)) ≡ searched (plainKind onto) next limit (lend (now (source .entry)) m (now (target .entry)) n (now (map .entry)) (now (scratch .entry))) ⌝ }
+    ensures call { λ r. ⌜ called (gives r) (now (map .exit)) (now (scratch .exit)) ≡ searched (plainKind onto) next limit (lend (now (source .entry)) m (now (target .entry)) n (now (map .entry)) (now (scratch .entry))) ⌝ }
 {
     mark(onto, source, m, target, n, scratch);
     if !order_fits(onto, m, n) {
-        return Searched {
-            found: false,
-            stopped: false,
-            trials: 0,
-        };
+        return backtrack::no_map(false, allowance(limit));
     }
-    match limit {
-        Limit::Unlimited => {
-            let found = find_marked(next, source, m, target, n, map, &*scratch);
-            Searched {
-                found,
-                stopped: false,
-                trials: 0,
-            }
-        }
-        Limit::Trials(trials) => {
-            find_marked_within(next, trials, source, m, target, n, map, &*scratch)
-        }
-    }
+    let result = find_marked(next, limit, source, m, target, n, &*map, &*scratch);
+    put_found(result, m, map);
+    result
 }
 
-// Searches for reversed isomorphisms and returns what the search comes to. The target with rows and columns exchanged is written to `room`.
+// Searches for reversed isomorphisms and returns the outcome. The target with rows and columns exchanged is written to `room`.
 fn search_turned(
     next: bool,
     limit: Limit,
@@ -266,11 +207,11 @@ fn search_turned(
     map: &mut [u8],
     scratch: &mut [u8],
     room: &mut [u8],
-) -> Searched
+) -> Outcome
     requires { ⌜ Accepted m (now source) × Accepted n (now target) ⌝ }
     requires { ⌜ (length (now map) ≡ m) × (scratchSize m n ≤ length (now scratch)) ⌝ }
     requires { ⌜ n * n ≤ length (now room) ⌝ }
-    ensures call { λ r. ⌜ called (gives (searchedSays r)) (now (map .exit)) (now (scratch .exit)) ≡ searched reversed next limit (lend (now (source .entry)) m (now (target .entry)) n (now (map .entry)) (now (scratch .entry))) ⌝ }
+    ensures call { λ r. ⌜ called (gives r) (now (map .exit)) (now (scratch .exit)) ≡ searched reversed next limit (lend (now (source .entry)) m (now (target .entry)) n (now (map .entry)) (now (scratch .entry))) ⌝ }
     ensures room { λ _. ⌜ now (room .exit) ≡ overwritten (turnedCells n (now (target .entry))) (now (room .entry)) ⌝ }
 {
     let size = n * n;
@@ -278,7 +219,7 @@ fn search_turned(
     search_straight(true, next, limit, source, m, &room[..size], n, map, scratch)
 }
 
-// Searches for reversed isomorphisms and returns what the search comes to. Small tables take a small array, because clearing the large one would take longer
+// Searches for reversed isomorphisms and returns the outcome. Small tables take a small array, because clearing the large one would take longer
 // than the search.
 fn search_reversed(
     next: bool,
@@ -289,10 +230,10 @@ fn search_reversed(
     n: usize,
     map: &mut [u8],
     scratch: &mut [u8],
-) -> Searched
+) -> Outcome
     requires { ⌜ Accepted m (now source) × Accepted n (now target) ⌝ }
     requires { ⌜ (length (now map) ≡ m) × (scratchSize m n ≤ length (now scratch)) ⌝ }
-    ensures call { λ r. ⌜ called (gives (searchedSays r)) (now (map .exit)) (now (scratch .exit)) ≡ searched reversed next limit (lend (now (source .entry)) m (now (target .entry)) n (now (map .entry)) (now (scratch .entry))) ⌝ }
+    ensures call { λ r. ⌜ called (gives r) (now (map .exit)) (now (scratch .exit)) ≡ searched reversed next limit (lend (now (source .entry)) m (now (target .entry)) n (now (map .entry)) (now (scratch .entry))) ⌝ }
 {
     if n <= 30 {
         let mut few = [0u8; 900];
@@ -302,7 +243,7 @@ fn search_reversed(
     search_turned(next, limit, source, m, target, n, map, scratch, &mut all)
 }
 
-// Searches for maps of the kind and returns what the search comes to.
+// Searches for maps of the kind and returns the outcome.
 fn search_kind(
     kind: Kind,
     next: bool,
@@ -313,10 +254,10 @@ fn search_kind(
     n: usize,
     map: &mut [u8],
     scratch: &mut [u8],
-) -> Searched
+) -> Outcome
     requires { ⌜ Accepted m (now source) × Accepted n (now target) ⌝ }
     requires { ⌜ (length (now map) ≡ m) × (scratchSize m n ≤ length (now scratch)) ⌝ }
-    ensures call { λ r. ⌜ called (gives (searchedSays r)) (now (map .exit)) (now (scratch .exit)) ≡ searched (kindOf kind) next limit (lend (now (source .entry)) m (now (target .entry)) n (now (map .entry)) (now (scratch .entry))) ⌝ }
+    ensures call { λ r. ⌜ called (gives r) (now (map .exit)) (now (scratch .exit)) ≡ searched (kindOf kind) next limit (lend (now (source .entry)) m (now (target .entry)) n (now (map .entry)) (now (scratch .entry))) ⌝ }
 {
     match kind {
         Kind::Embeddings => search_straight(false, next, limit, source, m, target, n, map, scratch),
@@ -362,7 +303,7 @@ pub fn find(
         map,
         scratch,
     );
-    result.found
+    result.ok
 }
 
 // ---- the questions
@@ -475,10 +416,11 @@ pub fn first_within(
     if result.stopped {
         return LimitedAnswer::Stopped;
     }
-    if result.found {
-        return LimitedAnswer::Found(result.trials);
+    let trials = limit - result.left;
+    if result.ok {
+        return LimitedAnswer::Found(trials);
     }
-    LimitedAnswer::Nothing(result.trials)
+    LimitedAnswer::Nothing(trials)
 }
 
 // ---- among given pairs
@@ -532,8 +474,29 @@ fn mark_among(
     all
 }
 
+// Searches the marks in scratch without a limit, as `find_marked` does. Unless they are `all` the candidates, elements with one mark narrow the others before
+// the search.
+fn find_allowed(
+    all: bool,
+    next: bool,
+    source: &[u8],
+    m: usize,
+    target: &[u8],
+    n: usize,
+    after: &[u8],
+    scratch: &[u8],
+) -> Outcome
+    requires { ⌜ Filled m (now source) × Filled n (now target) ⌝ }
+    requires { ⌜ (scratchSize m n ≤ length (now scratch)) × (length (now after) ≡ m) ⌝ }
+    ensures answer { λ r. ⌜ r ≡ outcomeOf (remaining 0 (markedWork next m (now (source .entry)) n (now (target .entry)) (now (after .entry)) (now (scratch .entry)) .found)) ⌝ }
+{
+    if all {
+        return unlimited(narrowing::find(source, m, target, n, scratch, after, next));
+    }
+    unlimited(narrowing::find_narrowed(source, m, target, n, scratch, after, next))
+}
+
 // Writes the first allowed embedding between two accepted tables to `map`, or with `next` the next one after the bytes of `map`. Returns whether there is one.
-// Where the pairs exclude a candidate, elements that they leave one candidate narrow the others before the search.
 fn find_among(
     next: bool,
     source: &[u8],
@@ -553,10 +516,9 @@ fn find_among(
     if n < m {
         return false;
     }
-    if all {
-        return find_marked(next, source, m, target, n, map, &*scratch);
-    }
-    find_narrowed(next, source, m, target, n, map, &*scratch)
+    let result = find_allowed(all, next, source, m, target, n, &*map, &*scratch);
+    put_found(result, m, map);
+    result.ok
 }
 
 // Asks the questions of a search, then the one about the length of the pairs. Returns the first that fails.

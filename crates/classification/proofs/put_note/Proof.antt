@@ -15,11 +15,11 @@ use Rattle.classification.proofs.put_note.Tie as tie
 is-refused : (s : tie.Start) → s .args .order ≡ 0 → refusedBy (s .args .number) ≡ noteFrom (s .args .order) (s .args .number)
 is-refused s e = sym (ap (λ (o : ℕ). noteFrom o (s .args .number)) e)
 
-slice-aggregate-put-line : tie.Need-slice-aggregate-put-line
-slice-aggregate-put-line c = search needs
+slice-aggregate-put-record : tie.Need-slice-aggregate-put-record
+slice-aggregate-put-record c = search needs
 
-put-line-requires : tie.Need-put-line-requires
-put-line-requires c κs =
+put-record-requires : tie.Need-put-record-requires
+put-record-requires c κs =
     let s = c .before .before .before .before in
     let n = s .fits .number .fits in
     ((s .pre .0, omega arith), note-fits (s .args .k) (s .args .at) (is-refused s (c .before .before .if1 .taken)) (s .pre .1))
@@ -30,7 +30,7 @@ same-length c = search needs
 returns : tie.Need-returns
 returns c =
     let s = c .before .before .before .before .before .before .before in
-    let l = c .before .before .put-line .ensures in
+    let l = c .before .before .put-record .ensures in
     note-put (s .args .k) (s .args .at) (is-refused s (c .before .before .before .before .before .if1 .taken)) (now (s .args .out)) (l .0) (l .1)
 
 put-class-requires : tie.Need-put-class-requires
@@ -53,8 +53,8 @@ pub put-note-spec : {M : Type 1} → statement M
 put-note-spec =
     tie.close
     (tie.spec
-    slice-aggregate-put-line
-    put-line-requires
+    slice-aggregate-put-record
+    put-record-requires
     same-length
     returns
     put-class-requires

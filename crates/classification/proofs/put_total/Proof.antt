@@ -28,11 +28,11 @@ is-in-requires c κs = search needs
 members-requires : tie.Need-members-requires
 members-requires c κs = search needs
 
-slice-aggregate-put-line : tie.Need-slice-aggregate-put-line
-slice-aggregate-put-line c = search needs
+slice-aggregate-put-record : tie.Need-slice-aggregate-put-record
+slice-aggregate-put-record c = search needs
 
-put-line-requires : tie.Need-put-line-requires
-put-line-requires c κs =
+put-record-requires : tie.Need-put-record-requires
+put-record-requires c κs =
     let s = c .before .before .before .before .before .before .before .before in
     let z = s .args in
     let p = s .pre .0 in
@@ -52,7 +52,7 @@ returns c =
     let z = s .args in
     let p = s .pre .0 in
     let m = c .before .before .before .before .before .members in
-    let l = c .before .before .put-line .ensures in
+    let l = c .before .before .put-record .ensures in
     let e = total-is (now (z .orders)) (now (z .numbers)) (z .count) (z .a) (p .1, p .2) (m .result) (sym (c .before .before .before .before .before .before .before .is-in .ensures) ∙ c .before .before .before .before .before .before .if1 .taken) (m .ensures .0) in
     total-put (now (z .orders)) (now (z .numbers)) (z .count) (z .a) (p .1, p .2) (now (z .out)) (z .at) e (l .0) (l .1)
 
@@ -73,8 +73,8 @@ put-total-spec =
     element-copy-out-is-in-2
     is-in-requires
     members-requires
-    slice-aggregate-put-line
-    put-line-requires
+    slice-aggregate-put-record
+    put-record-requires
     same-length
     returns
     returns-2)

@@ -71,14 +71,14 @@ enum-known-first c = search needs
 enum-told : tie.Need-enum-told
 enum-told c = search needs
 
-slice-aggregate-put-record : tie.Need-slice-aggregate-put-record
-slice-aggregate-put-record c = search needs
+slice-aggregate-put-first : tie.Need-slice-aggregate-put-first
+slice-aggregate-put-first c = search needs
 
 failed-question-requires : tie.Need-failed-question-requires
 failed-question-requires c κs = search needs
 
-put-record-requires : tie.Need-put-record-requires
-put-record-requires c κs =
+put-first-requires : tie.Need-put-first-requires
+put-first-requires c κs =
     let loading = c .before .before .before .before .before .before in
     let small = failed-small _ _ (loading .load-then-check .result) (loading .load-then-check .ensures .0) (c .failed-question .ensures) in
     ((omega arith, omega arith), search needs)
@@ -88,7 +88,7 @@ returns c =
     let loading = c .before .before .before .before .before .before .before in
     let z = loading .before .before .before .before in
     let no = not-accepted (loading .load-then-check .result) (c .before .before .before .before .before .match .keys2) in
-    let w = refused-written _ 1 _ (no .by) (c .before .failed-question .ensures ∙ ap failedNumber (no .says)) (search needs) (c .put-record .ensures .0) (c .put-record .ensures .1) in
+    let w = refused-written _ 1 _ (no .by) (c .before .failed-question .ensures ∙ ap failedNumber (no .says)) (search needs) (c .put-first .ensures .0) (c .put-first .ensures .1) in
     printed (now (z .args .out)) (prints-source (now (z .args .source)) (now (z .args .target)) (replicate 14400 0) refl (no .by) (sym (loading .load-then-check .ensures .0) ∙ no .says)) (w .size) (w .text)
 
 slice-aggregate-load-then-check-2 : tie.Need-slice-aggregate-load-then-check-2
@@ -103,14 +103,14 @@ enum-known-second c = search needs
 enum-told-2 : tie.Need-enum-told-2
 enum-told-2 c = search needs
 
-slice-aggregate-put-record-2 : tie.Need-slice-aggregate-put-record-2
-slice-aggregate-put-record-2 c = search needs
+slice-aggregate-put-first-2 : tie.Need-slice-aggregate-put-first-2
+slice-aggregate-put-first-2 c = search needs
 
 failed-question-requires-2 : tie.Need-failed-question-requires-2
 failed-question-requires-2 c κs = search needs
 
-put-record-requires-2 : tie.Need-put-record-requires-2
-put-record-requires-2 c κs =
+put-first-requires-2 : tie.Need-put-first-requires-2
+put-first-requires-2 c κs =
     let loading = c .before .before .before .before .before .before in
     let small = failed-small _ _ (loading .load-then-check2 .result) (loading .load-then-check2 .ensures .0) (c .failed-question2 .ensures) in
     ((omega arith, omega arith), search needs)
@@ -121,7 +121,7 @@ returns-2 c =
     let first = loading .before .before .before in
     let z = start-of first in
     let no = not-accepted (loading .load-then-check2 .result) (c .before .before .before .before .before .match2 .keys2) in
-    let w = refused-written _ 2 _ (no .by) (c .before .failed-question2 .ensures ∙ ap failedNumber (no .says)) (search needs) (c .put-record2 .ensures .0) (c .put-record2 .ensures .1) in
+    let w = refused-written _ 2 _ (no .by) (c .before .failed-question2 .ensures ∙ ap failedNumber (no .says)) (search needs) (c .put-first2 .ensures .0) (c .put-first2 .ensures .1) in
     printed (now (z .args .out)) (prints-target (now (z .args .source)) (now (z .args .target)) (replicate 14400 0) refl (no .by) (source-passes first) (sym (loading .load-then-check2 .ensures .0) ∙ no .says)) (w .size) (w .text)
 
 mul-source-size : tie.Need-mul-source-size
@@ -162,17 +162,17 @@ recue-spec =
     load-then-check-requires
     enum-known-first
     enum-told
-    slice-aggregate-put-record
+    slice-aggregate-put-first
     failed-question-requires
-    put-record-requires
+    put-first-requires
     returns
     slice-aggregate-load-then-check-2
     load-then-check-requires-2
     enum-known-second
     enum-told-2
-    slice-aggregate-put-record-2
+    slice-aggregate-put-first-2
     failed-question-requires-2
-    put-record-requires-2
+    put-first-requires-2
     returns-2
     mul-source-size
     mul-target-size

@@ -1,10 +1,13 @@
 -- `find_among` meets its contract: scratch holds the allowed candidates, and the search over them finds the allowed embedding asked for. Assumes nothing.
-use mathlib.Core.Path.{refl}
+use mathlib.Core.Path.{refl, _∙_}
 use mathlib.Core.Bool.{false}
 use mathlib.Core.Option.{none}
 use Rattle.semigroups.specs.Tables.{product}
 use Rattle.backtrack.specs.InnerState.{bounded}
+use Rattle.search.specs.declared.Limit.the-variants.{Unlimited}
+use Rattle.search.specs.InnerSearching.{markedWork}
 use Rattle.calls.specs.Calls.{Lent, lend}
+use Rattle.search.proofs.Marked.{unlimited-says, written}
 use Rattle.search.proofs.Allowed.{work-allowed, allowed-none}
 use Rattle.search.proofs.Among.{as-answered-among}
 use borrow.Author.Needs.{needs}
@@ -33,8 +36,11 @@ returns c =
     (allowed-none (a .m) (product (a .m) (a .source .now)) (a .n) (product (a .n) (a .target .now)) (a .pairs .now) (bounded (a .next) (a .map .now)) (c .if1 .taken))
     refl refl (k .mark-among .ensures .1)
 
-find-marked-requires : tie.Need-find-marked-requires
-find-marked-requires c κs = search needs
+find-allowed-requires : tie.Need-find-allowed-requires
+find-allowed-requires c κs = search needs
+
+put-found-requires : tie.Need-put-found-requires
+put-found-requires c κs = search needs
 
 same-length-2 : tie.Need-same-length-2
 same-length-2 c = search needs
@@ -44,32 +50,16 @@ same-length-3 c = search needs
 
 returns-2 : tie.Need-returns-2
 returns-2 c =
-    let f = c .before .before .find-marked in
-    let k = c .before .before .before .before .before .before .before .before .before in
+    let f = c .before .before .before .before in
+    let k = f .before .before .before .before .before .before in
     let s = start k in
     let a = s .args in
-    as-answered-among (bounded (a .next) (a .map .now)) (a .pairs .now) (lent k) (f .result) _
+    let r = f .find-allowed .result in
+    let is = f .find-allowed .ensures in
+    let map = c .before .before .put-found .ensures ∙ written (a .next) (a .m) (a .source .now) (a .n) (a .target .now) (a .map .now) _ (s .pre .0 .0 .filled) Unlimited r is in
+    as-answered-among (bounded (a .next) (a .map .now)) (a .pairs .now) (lent k) (r .ok) _
     (work-allowed (a .next) (a .m) (a .source .now) (a .n) (a .target .now) (a .pairs .now) (a .map .now) (a .scratch .now) _ (s .pre .0 .0) (s .pre .0 .1) (k .mark-among .ensures .1))
-    (f .ensures .0) (f .ensures .1) (k .mark-among .ensures .1)
-
-find-narrowed-requires : tie.Need-find-narrowed-requires
-find-narrowed-requires c κs = search needs
-
-same-length-4 : tie.Need-same-length-4
-same-length-4 c = search needs
-
-same-length-5 : tie.Need-same-length-5
-same-length-5 c = search needs
-
-returns-3 : tie.Need-returns-3
-returns-3 c =
-    let f = c .before .before .find-narrowed in
-    let k = c .before .before .before .before .before .before .before .before .before in
-    let s = start k in
-    let a = s .args in
-    as-answered-among (bounded (a .next) (a .map .now)) (a .pairs .now) (lent k) (f .result) _
-    (work-allowed (a .next) (a .m) (a .source .now) (a .n) (a .target .now) (a .pairs .now) (a .map .now) (a .scratch .now) _ (s .pre .0 .0) (s .pre .0 .1) (k .mark-among .ensures .1))
-    (f .ensures .0) (f .ensures .1) (k .mark-among .ensures .1)
+    (unlimited-says (markedWork (a .next) (a .m) (a .source .now) (a .n) (a .target .now) (a .map .now) _) r is) map (k .mark-among .ensures .1)
 
 pub find-among-spec : {M : Type 1} → statement M
 find-among-spec =
@@ -78,11 +68,8 @@ find-among-spec =
     mark-among-requires
     same-length
     returns
-    find-marked-requires
+    find-allowed-requires
+    put-found-requires
     same-length-2
     same-length-3
-    returns-2
-    find-narrowed-requires
-    same-length-4
-    same-length-5
-    returns-3)
+    returns-2)

@@ -5,7 +5,7 @@ use mathlib.Core.Option.{none}
 use Rattle.search.specs.Answers.{kindOf, questionsRefusal}
 use Rattle.calls.specs.Calls.{Lent, lend, refusalOf}
 use Rattle.search.proofs.Calls.{stands}
-use Rattle.search.proofs.Limited.{refused-unchanged, as-limited}
+use Rattle.search.proofs.Limited.{refused-unchanged, left-within, as-limited}
 use borrow.Author.Needs.{needs}
 use Rattle.search.proofs.first_within.Statement.{statement}
 use Rattle.search.proofs.first_within.Tie as tie
@@ -45,6 +45,12 @@ returns-2 c =
     let s = w .before .before .before .before .before .before .before .before .before .before in
     as-limited (kindOf (s .args .kind)) (s .args .limit) (lent s) (passed (w .before .before .before)) (w .search-kind .result) (w .search-kind .ensures) true _ (c .if1 .taken) refl
 
+sub-trials : tie.Need-sub-trials
+sub-trials c =
+    let w = c .before .before .before .before .before .before in
+    let s = w .before .before .before .before .before .before .before .before .before .before in
+    left-within (kindOf (s .args .kind)) (s .args .limit) (lent s) (passed (w .before .before .before)) (w .search-kind .result) (w .search-kind .ensures)
+
 same-length-3 : tie.Need-same-length-3
 same-length-3 c = search needs
 
@@ -53,9 +59,9 @@ same-length-4 c = search needs
 
 returns-3 : tie.Need-returns-3
 returns-3 c =
-    let w = c .before .before .before .before .before .before in
+    let w = c .before .before .before .before .before .before .before in
     let s = w .before .before .before .before .before .before .before .before .before .before in
-    as-limited (kindOf (s .args .kind)) (s .args .limit) (lent s) (passed (w .before .before .before)) (w .search-kind .result) (w .search-kind .ensures) false true (c .before .if1 .left) (c .if2 .taken)
+    as-limited (kindOf (s .args .kind)) (s .args .limit) (lent s) (passed (w .before .before .before)) (w .search-kind .result) (w .search-kind .ensures) false true (c .before .before .if1 .left) (c .if2 .taken)
 
 same-length-5 : tie.Need-same-length-5
 same-length-5 c = search needs
@@ -65,9 +71,9 @@ same-length-6 c = search needs
 
 returns-4 : tie.Need-returns-4
 returns-4 c =
-    let w = c .before .before .before .before .before .before in
+    let w = c .before .before .before .before .before .before .before in
     let s = w .before .before .before .before .before .before .before .before .before .before in
-    as-limited (kindOf (s .args .kind)) (s .args .limit) (lent s) (passed (w .before .before .before)) (w .search-kind .result) (w .search-kind .ensures) false false (c .before .if1 .left) (c .if2 .left)
+    as-limited (kindOf (s .args .kind)) (s .args .limit) (lent s) (passed (w .before .before .before)) (w .search-kind .result) (w .search-kind .ensures) false false (c .before .before .if1 .left) (c .if2 .left)
 
 pub first-within-spec : {M : Type 1} → statement M
 first-within-spec =
@@ -81,6 +87,7 @@ first-within-spec =
     same-length
     same-length-2
     returns-2
+    sub-trials
     same-length-3
     same-length-4
     returns-3

@@ -1,7 +1,7 @@
 -- `search_kind` meets its contract: the search of the kind that is told. Assumes nothing.
 use mathlib.Core.Path.{_≡_, sym, ap, _∙_}
 use Rattle.semigroups.specs.Calls.{Answer}
-use Rattle.semigroups.specs.Trials.{Limited}
+use Rattle.backtrack.specs.declared.Outcome.{Outcome}
 use Rattle.semigroups.specs.Maps as maps
 use Rattle.search.specs.Answers.{kindOf}
 use Rattle.search.specs.declared.Kind.{Kind}
@@ -11,7 +11,7 @@ use borrow.Author.Needs.{needs}
 use Rattle.search.proofs.search_kind.Statement.{statement}
 use Rattle.search.proofs.search_kind.Tie as tie
 
-abbrev asked : tie.Start → maps.Kind → Called (Answer Limited)
+abbrev asked : tie.Start → maps.Kind → Called (Answer Outcome)
 asked s kind = let a = s .args in searched kind (a .next) (a .limit) (lend (a .source .now) (a .m) (a .target .now) (a .n) (a .map .now) (a .scratch .now))
 
 -- What is asked for, once the kind is told.

@@ -1,10 +1,10 @@
 -- `put_fields` writes the word and the two numbers, each number after a comma. Assumes nothing.
 use native.Mathlib.Omega.{arith}
 use denote.Ref.{now}
-use Rattle.classification.proofs.Text.{fields-length, fields-written}
+use Rattle.lines.proofs.Records.{fields-length, fields-written}
 use borrow.Author.Needs.{needs}
-use Rattle.classification.proofs.put_fields.Statement.{statement}
-use Rattle.classification.proofs.put_fields.Tie as tie
+use Rattle.lines.proofs.put_fields.Statement.{statement}
+use Rattle.lines.proofs.put_fields.Tie as tie
 
 put-bytes-requires : tie.Need-put-bytes-requires
 put-bytes-requires c κs = let s = c .before .before .before in omega (arith, s .pre .1, fields-length (now (s .args .word)) (s .args .a) (s .args .b))

@@ -1,12 +1,12 @@
--- `put_line` writes the fields and the line break. Assumes nothing.
+-- `put_record` writes the fields and the line break. Assumes nothing.
 use mathlib.Core.List.{_∷_, []}
 use native.Mathlib.Omega.{arith}
 use denote.Ref.{now}
 use Rattle.csv.specs.Decimals.{numeral}
-use Rattle.classification.proofs.Text.{line-more, line-written}
+use Rattle.lines.proofs.Records.{line-more, line-written}
 use borrow.Author.Needs.{needs}
-use Rattle.classification.proofs.put_line.Statement.{statement}
-use Rattle.classification.proofs.put_line.Tie as tie
+use Rattle.lines.proofs.put_record.Statement.{statement}
+use Rattle.lines.proofs.put_record.Tie as tie
 
 put-fields-requires : tie.Need-put-fields-requires
 put-fields-requires c κs = let s = c .before .before .before in (s .pre .0, omega (arith, s .pre .1, line-more (now (s .args .word) ∷ numeral (s .args .a) ∷ numeral (s .args .b) ∷ [])))
@@ -26,5 +26,5 @@ returns c =
     let fields = c .before .before .before .before .before .before .put-fields .ensures in
     line-written _ _ _ (fields .0) (fields .1) (line-end .0) (line-end .1)
 
-pub put-line-spec : {M : Type 1} → statement M
-put-line-spec = tie.close (tie.spec put-fields-requires put-break-requires same-length returns)
+pub put-record-spec : {M : Type 1} → statement M
+put-record-spec = tie.close (tie.spec put-fields-requires put-break-requires same-length returns)
