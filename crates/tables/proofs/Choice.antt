@@ -1,27 +1,24 @@
 -- The generators that question 4 chooses: the rarest element is found one by one; the products from left to right are found until every element found has
 -- been multiplied with the whole list; and Light's law turns the triples with their middle on the list into associativity. Assumes nothing.
 use mathlib.Core.Path.{_≡_, refl, sym, ap, _∙_, subst}
-use mathlib.Core.Bool.{Bool, true, false, cond, not, _&&_}
+use mathlib.Core.Bool.{Bool, true, false, cond, not}
 use mathlib.Core.Option.{none, some}
 use mathlib.Core.Logic.{_⊎_, inl, inr, ⊎-elim}
-use mathlib.Core.List.{List, [], _∷_, _++_, map, List·Memᴰ, List·Memᴰ·head, List·Memᴰ·not-nil, List·Memᴰ·append-cases, List·Memᴰ·eq-of-singleton, Memᴰ·append-left, Memᴰ·append-right, Memᴰ·map, Memᴰ·of-map, Memᴰ·cast}
-use Prim.Native.Nat.{ℕ, suc, _+_, _-_, _≤_, _<_, zero-le}
+use mathlib.Core.List.{List, [], _∷_, _++_, map, List·Memᴰ, List·Memᴰ·not-nil, List·Memᴰ·append-cases, List·Memᴰ·eq-of-singleton, Memᴰ·append-left, Memᴰ·append-right, Memᴰ·map, Memᴰ·of-map, Memᴰ·cast}
+use Prim.Native.Nat.{ℕ, suc, _+_, _-_, _≤_, _<_}
 use native.Mathlib.Numerals.{add-one}
 use native.Mathlib.Omega.{arith}
 use borrow.Author.Tests.{eqb-true}
 use lib.ListN.{length, take, drop, getD, set, replicate, length-map, length-drop, length-append, List·getD-append, take-append-drop}
-use lib.Seq.{length-take-le, take-suc, take-all, take-take, take-set-le, take-suc-set, take-at, getD-take, getD-drop, getD-set-same, getD-set-other}
-use Rattle.semigroups.specs.Lists.{elements, all, find, member}
-use Rattle.semigroups.specs.Tables.{Product, product, Element, Associative, Filled, associates}
+use lib.Seq.{length-take-le, take-suc, take-all, take-set-le, take-suc-set, take-at, getD-take, getD-drop, getD-set-same, getD-set-other}
+use Rattle.semigroups.specs.Lists.{elements, all, find}
+use Rattle.semigroups.specs.Tables.{Product, Element, Associative, associates}
 use Rattle.semigroups.specs.TablesLaws.{Closed}
 use Rattle.semigroups.specs.Invariants.{frequency}
 use Rattle.semigroups.specs.GeneratedLaws.{Inside, LeftProduct, entry, further}
-use Rattle.semigroups.specs.Generated.{generated}
-use Rattle.semigroups.specs.LightLaws.{AssociativeThrough}
-use Rattle.semigroups.proofs.Booleans.{equal-or-not, at-most-or-above, and-left, and-right, clash, untrue}
-use Rattle.semigroups.proofs.Lists.{all-at, all-of, each-of, pairs-at, getD-map, member-mem, not-member, unmember, mem-or-not, mem-take}
+use Rattle.semigroups.proofs.Booleans.{equal-or-not, at-most-or-above, clash, untrue}
+use Rattle.semigroups.proofs.Lists.{all-at, all-of, each-at, each-of, pairs-at, getD-map, not-member, unmember, mem-or-not, mem-take}
 use Rattle.semigroups.proofs.NoRepeats.{mem-place, place-mem}
-use Rattle.semigroups.proofs.Tables.{filled-closed}
 use Rattle.semigroups.proofs.Generated.{left-product-more, left-product-generated}
 use Rattle.semigroups.proofs.Light.{lights-law}
 use Rattle.tables.specs.InnerPerElement.{perElement}
@@ -31,7 +28,7 @@ use Rattle.tables.proofs.Triples.{third-none, third-some}
 use Rattle.tables.proofs.Values.{getD-zeros}
 use Rattle.tables.proofs.PerElement.{per-element-at}
 use Rattle.tables.proofs.Indicators.{indicator-at, unmarked}
-use Rattle.tables.proofs.Found.{adding-holds, mem-adding, adding-more, all-more, mem-all, all-keeps, all-longer, all-place, all-holds, found-nil, found-list, found-again, found-at, found-element, entry-added}
+use Rattle.tables.proofs.Found.{adding-holds, mem-adding, adding-more, mem-all, all-keeps, all-longer, all-place, all-holds, found-nil, found-list, entry-added}
 
 -- ---- the rarest of some elements
 
@@ -380,20 +377,32 @@ module _ (n : ℕ) (s : Product) where
   pub through-bad : (l : List ℕ) (q : ℕ) → q < length l → goodMiddle n s (getD l q 0) ≡ false → false ≡ all (goodMiddle n s) l
   through-bad l q h e = sym (untrue (all (goodMiddle n s) l) (λ t. clash {b = goodMiddle n s (getD l q 0)} (all-at (goodMiddle n s) l t (getD l q 0) (place-mem 0 l q h)) e))
 
-  -- What Light's test answers with the generators chosen.
-  module _ {list : List ℕ} {count : ℕ} {complete : Bool} (c : Choice n s list count complete) where
-    pub answer-given-up : complete ≡ false → LightsAnswer n s false
-    answer-given-up e = record { list = list; count = count; complete = complete; choice = c; answered = sym (ap (λ (b : Bool). b && all (goodMiddle n s) (take count list)) e) }
+  -- The loop over all elements.
+  pub everywhere-next : (j : ℕ) → 1 ≤ j → ((x : ℕ) → Element (j - 1) x → goodMiddle n s x ≡ true) → goodMiddle n s j ≡ true → (x : ℕ) → Element (j + 1 - 1) x → goodMiddle n s x ≡ true
+  everywhere-next j h before e x hx = ⊎-elim (λ (q : x ≡ j). rw q e) (λ ne. before x (let z : Element (j - 1) x = omega arith in z)) (equal-or-not x j)
 
-    pub answer-chosen : complete ≡ true → (r : Bool) → r ≡ all (goodMiddle n s) (take count list) → LightsAnswer n s r
-    answer-chosen e r q = record { list = list; count = count; complete = complete; choice = c; answered = q ∙ sym (ap (λ (b : Bool). b && all (goodMiddle n s) (take count list)) e) }
+  pub everywhere-good : (j : ℕ) → n < j → ((x : ℕ) → Element (j - 1) x → goodMiddle n s x ≡ true) → true ≡ all (goodMiddle n s) (elements n)
+  everywhere-good j h before = sym (each-of n (goodMiddle n s) (λ x hx. before x (let z : Element (j - 1) x = omega arith in z)))
+
+  pub everywhere-bad : (j : ℕ) → Element n j → goodMiddle n s j ≡ false → false ≡ all (goodMiddle n s) (elements n)
+  everywhere-bad j h e = sym (untrue (all (goodMiddle n s) (elements n)) (λ t. clash {b = goodMiddle n s j} (each-at n (goodMiddle n s) t j h) e))
+
+  everywhere-associative : all (goodMiddle n s) (elements n) ≡ true → Associative n s
+  everywhere-associative t i j k hi hj hk = good-middle j (each-at n (goodMiddle n s) t j hj) i k hi hk
+
+  -- What Light's test answers.
+  module _ {list : List ℕ} {count : ℕ} {complete : Bool} (c : Choice n s list count complete) where
+    pub answer-middles : (b : Bool) → complete ≡ b → (r : Bool) → r ≡ all (goodMiddle n s) (cond b (take count list) (elements n)) → LightsAnswer n s r
+    answer-middles b e r q = record { list = list; count = count; complete = complete; choice = c; answered = q ∙ sym (ap (λ (b : Bool). all (goodMiddle n s) (cond b (take count list) (elements n))) e) }
 
   -- A "yes" of Light's test.
   pub lights-yes : Closed n s → LightsAnswer n s true → Associative n s
-  lights-yes closed a =
-      let l = take (a .count) (a .list) in
-      let inside = chosen-inside (a .choice .rarest-first) in
-      let c = and-left (a .complete) (all (goodMiddle n s) l) (sym (a .answered)) in
-      let t = and-right (a .complete) (all (goodMiddle n s) l) (sym (a .answered)) in
-      lights-law n s l closed inside (λ x h. left-product-generated n s l closed inside x (a .choice .enough c x h)) .1
-      (λ i j k hi m hk. good-middle j (all-at (goodMiddle n s) l t j m) i k hi hk)
+  lights-yes closed a = go (a .complete) refl (sym (a .answered))
+    where
+      go : (b : Bool) → a .complete ≡ b → all (goodMiddle n s) (cond b (take (a .count) (a .list)) (elements n)) ≡ true → Associative n s
+      go true e good =
+          let l = take (a .count) (a .list) in
+          let inside = chosen-inside (a .choice .rarest-first) in
+          lights-law n s l closed inside (λ x h. left-product-generated n s l closed inside x (a .choice .enough e x h)) .1
+          (λ i j k hi m hk. good-middle j (all-at (goodMiddle n s) l good j m) i k hi hk)
+      go false e good = everywhere-associative good

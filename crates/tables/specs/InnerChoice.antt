@@ -2,7 +2,7 @@
 -- list, the one that is rarest in the table joins the list, and of equally rare ones the smallest; a list that would be longer than n / 4 is given up.
 -- Assumes nothing.
 use mathlib.Core.Path.{_≡_}
-use mathlib.Core.Bool.{Bool, true, false, _&&_}
+use mathlib.Core.Bool.{Bool, true, false, cond}
 use mathlib.Core.Logic.{_⊎_}
 use mathlib.Core.List.{List, List·Memᴰ}
 use Prim.Native.Nat.{ℕ, _/_, _≤_, _<_}
@@ -56,10 +56,10 @@ pub record Choice (n : ℕ) (s : Product) (list : List ℕ) (count : ℕ) (compl
 unfoldable pub goodMiddle : ℕ → Product → ℕ → Bool
 goodMiddle n s j = all (λ i. all (associates s i j) (elements n)) (elements n)
 
--- The answer of Light's test with the generators chosen: "yes" if they are complete and every triple with its middle on their list associates.
+-- The answer of Light's test: "yes" if every triple associates whose middle is one of the generators chosen or, where they are not complete, any element.
 pub record LightsAnswer (n : ℕ) (s : Product) (answer : Bool) : Type 0 where
   pub list : List ℕ
   pub count : ℕ
   pub complete : Bool
   pub choice : Choice n s list count complete
-  pub answered : answer ≡ complete && all (goodMiddle n s) (take count list)
+  pub answered : answer ≡ all (goodMiddle n s) (cond complete (take count list) (elements n))

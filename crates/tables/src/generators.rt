@@ -4,7 +4,7 @@ ghost use mathlib.Core.Path.{_≡_};
 ghost use mathlib.Core.List.{map};
 ghost use Prim.Native.Nat.{_-_, _≤_, _<_};
 ghost use lib.ListN.{length, take, drop, getD};
-ghost use Rattle.semigroups.specs.Lists.{all};
+ghost use Rattle.semigroups.specs.Lists.{elements, all};
 ghost use Rattle.semigroups.specs.Tables.{largestOrder, Element, Filled, product};
 ghost use Rattle.semigroups.specs.GeneratedLaws.{Inside};
 ghost use Rattle.tables.specs.InnerFound.{adding, addingAll, Found};
@@ -180,7 +180,22 @@ fn associative_through(cells: &[u8], n: usize, list: &[u8]) -> bool
     true
 }
 
-// Returns whether few generators are enough and every triple with its middle on their list associates. If so, the table is associative.
+// Returns whether every triple associates.
+fn associative_everywhere(cells: &[u8], n: usize) -> bool
+    requires { ⌜ Filled n (now cells) ⌝ }
+    ensures answer { λ r. ⌜ r ≡ all (goodMiddle n (product n (now (cells .entry)))) (elements n) ⌝ }
+{
+    let mut j: usize = 1;
+    while j <= n {
+        if !associative_at(cells, n, j) {
+            return false;
+        }
+        j += 1;
+    }
+    true
+}
+
+// Returns whether every triple associates whose middle is one of the generators chosen, or any element if these are too many. If so, the table is associative.
 pub fn accept(cells: &[u8], n: usize) -> bool
     requires { ⌜ Filled n (now cells) ⌝ }
     ensures answer { λ r. ⌜ LightsAnswer n (product n (now (cells .entry))) r ⌝ }
@@ -188,7 +203,7 @@ pub fn accept(cells: &[u8], n: usize) -> bool
     let chosen = choose(cells, n);
     let complete = chosen.complete;
     if !complete {
-        return false;
+        return associative_everywhere(cells, n);
     }
     let count = chosen.count;
     let list = chosen.list;

@@ -1,5 +1,6 @@
 -- `accept` meets its contract: it answers for the generators chosen. Assumes nothing.
 use mathlib.Core.Path.{_≡_, sym}
+use mathlib.Core.Bool.{true, false}
 use Prim.Native.Nat.{_≤_}
 use native.Mathlib.Omega.{arith}
 use borrow.Author.Needs.{needs}
@@ -8,7 +9,7 @@ use denote.Ref.{now}
 use lib.ListN.{length}
 use lib.Seq.{length-take-le}
 use Rattle.semigroups.specs.Tables.{product}
-use Rattle.tables.proofs.Choice.{chosen-inside, answer-given-up, answer-chosen}
+use Rattle.tables.proofs.Choice.{chosen-inside, answer-middles}
 use Rattle.tables.proofs.generators.accept.Statement.{statement}
 use Rattle.tables.proofs.generators.accept.Tie as tie
 
@@ -23,10 +24,14 @@ few c =
 choose-requires : tie.Need-choose-requires
 choose-requires c κs = search needs
 
+associative-everywhere-requires : tie.Need-associative-everywhere-requires
+associative-everywhere-requires c κs = search needs
+
 returns : tie.Need-returns
 returns c =
-    let s = c .before .before .before in
-    answer-given-up _ (product (s .args .n) (now (s .args .cells))) (c .before .choose .ensures) (not-true _ (c .if1 .taken))
+    let e = c .before in
+    let s = e .before .before .before in
+    answer-middles _ (product (s .args .n) (now (s .args .cells))) (e .before .choose .ensures) false (not-true _ (e .if1 .taken)) _ (c .associative-everywhere .ensures)
 
 array-share-prefix-list : tie.Need-array-share-prefix-list
 array-share-prefix-list c = few (c .before .before)
@@ -41,13 +46,14 @@ returns-2 : tie.Need-returns-2
 returns-2 c =
     let e = c .before .before .before in
     let s = e .before .before .before in
-    answer-chosen _ (product (s .args .n) (now (s .args .cells))) (e .before .choose .ensures) (not-false _ (e .if1 .left)) _ (c .associative-through .ensures)
+    answer-middles _ (product (s .args .n) (now (s .args .cells))) (e .before .choose .ensures) true (not-false _ (e .if1 .left)) _ (c .associative-through .ensures)
 
 pub accept-spec : {M : Type 1} → statement M
 accept-spec =
     tie.close
     (tie.spec
     choose-requires
+    associative-everywhere-requires
     returns
     array-share-prefix-list
     slice-aggregate-associative-through
