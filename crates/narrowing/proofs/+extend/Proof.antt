@@ -10,7 +10,7 @@ use borrow.Fn.PlainCycle.{Measures, is, falls, and}
 use Rattle.semigroups.specs.Tables.{product}
 use Rattle.semigroups.specs.TablesLaws.{Closed}
 use Rattle.semigroups.proofs.Tables.{product-element}
-use Rattle.backtrack.specs.declared.Found.{Found}
+use Rattle.backtrack.specs.declared.Outcome.{Outcome}
 use Rattle.backtrack.proofs.Steps.{lowest}
 use Rattle.narrowing.specs.InnerState.{Due}
 use Rattle.narrowing.specs.InnerTwins.{sharesLater}
@@ -150,7 +150,7 @@ extend-returns-4 t c =
     let w = c .before .before in
     let k = w .before .before in
     let i = c .before .extend in
-    i .ensures ∙ found (turn t k) (w .before .if5 .taken) (w .tried-rising .result) (told t w) (ap (λ (f : Found). f .ok) (sym (i .ensures)) ∙ c .if6 .taken) (k .before .before .before .before .loop .inv .3)
+    i .ensures ∙ found (turn t k) (w .before .if5 .taken) (w .tried-rising .result) (told t w) (ap (λ (f : Outcome). f .ok) (sym (i .ensures)) ∙ c .if6 .taken) (k .before .before .before .before .loop .inv .3)
 
 extend-add-x : (t : ℕ) → extend-lts.Need-add-x (calls t) (extend-at t) extend.Post extend-Inv-loop extend-μ-loop
 extend-add-x t c = let n = c .before .before .before .before .before .before .before .before .before .before .before .before .before .pre .1 .0 .1 .order in let t = c .before .before .before .before .loop-test .taken in omega arith
@@ -171,7 +171,7 @@ extend-loop-again t c =
           (λ w.
           let e = w .1 .ensures in
           let v : Verdict _ _ _ _ _ _ _ (w .1 .result) = record { keeps = e .0; longer = e .1 .0 .0; one-more = e .1 .0 .1; settled = e .1 .1 .0; sound = e .1 .1 .1 .0; shrinks = e .1 .1 .1 .1 .0; above = e .1 .1 .1 .1 .1 } in
-          fail T (w .0 .taken) (w .1 .result) v (ap (λ (f : Found). f .ok) (sym (w .2 .ensures)) ∙ w .3 .left) (i .3))
+          fail T (w .0 .taken) (w .1 .result) v (ap (λ (f : Outcome). f .ok) (sym (w .2 .ensures)) ∙ w .3 .left) (i .3))
           (λ w. shut T (w .left) (i .3))
           (c .if5 .came),
     )
