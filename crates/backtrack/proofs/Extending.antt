@@ -19,7 +19,7 @@ use Rattle.semigroups.proofs.Booleans.{and-left, and-right}
 use Rattle.semigroups.proofs.Candidates.{size-rows}
 use Rattle.backtrack.specs.declared.Partial.{Partial}
 use Rattle.backtrack.specs.declared.Outcome.{Outcome}
-use Rattle.backtrack.specs.InnerState.{prefix, Holds, Ready, foundIn, Remainder, exhausted, remaining, within, outcomeOf, bounded}
+use Rattle.backtrack.specs.InnerState.{prefix, Holds, Ready, foundIn, Remainder, exhausted, remaining, within, imagesIn, outcomeOf, bounded}
 use Rattle.constraints.specs.InnerTracking.{Tracks}
 use Rattle.constraints.proofs.Placing.{prefix-length, image-padded, used-image}
 use Rattle.backtrack.proofs.Limits.{resumed, within-nothing, within-skip, within-unpaid, within-paid, over-stopped, over-found, not-over}
@@ -41,7 +41,7 @@ start s m t n scratch after tight p e H space bound =
 
 -- What a search answers says whether there is a map.
 pub none-found : (o : Option (List ℕ)) → foundIn o .ok ≡ false → o ≡ none
-unfolding foundIn
+unfolding outcomeOf
 none-found none e = refl
 none-found (some f) e = absurd (false≢true (sym e))
 
@@ -74,11 +74,11 @@ module _ (s : Product) (m : ℕ) (t : Product) (n : ℕ) (scratch after : List �
 
   module _ (limit : ℕ) where
     done-bound : m ≤ p .len → tight ≡ true → record { stopped = false; left = limit; ok = false; image = replicate 120 0 } ≡ outcomeOf (within limit Whole)
-    unfolding outcomeOf foundIn
+    unfolding outcomeOf imagesIn
     done-bound h e = ap outcomeOf (sym (within-nothing limit none) ∙ ap (within limit) (done h true e))
 
     done-found : m ≤ p .len → tight ≡ false → record { stopped = false; left = limit; ok = true; image = p .image } ≡ outcomeOf (within limit Whole)
-    unfolding outcomeOf foundIn
+    unfolding outcomeOf imagesIn
     done-found h e =
         ap {B = Outcome} (λ (l : List ℕ). record { stopped = false; left = limit; ok = true; image = l }) (image-padded n (p .image) (p .used) (p .len) (Q .holds .placing))
         ∙ ap outcomeOf (sym (within-nothing limit (some (prefix p))) ∙ ap (within limit) (done h false e))
@@ -104,7 +104,7 @@ module _ (s : Product) (m : ℕ) (t : Product) (n : ℕ) (scratch after : List �
 
     pub ends : (limit left x : ℕ) → n < x → within limit Whole ≡ within left (Left x)
         → record { stopped = false; left = left; ok = false; image = replicate 120 0 } ≡ outcomeOf (within limit Whole)
-    unfolding outcomeOf foundIn
+    unfolding outcomeOf imagesIn
     ends limit left x h e =
         ap outcomeOf (sym (e ∙ ap (within left) (end s t (marked n scratch) n after (prefix p) tight same (m - (p .len + 1)) short x h) ∙ within-nothing left none))
 

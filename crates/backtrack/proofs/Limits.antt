@@ -10,7 +10,7 @@ use lib.Dec.{leb}
 use Rattle.semigroups.specs.Trials.{Work, work, followed}
 use Rattle.semigroups.specs.InnerTrials.{andThen}
 use Rattle.semigroups.proofs.Booleans.{same-truth}
-use Rattle.backtrack.specs.InnerState.{foundIn, Remainder, exhausted, remaining, within, outcomeOf}
+use Rattle.backtrack.specs.InnerState.{Remainder, exhausted, remaining, within, outcomeOf}
 
 -- ---- one work after another
 
@@ -76,14 +76,14 @@ module _ (go : ℕ → Remainder) where
   over-stopped (remaining left o) e = absurd (false≢true e)
 
   pub over-found : (r : Remainder) → outcomeOf r .ok ≡ true → resumed r go ≡ r
-  unfolding outcomeOf foundIn
+  unfolding outcomeOf
   over-found exhausted e = refl
   over-found (remaining left none) e = absurd (false≢true e)
   over-found (remaining left (some f)) e = refl
 
   -- Else it goes on with what is left.
   pub not-over : (r : Remainder) → outcomeOf r .stopped ≡ false → outcomeOf r .ok ≡ false → resumed r go ≡ go (outcomeOf r .left)
-  unfolding outcomeOf foundIn
+  unfolding outcomeOf
   not-over exhausted e f = absurd (false≢true (sym e))
   not-over (remaining left none) e f = refl
   not-over (remaining left (some l)) e f = absurd (false≢true (sym f))

@@ -6,13 +6,13 @@ use mathlib.Core.List.{List, _++_}
 use Prim.Native.Nat.{ℕ, _-_, _≤_}
 use lib.Dec.{leb}
 use lib.ListN.{length, take, replicate}
+use Rattle.semigroups.specs.Lists.{isSome}
 use Rattle.semigroups.specs.Tables.{Product}
 use Rattle.semigroups.specs.Scratch.{scratchSize}
 use Rattle.semigroups.specs.Maps.{Ask, first, next}
 use Rattle.semigroups.specs.Trials.{passes, Work}
 use Rattle.constraints.specs.InnerTracking.{Placing, Tracks}
 use Rattle.backtrack.specs.declared.Partial.{Partial}
-use Rattle.backtrack.specs.declared.Found.{Found}
 use Rattle.backtrack.specs.declared.Outcome.{Outcome}
 
 -- How many trials a search without a limit makes before it takes rows.
@@ -28,11 +28,6 @@ pub record Holds (s : Product) (n : ℕ) (t : Product) (p : Partial) : Type 0 wh
   pub placing : Placing n (p .image) (p .used) (p .len)
   pub tracks : Tracks s t (prefix p) (p .len) 0 (p .forced) (p .owner)
 
--- The result of a search: the images of the map, followed by zeros; all zeros if there is none.
-unfoldable pub foundIn : Option (List ℕ) → Found
-foundIn (some f) = record { ok = true; image = f ++ replicate (120 - length f) 0 }
-foundIn none = record { ok = false; image = replicate 120 0 }
-
 -- What becomes of the trials that a search may take: they are not enough; or this many are left, with what is found.
 pub data Remainder : Type 0 where
   exhausted : Remainder
@@ -42,10 +37,19 @@ pub data Remainder : Type 0 where
 unfoldable pub within : ℕ → Work → Remainder
 within limit w = cond (leb (w .trials) limit) (remaining (limit - w .trials) (w .found)) exhausted
 
--- The result of a search with a limit as the code holds it; zeros if it is stopped.
+-- The images of a map, followed by zeros; only zeros if there is none.
+unfoldable pub imagesIn : Option (List ℕ) → List ℕ
+imagesIn (some f) = f ++ replicate (120 - length f) 0
+imagesIn none = replicate 120 0
+
+-- The result of a search as the code holds it.
 unfoldable pub outcomeOf : Remainder → Outcome
 outcomeOf exhausted = record { stopped = true; left = 0; ok = false; image = replicate 120 0 }
-outcomeOf (remaining left o) = record { stopped = false; left = left; ok = foundIn o .ok; image = foundIn o .image }
+outcomeOf (remaining left o) = record { stopped = false; left = left; ok = isSome o; image = imagesIn o }
+
+-- The result of a search without a limit, which counts no trials.
+abbrev pub foundIn : Option (List ℕ) → Outcome
+foundIn o = outcomeOf (remaining 0 o)
 
 -- What is asked of a search: it is bound by a list as long as what is placed equals the beginning of that list.
 abbrev pub bounded : Bool → List ℕ → Ask

@@ -37,13 +37,8 @@ pub struct Tested {
     pub partial: Partial,
 }
 
-// The result of a search: whether it found a map, and the map's images followed by zeros. All are zeros where there is none.
-pub struct Found {
-    pub ok: bool,
-    pub image: [u8; ORDER],
-}
-
-// The result of a search with a limit: whether the limit stopped it; if it did not, the number of trials left, and what `Found` holds.
+// The result of a search: whether its limit stopped it; if not, how many trials are left; whether it found a map; and the map's images followed by zeros,
+// or only zeros. A search without a limit is never stopped and counts no trials: none is left.
 pub struct Outcome {
     pub stopped: bool,
     pub left: u32,

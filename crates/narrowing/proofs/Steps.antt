@@ -18,20 +18,21 @@ use Rattle.semigroups.proofs.Booleans.{clash}
 use Rattle.semigroups.proofs.Lists.{find-same}
 use Rattle.semigroups.proofs.ListOrder.{earlier-skip, earlier-head, earlier-above}
 use Rattle.semigroups.proofs.Completions.{extensions, findExtension, find-entry, firstFrom, first-start, first-skip, first-hit, first-end}
-use Rattle.semigroups.proofs.Search.{no-extension, whole-extension}
 use Rattle.backtrack.specs.InnerState.{bounded}
 use Rattle.backtrack.proofs.Steps.{lowest, bound-itself}
+use Rattle.narrowing.specs.InnerTwins.{rises, isRising}
+use Rattle.narrowing.proofs.Rising.{no-rising, whole-rising}
 
-module _ (m : ℕ) (s : Product) (n : ℕ) (t : Product) (start : ℕ → ℕ → Bool) where
+module _ (m : ℕ) (s : Product) (n : ℕ) (t : Product) (start relation : ℕ → ℕ → Bool) where
   abbrev want : Ask → List ℕ → Bool
-  want ask = isWanted m s n t start ask
+  want ask = isRising m s n t start ask relation
 
   -- ---- one call, where p is placed and `after` bounds it while `tight`
 
   module _ (after p : List ℕ) (tight : Bool) (same : tight ≡ true → take (length p) after ≡ p) where
     -- A whole list is found if it is an embedding and not the bound itself.
-    pub whole : length after ≡ length p → Among m start p → findExtension (want (bounded tight after)) n 0 p ≡ cond (isEmbedding m s n t p && not tight) (some p) none
-    whole l among = whole-extension m s n t start (bounded tight after) p among ∙ ap {B = Option (List ℕ)} (λ (b : Bool). cond (isEmbedding m s n t p && b) (some p) none) (bound-itself after p tight same l)
+    pub whole : length after ≡ length p → Among m start p → rises m relation p ≡ true → findExtension (want (bounded tight after)) n 0 p ≡ cond (isEmbedding m s n t p && not tight) (some p) none
+    whole l among up = whole-rising m s n t start (bounded tight after) relation p among up ∙ ap {B = Option (List ℕ)} (λ (b : Bool). cond (isEmbedding m s n t p && b) (some p) none) (bound-itself after p tight same l)
 
     module _ (d : ℕ) (room : length p < length after) where
       abbrev here : ℕ → Option (List ℕ)
@@ -57,8 +58,8 @@ module _ (m : ℕ) (s : Product) (n : ℕ) (t : Product) (start : ℕ → ℕ �
             ∙ earlier-skip p (getD after (length p) 0 ∷ drop (suc (length p)) after) (x ∷ q)
 
         -- No map bounded for begins with p and x.
-        pub skip : ((q : List ℕ) → Embedding m s n t ((p ++ x ∷ []) ++ q) → Among m start ((p ++ x ∷ []) ++ q) → ⊥) → left x ≡ left (x + 1)
-        skip h = first-skip here n x (hx .1) (no-extension m s n t start (bounded tight after) d (p ++ x ∷ []) (λ q F among b. h q F among))
+        pub skip : ((q : List ℕ) → Embedding m s n t ((p ++ x ∷ []) ++ q) → Among m start ((p ++ x ∷ []) ++ q) → rises m relation ((p ++ x ∷ []) ++ q) ≡ true → ⊥) → left x ≡ left (x + 1)
+        skip h = first-skip here n x (hx .1) (no-rising m s n t start (bounded tight after) relation d (p ++ x ∷ []) (λ q F among up b. h q F among up))
 
         pub too-early : x < low → left x ≡ left (x + 1)
         too-early h = go tight refl h
@@ -66,7 +67,7 @@ module _ (m : ℕ) (s : Product) (n : ℕ) (t : Product) (start : ℕ → ℕ �
             go : (b : Bool) → tight ≡ b → x < lowest b after (length p) → left x ≡ left (x + 1)
             go false e l = absurd (let z : ⊥ = omega arith in z)
             go true e l =
-                first-skip here n x (hx .1) (no-extension m s n t start (bounded tight after) d (p ++ x ∷ []) (λ q F among b.
+                first-skip here n x (hx .1) (no-rising m s n t start (bounded tight after) relation d (p ++ x ∷ []) (λ q F among up b.
                 clash {b = beyond (next after) ((p ++ x ∷ []) ++ q)} (subst (λ (c : Bool). beyond (bounded c after) ((p ++ x ∷ []) ++ q) ≡ true) e b)
                 (seen e q ∙ earlier-above (getD after (length p) 0) (drop (suc (length p)) after) x q l)))
 
@@ -76,10 +77,10 @@ module _ (m : ℕ) (s : Product) (n : ℕ) (t : Product) (start : ℕ → ℕ �
           where
             loosed : (e : tight ≡ true) → getD after (length p) 0 < x → findExtension (want (next after)) n d (p ++ x ∷ []) ≡ findExtension (want first) n d (p ++ x ∷ [])
             loosed e l =
-                unfold findExtension extensions isWanted in
+                unfold findExtension extensions isRising isWanted in
                 find-same (want (next after)) (want first) (extensions (p ++ x ∷ []) (lists d n)) (λ f k.
                 let r = Memᴰ·of-map {A = List ℕ} {B = List ℕ} (λ q. (p ++ x ∷ []) ++ q) (lists d n) k in
-                ap (λ (b : Bool). isEmbedding m s n t f && (all (λ i. start i (at f i)) (elements m) && b))
+                ap (λ (b : Bool). (isEmbedding m s n t f && (all (λ i. start i (at f i)) (elements m) && b)) && rises m relation f)
                 (ap (earlier after) (sym (r .2)) ∙ seen e (r .0) ∙ earlier-head (getD after (length p) 0) (drop (suc (length p)) after) x (r .0) l))
 
             bound : (e : tight ≡ true) → (b : Bool) → eqb x (getD after (length p) 0) ≡ b → getD after (length p) 0 ≤ x → findExtension (want (next after)) n d (p ++ x ∷ []) ≡ findExtension (want (bounded b after)) n d (p ++ x ∷ [])

@@ -3,17 +3,18 @@ use mathlib.Core.Path.{_≡_}
 use mathlib.Core.Bool.{Bool, true}
 use mathlib.Core.Option.{Option}
 use mathlib.Core.List.{List}
-use Prim.Native.Nat.{ℕ, _-_, _≤_}
+use Prim.Native.Nat.{ℕ, _-_, _≤_, _<_}
 use lib.ListN.{length, take, drop, replicate}
 use Rattle.semigroups.specs.Lists.{at}
 use Rattle.semigroups.specs.Tables.{Product, Element}
 use Rattle.semigroups.specs.Scratch.{scratchSize, marked}
 use Rattle.semigroups.specs.MapsLaws.{Embedding, Among}
 use Rattle.semigroups.specs.Trials.{passes}
-use Rattle.semigroups.specs.InnerSearch.{earliestExtension, Placed}
+use Rattle.semigroups.specs.InnerSearch.{Placed}
 use Rattle.backtrack.specs.InnerState.{bounded}
 use Rattle.rows.specs.InnerRows.{has, Only}
 use Rattle.narrowing.specs.InnerRows.{Begins, Images}
+use Rattle.narrowing.specs.InnerTwins.{rises, earliestRising}
 use Rattle.narrowing.specs.declared.Partial.{Partial}
 
 -- The list placed so far.
@@ -24,8 +25,8 @@ abbrev pub rowsIn : Partial → ℕ → ℕ → Bool
 rowsIn p = has (p .rows)
 
 -- What a call must return.
-abbrev pub Due : Product → ℕ → Product → ℕ → List ℕ → List ℕ → Bool → Partial → Option (List ℕ)
-Due s m t n scratch after tight p = earliestExtension m s n t (marked n scratch) (bounded tight after) (m - p .len) (placedList p)
+abbrev pub Due : Product → ℕ → Product → ℕ → List ℕ → List ℕ → (ℕ → ℕ → Bool) → Bool → Partial → Option (List ℕ)
+Due s m t n scratch after relation tight p = earliestRising m s n t (marked n scratch) (bounded tight after) relation (m - p .len) (placedList p)
 
 -- The images placed are elements, and zeros follow them.
 pub record PlacedImages (n : ℕ) (image : List ℕ) (len : ℕ) : Type 0 where
@@ -40,14 +41,18 @@ pub record Settled (s t : Product) (image : List ℕ) (len paired : ℕ) (rows :
   pub own : (i : ℕ) → Element len i → Only rows i (at image i)
   pub products : (i j : ℕ) → Element paired i → Element paired j → Only rows (s i j) (t (at image i) (at image j))
 
--- What holds whenever the search goes on from a partial map.
-pub record Reached (s : Product) (m : ℕ) (t : Product) (n : ℕ) (scratch after : List ℕ) (tight : Bool) (p : Partial) : Type 0 where
+-- What holds whenever the search goes on from a partial map. The images placed rise along the relation, and the rows of the elements that it leads to from a
+-- placed one are above the image of that one.
+pub record Reached (s : Product) (m : ℕ) (t : Product) (n : ℕ) (scratch after : List ℕ) (relation : ℕ → ℕ → Bool) (tight : Bool) (p : Partial) : Type 0 where
   pub placing : PlacedImages n (p .image) (p .len)
   pub within : p .len ≤ m
   pub marks : (i : ℕ) → Element (p .len) i → marked n scratch i (at (p .image) i) ≡ true
   pub settled : Settled s t (p .image) (p .len) (p .len) (p .rows)
   pub passed : p .ok ≡ true → Placed n (placedList p) × (passes s t (placedList p) ≡ true)
-  pub covers : (f : List ℕ) → Embedding m s n t f → Among m (marked n scratch) f → Begins f (p .image) (p .len) → (p .ok ≡ true) × Among m (has (p .rows)) f
+  pub later : (i j : ℕ) → relation i j ≡ true → i < j
+  pub rising : (i j : ℕ) → Element (p .len) i → Element (p .len) j → relation i j ≡ true → at (p .image) i < at (p .image) j
+  pub above : (i j y : ℕ) → Element (p .len) i → Element m j → Element n y → relation i j ≡ true → rowsIn p j y ≡ true → at (p .image) i < y
+  pub covers : (f : List ℕ) → Embedding m s n t f → Among m (marked n scratch) f → rises m relation f ≡ true → Begins f (p .image) (p .len) → (p .ok ≡ true) × Among m (has (p .rows)) f
   pub space : scratchSize m n ≤ length scratch
   pub bound : length after ≡ m
   pub same : tight ≡ true → take (p .len) after ≡ placedList p

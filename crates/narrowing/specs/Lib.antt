@@ -1,3 +1,4 @@
 pub mod InnerLone
 pub mod InnerRows
 pub mod InnerState
+pub mod InnerTwins

@@ -2,3 +2,4 @@ pub mod Words
 pub mod Masks
 pub mod Rows
 pub mod Room
+pub mod Raising

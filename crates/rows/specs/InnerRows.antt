@@ -2,8 +2,9 @@
 -- and 61 to 120 those of another. All rows are one list of words, the 120 low ones first. Assumes nothing.
 use mathlib.Core.Path.{_≡_}
 use mathlib.Core.Bool.{Bool, true, _&&_, cond}
+use mathlib.Core.Logic.{_↔_}
 use mathlib.Core.List.{List}
-use Prim.Native.Nat.{ℕ, zero, suc, _+_, _-_, _/_, _%_, _^_, _≤_, min}
+use Prim.Native.Nat.{ℕ, zero, suc, _+_, _-_, _/_, _%_, _^_, _≤_, _<_, min}
 use lib.Bits.{bitAnd}
 use lib.Count.{trailingZeros}
 use lib.Dec.{eqb, leb}
@@ -83,3 +84,7 @@ Forced c v rows newRows = newRows ≡ masked rows c (singleRow v)
 -- Each of the first m rows has exactly those of its elements that are at most n and marked; the rows above m are as they were.
 abbrev pub Marked : ℕ → ℕ → List ℕ → (ℕ → ℕ → Bool) → (ℕ → ℕ → Bool) → Type 0
 Marked m n scratch old new = (c y : ℕ) → Element largestOrder c → Element largestOrder y → new c y ≡ (old c y && cond (leb c m) (leb y n && marked n scratch c y) true)
+
+-- Row j loses the elements up to x; nothing else changes.
+abbrev pub Raised : ℕ → ℕ → (ℕ → ℕ → Bool) → (ℕ → ℕ → Bool) → Type 0
+Raised j x old new = (d y : ℕ) → Element largestOrder d → Element largestOrder y → (new d y ≡ true) ↔ ((old d y ≡ true) × (d ≡ j → x < y))

@@ -19,9 +19,8 @@ use Rattle.semigroups.proofs.Tables.{product-element}
 use Rattle.semigroups.proofs.Search.{search-map}
 use Rattle.semigroups.proofs.Booleans.{at-most-or-above}
 use Rattle.semigroups.proofs.Trials.{counted-finds, limited-ends, limited-stops}
-use Rattle.backtrack.specs.declared.Found.{Found}
 use Rattle.backtrack.specs.declared.Outcome.{Outcome}
-use Rattle.backtrack.specs.InnerState.{foundIn, bounded, Remainder, exhausted, remaining, within, outcomeOf}
+use Rattle.backtrack.specs.InnerState.{foundIn, bounded, Remainder, exhausted, remaining, within, imagesIn, outcomeOf}
 use Rattle.backtrack.proofs.Limits.{within-nothing}
 use Rattle.search.specs.declared.Limit.{Limit}
 use Rattle.search.specs.declared.Limit.the-variants.{Unlimited, Trials}
@@ -32,7 +31,7 @@ use Rattle.search.specs.InnerSearching.{trialsIn, remainderUnder, mapIn,
 
 -- An outcome finds the map that is in the remainder.
 ok-in : (q : Remainder) (r : Outcome) → r ≡ outcomeOf q → soughtIf (r .ok) ≡ sought (mapIn q)
-unfolding outcomeOf foundIn
+unfolding outcomeOf
 ok-in exhausted r e = ap (λ (z : Outcome). soughtIf (z .ok)) e
 ok-in (remaining k none) r e = ap (λ (z : Outcome). soughtIf (z .ok)) e
 ok-in (remaining k (some f)) r e = ap (λ (z : Outcome). soughtIf (z .ok)) e
@@ -40,14 +39,14 @@ ok-in (remaining k (some f)) r e = ap (λ (z : Outcome). soughtIf (z .ok)) e
 -- What is written of an outcome, where a map has m images.
 written-in : (m : ℕ) (bytes : List ℕ) (q : Remainder) → ((f : List ℕ) → mapIn q ≡ some f → length f ≡ m) → (r : Outcome) → r ≡ outcomeOf q
     → cond (r .ok) (take m (r .image)) bytes ≡ Option·getD (mapIn q) bytes
-unfolding outcomeOf foundIn
+unfolding outcomeOf imagesIn
 written-in m bytes exhausted size r e = ap (λ (z : Outcome). cond (z .ok) (take m (z .image)) bytes) e
 written-in m bytes (remaining k none) size r e = ap (λ (z : Outcome). cond (z .ok) (take m (z .image)) bytes) e
 written-in m bytes (remaining k (some f)) size r e = ap (λ (z : Outcome). cond (z .ok) (take m (z .image)) bytes) e ∙ take-at f (replicate (120 - length f) 0) m (size f refl)
 
 -- Where no work is done there is no map, whatever the limit.
 pub no-work : (limit : Limit) → record { stopped = false; left = trialsIn limit; ok = false; image = replicate 120 0 } ≡ outcomeOf (remainderUnder limit (work none 0))
-unfolding outcomeOf foundIn
+unfolding outcomeOf imagesIn
 no-work Unlimited = refl
 no-work (Trials limit) = ap outcomeOf (sym (within-nothing limit none))
 
@@ -62,12 +61,8 @@ module _ (next : Bool) (m : ℕ) (source : List ℕ) (n : ℕ) (target bytes scr
   w = markedWork next m source n target bytes scratch
 
   -- A search without a limit finds what the counted search finds.
-  pub marked-unlimited : (r : Found) → r ≡ foundIn (search (product m source) (product n target) (marked n scratch) (bounded next bytes) n m [])
-      → record { stopped = false; left = 0; ok = r .ok; image = r .image } ≡ outcomeOf (remaining 0 (w .found))
-  unfolding outcomeOf
-  marked-unlimited r e =
-      ap {B = Outcome} (λ (f : Found). record { stopped = false; left = 0; ok = f .ok; image = f .image })
-      (e ∙ ap foundIn (sym (counted-finds (product m source) (product n target) (marked n scratch) (bounded next bytes) n m [])))
+  pub marked-unlimited : foundIn (search (product m source) (product n target) (marked n scratch) (bounded next bytes) n m []) ≡ foundIn (w .found)
+  marked-unlimited = ap foundIn (sym (counted-finds (product m source) (product n target) (marked n scratch) (bounded next bytes) n m []))
 
   module _ (filled : Filled m source) where
     -- The map found has an image for each element.

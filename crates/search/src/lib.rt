@@ -6,7 +6,7 @@
 // Pairs are bits, laid out as those of the scratch buffer are: bit (i - 1) * n + (j - 1) is set where i may go to j. An embedding is allowed if the bit of
 // each element with its image is set. No byte of the pairs changes.
 ghost use mathlib.Core.Path.{_≡_};
-ghost use mathlib.Core.Bool.{cond, false};
+ghost use mathlib.Core.Bool.{cond};
 ghost use Prim.Native.Nat.{_*_, _≤_};
 ghost use lib.ListN.{length, take};
 ghost use Rattle.semigroups.specs.InnerSearch.{plainKind};
@@ -18,7 +18,7 @@ ghost use Rattle.semigroups.specs.Calls.{gives, overwritten};
 ghost use Rattle.semigroups.specs.InnerCalls.{scratchAfter};
 ghost use Rattle.semigroups.specs.Maps.{embeddings, reversed, first, next};
 ghost use Rattle.semigroups.specs.Candidates.{candidate};
-ghost use Rattle.backtrack.specs.InnerState.{bounded, remaining, outcomeOf};
+ghost use Rattle.backtrack.specs.InnerState.{bounded, foundIn, outcomeOf};
 ghost use Rattle.tables.specs.Answers.{refusalNumbers};
 ghost use Rattle.search.specs.Answers.{kindOf, searchFaultRefusal, questionsRefusal, soughtIf, searchAnswerSays, limitedAnswerSays};
 ghost use Rattle.search.specs.InnerSearching.{answered, trialsIn, remainderUnder, searched, markedWork};
@@ -29,7 +29,6 @@ ghost use Rattle.calls.specs.Allowed.{allowedCandidate};
 ghost use Rattle.calls.specs.Among.{amongRefusal, callAmong};
 ghost use Rattle.search.specs.InnerAmong.{answeredAmong};
 ghost use Rattle.search.specs.InnerMasks.{maskedBytes, clearsNothing};
-use backtrack::Found;
 use backtrack::Outcome;
 use tables::Fault;
 use tables::PairVerdict;
@@ -98,19 +97,6 @@ fn allowance(limit: Limit) -> u32
     }
 }
 
-// Returns what a search without a limit found as the outcome of a search: it was not stopped, and no trials are counted.
-fn unlimited(found: Found) -> Outcome
-    ensures answer { λ r. ⌜ r ≡ record { stopped = false; left = 0; ok = found .ok; image = found .image } ⌝ }
-{
-    let image = found.image;
-    Outcome {
-        stopped: false,
-        left: 0,
-        ok: found.ok,
-        image,
-    }
-}
-
 // Searches the marks in scratch for the first map, or with `next` for the next one after `after`, within the limit. Returns the outcome.
 fn find_marked(
     next: bool,
@@ -127,7 +113,7 @@ fn find_marked(
     ensures answer { λ r. ⌜ r ≡ outcomeOf (remainderUnder limit (markedWork next m (now (source .entry)) n (now (target .entry)) (now (after .entry)) (now (scratch .entry)))) ⌝ }
 {
     match limit {
-        Limit::Unlimited => unlimited(narrowing::find(source, m, target, n, scratch, after, next)),
+        Limit::Unlimited => narrowing::find(source, m, target, n, scratch, after, next),
         Limit::Trials(trials) => {
             backtrack::find_within(source, m, target, n, scratch, after, next, trials)
         }
@@ -488,12 +474,12 @@ fn find_allowed(
 ) -> Outcome
     requires { ⌜ Filled m (now source) × Filled n (now target) ⌝ }
     requires { ⌜ (scratchSize m n ≤ length (now scratch)) × (length (now after) ≡ m) ⌝ }
-    ensures answer { λ r. ⌜ r ≡ outcomeOf (remaining 0 (markedWork next m (now (source .entry)) n (now (target .entry)) (now (after .entry)) (now (scratch .entry)) .found)) ⌝ }
+    ensures answer { λ r. ⌜ r ≡ foundIn (markedWork next m (now (source .entry)) n (now (target .entry)) (now (after .entry)) (now (scratch .entry)) .found) ⌝ }
 {
     if all {
-        return unlimited(narrowing::find(source, m, target, n, scratch, after, next));
+        return narrowing::find(source, m, target, n, scratch, after, next);
     }
-    unlimited(narrowing::find_narrowed(source, m, target, n, scratch, after, next))
+    narrowing::find_narrowed(source, m, target, n, scratch, after, next)
 }
 
 // Writes the first allowed embedding between two accepted tables to `map`, or with `next` the next one after the bytes of `map`. Returns whether there is one.

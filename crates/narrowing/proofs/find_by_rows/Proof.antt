@@ -9,6 +9,8 @@ use Rattle.semigroups.proofs.Booleans.{clash}
 use Rattle.semigroups.proofs.Tables.{product-element}
 use Rattle.backtrack.specs.InnerState.{foundIn}
 use Rattle.rows.proofs.Room.{roomy-kept}
+use Rattle.narrowing.specs.InnerTwins.{sharesLater}
+use Rattle.narrowing.proofs.Rising.{shares-later}
 use Rattle.narrowing.proofs.Extending.{start as begin, all-found, nowhere}
 use Rattle.narrowing.proofs.find_by_rows.Statement.{statement}
 use Rattle.narrowing.proofs.find_by_rows.Tie as tie
@@ -41,22 +43,29 @@ returns c =
     ∙ nowhere s (a .m) t (a .n) (a .scratch .now) (a .after .now) (a .next) (closed k)
     (λ f F among. clash {b = w .result} (w .ensures ∙ roomy-kept (p .rows) (a .m) s (a .n) t f (first k .pre .0 .1 .order .1) F (k .«start» .ensures .1 f F among)) (not-true (w .result) (c .before .if1 .taken)))
 
+groups-requires : tie.Need-groups-requires
+groups-requires c κs =
+    let z = first (c .before .before .before .before) in
+    (z .pre .0 .0, z .pre .0 .1 .order .1, z .pre .1 .0)
+
 extend-requires : tie.Need-extend-requires
 extend-requires c κs =
-    let k = c .before .before .before .before in
+    let g = c .before in
+    let k = g .before .before .before .before .before in
     let z = first k in
     let a = z .args in
     let e = k .«start» .ensures in
-    (z .pre .0, begin (product (a .m) (a .source .now)) (a .m) (product (a .n) (a .target .now)) (a .n) (a .scratch .now) (a .after .now) (a .next) (k .«start» .result) (e .0 .0) (e .0 .1) (e .0 .2) (e .1) (z .pre .1 .0) (z .pre .1 .1))
+    (z .pre .0, begin (product (a .m) (a .source .now)) (a .m) (product (a .n) (a .target .now)) (a .n) (a .scratch .now) (a .after .now) (sharesLater (g .groups .result)) (a .next) (k .«start» .result) (e .0 .0) (e .0 .1) (e .0 .2) (e .1) (z .pre .1 .0) (z .pre .1 .1) (shares-later (g .groups .result)))
 
 returns-2 : tie.Need-returns-2
 returns-2 c =
-    let k = c .before .before .before .before .before in
+    let g = c .before .before in
+    let k = g .before .before .before .before .before in
     let z = first k in
     let a = z .args in
     let e = k .«start» .ensures in
     c .extend .ensures
-    ∙ ap foundIn (all-found (product (a .m) (a .source .now)) (a .m) (product (a .n) (a .target .now)) (a .n) (a .scratch .now) (a .after .now) (a .next) (k .«start» .result) (e .0 .0) (e .0 .1) (e .0 .2) (e .1) (z .pre .1 .0) (z .pre .1 .1) (closed k))
+    ∙ ap foundIn (all-found (product (a .m) (a .source .now)) (a .m) (product (a .n) (a .target .now)) (a .n) (a .scratch .now) (a .after .now) (g .groups .result) (a .next) (k .«start» .result) (e .0 .0) (closed k) (g .groups .ensures))
 
 pub find-by-rows-spec : {M : Type 1} → statement M
-find-by-rows-spec = tie.close (tie.spec start-requires is-roomy-requires nothing-requires returns extend-requires returns-2)
+find-by-rows-spec = tie.close (tie.spec start-requires is-roomy-requires nothing-requires returns groups-requires extend-requires returns-2)

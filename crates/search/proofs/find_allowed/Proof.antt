@@ -8,34 +8,14 @@ use Rattle.search.proofs.find_allowed.Tie as tie
 find-requires : tie.Need-find-requires
 find-requires c κs = search needs
 
-unlimited-requires : tie.Need-unlimited-requires
-unlimited-requires c κs = search needs
-
 returns : tie.Need-returns
-returns c =
-    let a = c .before .before .before .before .before .before .before .args in
-    let f = c .before .find in
-    c .unlimited .ensures ∙ marked-unlimited (a .next) (a .m) (a .source .now) (a .n) (a .target .now) (a .after .now) (a .scratch .now) (f .result) (f .ensures)
+returns c = let a = c .before .before .before .before .before .before .args in c .find .ensures ∙ marked-unlimited (a .next) (a .m) (a .source .now) (a .n) (a .target .now) (a .after .now) (a .scratch .now)
 
 find-narrowed-requires : tie.Need-find-narrowed-requires
 find-narrowed-requires c κs = search needs
 
-unlimited-requires-2 : tie.Need-unlimited-requires-2
-unlimited-requires-2 c κs = search needs
-
 returns-2 : tie.Need-returns-2
-returns-2 c =
-    let a = c .before .before .before .before .before .before .before .args in
-    let f = c .before .find-narrowed in
-    c .unlimited2 .ensures ∙ marked-unlimited (a .next) (a .m) (a .source .now) (a .n) (a .target .now) (a .after .now) (a .scratch .now) (f .result) (f .ensures)
+returns-2 c = let a = c .before .before .before .before .before .before .args in c .find-narrowed .ensures ∙ marked-unlimited (a .next) (a .m) (a .source .now) (a .n) (a .target .now) (a .after .now) (a .scratch .now)
 
 pub find-allowed-spec : {M : Type 1} → statement M
-find-allowed-spec =
-    tie.close
-    (tie.spec
-    find-requires
-    unlimited-requires
-    returns
-    find-narrowed-requires
-    unlimited-requires-2
-    returns-2)
+find-allowed-spec = tie.close (tie.spec find-requires returns find-narrowed-requires returns-2)

@@ -14,9 +14,6 @@ enum-told c = search needs
 find-requires : tie.Need-find-requires
 find-requires c κs = search needs
 
-unlimited-requires : tie.Need-unlimited-requires
-unlimited-requires c κs = search needs
-
 enum-known-limit : tie.Need-enum-known-limit
 enum-known-limit c = search needs
 
@@ -25,10 +22,9 @@ find-within-requires c κs = search needs
 
 returns : tie.Need-returns
 returns c =
-    let a = c .before .before .before .before .before .before .before .before .args in
-    let f = c .before .find in
-    c .unlimited .ensures ∙ marked-unlimited (a .next) (a .m) (a .source .now) (a .n) (a .target .now) (a .after .now) (a .scratch .now) (f .result) (f .ensures)
-    ∙ ap (λ (l : Limit). outcomeOf (remainderUnder l (markedWork (a .next) (a .m) (a .source .now) (a .n) (a .target .now) (a .after .now) (a .scratch .now)))) (sym (c .before .before .enum-told .given .1))
+    let a = c .before .before .before .before .before .before .before .args in
+    c .find .ensures ∙ marked-unlimited (a .next) (a .m) (a .source .now) (a .n) (a .target .now) (a .after .now) (a .scratch .now)
+    ∙ ap (λ (l : Limit). outcomeOf (remainderUnder l (markedWork (a .next) (a .m) (a .source .now) (a .n) (a .target .now) (a .after .now) (a .scratch .now)))) (sym (c .before .enum-told .given .1))
 
 returns-2 : tie.Need-returns-2
 returns-2 c =
@@ -42,7 +38,6 @@ find-marked-spec =
     (tie.spec
     enum-told
     find-requires
-    unlimited-requires
     enum-known-limit
     find-within-requires
     returns
