@@ -123,13 +123,11 @@ pub record Turn (s : Product) (m : ℕ) (t : Product) (n : ℕ) (scratch after :
   pub so-far : within limit (Ahead s m t n scratch after tight p) ≡ within left (Rest s m t n scratch after tight p x)
   pub opened : o ≡ (leb low x && (eqb (getD (p .used) x 0) 0 && marked n scratch (p .len + 1) x))
 
--- What is told of x placed, which gives r, and tested, which gives b and hands q back.
-pub record Verdict (s t : Product) (p : Partial) (x : ℕ) (r q : Partial) (b : Bool) : Type 0 where
-  pub longer : prefix r ≡ prefix p ++ x ∷ []
-  pub one-more : r .len ≡ p .len + 1
-  pub says : b ≡ passes s t (prefix r)
-  pub same-images : q .image ≡ r .image
-  pub same-length : q .len ≡ r .len
+-- What is told of x placed and tested, which gives b and hands q back.
+pub record Verdict (s t : Product) (p : Partial) (x : ℕ) (q : Partial) (b : Bool) : Type 0 where
+  pub longer : prefix q ≡ prefix p ++ x ∷ []
+  pub one-more : q .len ≡ p .len + 1
+  pub says : b ≡ passes s t (prefix p ++ x ∷ [])
 
 -- The constraints as a map is handed on with one more image.
 pub handed-on : (s t : Product) (p q : Partial) → q .len ≡ p .len + 1 → take (p .len) (q .image) ≡ prefix p → q .forced ≡ p .forced → q .owner ≡ p .owner
@@ -139,9 +137,6 @@ handed-on s t p q el ep ef eo W = let e : q .len - 1 ≡ p .len = omega arith in
 -- What was placed before x passes still.
 pub handed-passes : (s t : Product) (p q : Partial) → q .len ≡ p .len + 1 → take (p .len) (q .image) ≡ prefix p → passes s t (prefix p) ≡ true → passes s t (take (q .len - 1) (q .image)) ≡ true
 handed-passes s t p q el ep e = let k : q .len - 1 ≡ p .len = omega arith in rw (k, ep) e
-
-pub verdict : {s t : Product} {p : Partial} {x : ℕ} {r q : Partial} {b : Bool} → Verdict s t p x r q b → b ≡ passes s t (prefix p ++ x ∷ [])
-verdict {s} {t} v = v .says ∙ ap (passes s t) (v .longer)
 
 module _ {s : Product} {m : ℕ} {t : Product} {n : ℕ} {scratch after : List ℕ} {tight : Bool} {limit : ℕ} {p : Partial} {low left x : ℕ} {o : Bool} (T : Turn s m t n scratch after tight limit p low left x o) where
   abbrev longer : List ℕ
@@ -209,28 +204,23 @@ module _ {s : Product} {m : ℕ} {t : Product} {n : ℕ} {scratch after : List �
           ∙ ap (λ (r : Remainder). resumed r (λ i. within i Following)) (within-nothing rest none)
 
       -- The test said whether the list passes, and it did.
-      module _ (r q : Partial) (b : Bool) (v : Verdict s t p x r q b) (passed : b ≡ true) where
+      module _ (q : Partial) (b : Bool) (v : Verdict s t p x q b) (passed : b ≡ true) where
         pass : passes s t longer ≡ true
-        pass = sym (verdict v) ∙ passed
-
-        eq : prefix q ≡ longer
-        eq = ap₂ take (v .same-length) (v .same-images) ∙ v .longer
-
-        len : q .len ≡ p .len + 1
-        len = v .same-length ∙ v .one-more
+        pass = sym (v .says) ∙ passed
 
         pub onward : Holds s n t q → Ready s m t n scratch after (eqb x low) q
         onward H =
             let room = T .room in
+            let l = v .one-more in
             record {
               holds = H;
               within = omega arith;
-              passed = ap (passes s t) eq ∙ pass;
+              passed = ap (passes s t) (v .longer) ∙ pass;
               space = T .ready .space;
               bound = T .ready .bound;
               same = λ w.
-                  ap (λ (k : ℕ). take k after) (len ∙ add-one (p .len) ∙ ap suc (sym (long s m t n scratch after tight p (T .ready))))
-                  ∙ still-bound after (prefix p) tight kept shorter x (T .element .0) (ap (eqb x) (sym low-here) ∙ w) ∙ sym eq;
+                  ap (λ (k : ℕ). take k after) (v .one-more ∙ add-one (p .len) ∙ ap suc (sym (long s m t n scratch after tight p (T .ready))))
+                  ∙ still-bound after (prefix p) tight kept shorter x (T .element .0) (ap (eqb x) (sym low-here) ∙ w) ∙ sym (v .longer);
             }
 
         -- What the call for the next element leaves.
@@ -240,7 +230,7 @@ module _ {s : Product} {m : ℕ} {t : Product} {n : ℕ} {scratch after : List �
         inner : Ahead s m t n scratch after (eqb x low) q ≡ counted s t (marked n scratch) (bounded (eqb x (lowest tight after (length (prefix p)))) after) n d longer
         inner =
             ap (λ (k : ℕ). counted s t (marked n scratch) (bounded (eqb x k) after) n (m - q .len) (prefix q)) low-here
-            ∙ ap₂ (λ (i : ℕ) (l : List ℕ). counted s t (marked n scratch) (bounded (eqb x (lowest tight after (length (prefix p)))) after) n i l) (let e : m - q .len ≡ d = omega arith in e) eq
+            ∙ ap₂ (λ (i : ℕ) (l : List ℕ). counted s t (marked n scratch) (bounded (eqb x (lowest tight after (length (prefix p)))) after) n i l) (let l = v .one-more in let e : m - q .len ≡ d = omega arith in e) (v .longer)
 
         resumes : Answer ≡ resumed Inner (λ i. within i Following)
         resumes =

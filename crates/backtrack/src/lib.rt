@@ -136,6 +136,20 @@ impl Partial {
         };
         Tested { ok: true, partial }
     }
+
+    // Returns whether the list placed passes with x as the image of the next element, and the map with it: placed and tested. It is a function of its own so
+    // that no call of the search keeps the map between the two steps, and copies of it are spared.
+    fn tried(self, source: &[u8], m: usize, target: &[u8], n: usize, x: usize) -> Tested
+        requires { ⌜ Filled m (now source) × Filled n (now target) ⌝ }
+        requires { ⌜ Holds (product m (now source)) n (product n (now target)) self × (passes (product m (now source)) (product n (now target)) (prefix self) ≡ true) ⌝ }
+        requires { ⌜ Element n x × (self .len < m) × (member x (prefix self) ≡ false) ⌝ }
+        ensures answer { λ r. ⌜ r .ok ≡ passes (product m (now (source .entry))) (product n (now (target .entry))) (prefix self ++ x ∷ []) ⌝ }
+        ensures more { λ r. ⌜ (prefix (r .partial) ≡ prefix self ++ x ∷ []) × (r .partial .len ≡ self .len + 1) ⌝ }
+        ensures holds { λ r. ⌜ (r .ok ≡ true → Holds (product m (now (source .entry))) n (product n (now (target .entry))) (r .partial)) ⌝ }
+        ensures refused { λ r. ⌜ (r .ok ≡ false → Placing n (r .partial .image) (r .partial .used) (r .partial .len) × (r .partial .forced ≡ self .forced) × (r .partial .owner ≡ self .owner)) ⌝ }
+    {
+        self.place(n, x).test(source, m, target, n)
+    }
 }
 
 // Returns the outcome with no map: the search was stopped, or it ended with `left` trials left.
@@ -219,7 +233,7 @@ fn extend(
             let forced = &p.forced;
             let owner = &p.owner;
             if constraints::may_pass(source, m, target, n, image, used, forced, owner, at, x) {
-                let q = p.place(n, x).test(source, m, target, n);
+                let q = p.tried(source, m, target, n, x);
                 if q.ok {
                     let same = x == low;
                     let r = extend(source, m, target, n, scratch, after, same, left, q.partial);

@@ -11,18 +11,16 @@ use borrow.Author.Tests.{not-true, not-false}
 use borrow.Fn.Kinds.{In}
 use borrow.Fn.PlainCycle.{Measures, is, falls, and}
 use Rattle.semigroups.specs.Tables.{product}
-use Rattle.semigroups.specs.Trials.{passes}
 use Rattle.semigroups.proofs.Tables.{product-element}
 use Rattle.backtrack.specs.InnerState.{Remainder, exhausted, remaining, within}
 use Rattle.backtrack.specs.declared.Outcome.{Outcome}
 use Rattle.constraints.proofs.Placing.{as-trial}
 use Rattle.backtrack.proofs.Steps.{lowest}
-use Rattle.backtrack.proofs.Extending.{Ahead, Rest, Turn, Verdict, handed-on, done-whole, begins, ends, row-marked, unused, skip, stop, refuse, handed-passes, onward, halt, found, fail}
+use Rattle.backtrack.proofs.Extending.{Ahead, Rest, Turn, Verdict, done-whole, begins, ends, row-marked, unused, skip, stop, refuse, onward, halt, found, fail}
 use Rattle.backtrack.proofs.extend.Reads as extend
 use Rattle.backtrack.proofs.extend.Kinds as extend-kinds
 use Rattle.backtrack.proofs.+extend.Lts-extend as extend-lts
-use Rattle.backtrack.proofs.Partial.place.Reads as place-reads
-use Rattle.backtrack.proofs.Partial.test.Reads as test-reads
+use Rattle.backtrack.proofs.Partial.tried.Reads as tried-reads
 use Rattle.backtrack.proofs.no_map.Reads as no-map-reads
 use Rattle.backtrack.proofs.open.Reads as open-reads
 use Rattle.constraints.proofs.may_pass.Reads as may-pass-reads
@@ -50,7 +48,7 @@ extend-μ-loop source m target n scratch after tight limit p at low left₀ x₀
 -- What the calls ask and tell.
 abbrev calls : ℕ → extend-lts.Claims
 calls t =
-    (whole-reads.Asked, whole-reads.Learnt, open-reads.Asked, open-reads.Learnt, pay-reads.Asked, pay-reads.Learnt, no-map-reads.Asked, no-map-reads.Learnt, may-pass-reads.Asked, may-pass-reads.Learnt, place-reads.Asked, place-reads.Learnt, test-reads.Asked, test-reads.Learnt, extend-below t, extend.Post)
+    (whole-reads.Asked, whole-reads.Learnt, open-reads.Asked, open-reads.Learnt, pay-reads.Asked, pay-reads.Learnt, no-map-reads.Asked, no-map-reads.Learnt, may-pass-reads.Asked, may-pass-reads.Learnt, tried-reads.Asked, tried-reads.Learnt, extend-below t, extend.Post)
 
 abbrev Start : ℕ → Type 0
 Start t = extend-lts.Start (calls t) (extend-at t) extend.Post extend-Inv-loop extend-μ-loop
@@ -87,22 +85,13 @@ unpaid enough left r e h = ap {B = Remainder} (λ (b : Bool). cond b (remaining 
 paid : (enough : Bool) (left : ℕ) (r : Remainder) → cond enough (remaining left none) exhausted ≡ r → not enough ≡ false → remaining left none ≡ r
 paid enough left r e h = ap {B = Remainder} (λ (b : Bool). cond b (remaining left none) exhausted) (sym (not-false enough h)) ∙ e
 
-abbrev Tested : ℕ → Type 0
-Tested t = extend-lts.After-test (calls t) (extend-at t) extend.Post extend-Inv-loop extend-μ-loop
+abbrev Tried : ℕ → Type 0
+Tried t = extend-lts.After-tried (calls t) (extend-at t) extend.Post extend-Inv-loop extend-μ-loop
 
--- What the test says, once it has answered.
-tested : (t : ℕ) (k : Tested t) → let o = k .before .before .before .before .before .before .before .before .before .before .before .before .before in
-    Verdict (product (start t o .args .m) (start t o .args .source .now)) (product (start t o .args .n) (start t o .args .target .now)) (start t o .args .t9) (o .before .before .before .before .loop .x) (k .before .place .result) (k .test .result .partial) (k .test .result .ok)
-tested t k =
-    let more = k .before .place .ensures .1 .0 in
-    let test = k .test .ensures in
-    record {
-      longer = more .0;
-      one-more = more .2;
-      says = test .0;
-      same-images = test .1 .1 .0 .0;
-      same-length = test .1 .1 .0 .1;
-    }
+-- What is told of x, once it is tried.
+told : (t : ℕ) (k : Tried t) → let o = k .before .before .before .before .before .before .before .before .before .before .before .before in
+    Verdict (product (start t o .args .m) (start t o .args .source .now)) (product (start t o .args .n) (start t o .args .target .now)) (start t o .args .t9) (o .before .before .before .before .loop .x) (k .tried .result .partial) (k .tried .result .ok)
+told t k = let e = k .tried .ensures in record { longer = e .1 .0 .0; one-more = e .1 .0 .1; says = e .0 }
 
 extend-whole-requires : (t : ℕ) → extend-lts.Need-whole-requires (calls t) (extend-at t) extend.Post extend-Inv-loop extend-μ-loop
 extend-whole-requires t c κs = search needs
@@ -164,66 +153,49 @@ extend-may-pass-requires t c κs =
     let holds = T .ready .holds in
     (start t k .pre .1 .0, ((as-trial (a .n) (p .image) (p .used) (p .len) (holds .placing) (k .before .before .before .before .loop .x) (T .element) (omega arith), T .room, unused T (c .before .before .before .before .before .before .before .before .if3 .taken)), (holds .tracks, T .ready .passed)))
 
-extend-place-requires : (t : ℕ) → extend-lts.Need-place-requires (calls t) (extend-at t) extend.Post extend-Inv-loop extend-μ-loop
-extend-place-requires t c κs =
-    let T = turn t (c .before .before .before .before .before .before .before .before .before .before .before) in
-    let room = T .room in
-    let orders = T .orders in
-    (T .ready .holds .placing, (T .element, orders .1, omega arith, unused T (c .before .before .before .before .before .before .before .before .before .before .if3 .taken)))
-
-extend-test-requires : (t : ℕ) → extend-lts.Need-test-requires (calls t) (extend-at t) extend.Post extend-Inv-loop extend-μ-loop
-extend-test-requires t c κs =
-    let k = c .before .before .before .before .before .before .before .before .before .before .before .before in
-    let z = start t k in
-    let a = z .args in
-    let s = product (a .m) (a .source .now) in
-    let r = product (a .n) (a .target .now) in
+extend-tried-requires : (t : ℕ) → extend-lts.Need-tried-requires (calls t) (extend-at t) extend.Post extend-Inv-loop extend-μ-loop
+extend-tried-requires t c κs =
+    let k = c .before .before .before .before .before .before .before .before .before .before .before in
     let T = turn t k in
-    let room = T .room in
-    let place = c .place in
-    let more = place .ensures .1 .0 in
-    let len = more .2 in
-    let constraints = place .ensures .1 .1 in
-    (z .pre .1 .0, ((place .ensures .0, omega arith), (handed-on s r (a .t9) (place .result) (more .2) (more .1) (constraints .0) (constraints .1) (T .ready .holds .tracks), handed-passes s r (a .t9) (place .result) (more .2) (more .1) (T .ready .passed))))
+    (start t k .pre .1 .0, ((T .ready .holds, T .ready .passed), (T .element, T .room, unused T (c .before .before .before .before .before .before .before .before .before .before .if3 .taken))))
 
 extend-extend-requires : (t : ℕ) → extend-lts.Need-extend-requires (calls t) (extend-at t) extend.Post extend-Inv-loop extend-μ-loop
 extend-extend-requires t c κs =
     let w = c .before in
-    let k = w .before .before .before .before .before .before .before .before .before .before .before .before .before in
+    let k = w .before .before .before .before .before .before .before .before .before .before .before .before in
     let z = start t k in
     let T = turn t k in
-    let y = w .before .before .before .before .before .before .before .before .before .before .before .pay in
-    let p = paid (y .result .enough) (y .result .left) _ (y .ensures .0) (w .before .before .before .before .before .before .before .before .before .if4 .left) in
-    let o = w .before .before .before .before .before .before .before .before .before .before .before .before .if3 .taken in
+    let y = w .before .before .before .before .before .before .before .before .before .before .pay in
+    let p = paid (y .result .enough) (y .result .left) _ (y .ensures .0) (w .before .before .before .before .before .before .before .before .if4 .left) in
+    let o = w .before .before .before .before .before .before .before .before .before .before .before .if3 .taken in
     let room = T .room in
-    let v = tested t w in
+    let v = told t w in
     let one = v .one-more in
-    let same = v .same-length in
-    (subst (λ (j : ℕ). z .args .m - w .test .result .partial .len < j) (z .pre .0) (omega arith), (z .pre .1 .0, onward T o (y .result .left) p (w .before .place .result) (w .test .result .partial) (w .test .result .ok) v (c .if6 .taken) (w .test .ensures .1 .0 (c .if6 .taken))))
+    (subst (λ (j : ℕ). z .args .m - w .tried .result .partial .len < j) (z .pre .0) (omega arith), (z .pre .1 .0, onward T o (y .result .left) p (w .tried .result .partial) (w .tried .result .ok) v (c .if6 .taken) (w .tried .ensures .1 .1 .0 (c .if6 .taken))))
 
 extend-returns-3 : (t : ℕ) → extend-lts.Need-returns-3 (calls t) (extend-at t) extend.Post extend-Inv-loop extend-μ-loop
 extend-returns-3 t c =
     let w = c .before .before .before in
-    let k = w .before .before .before .before .before .before .before .before .before .before .before .before .before in
+    let k = w .before .before .before .before .before .before .before .before .before .before .before .before in
     let z = start t k in
     let T = turn t k in
-    let y = w .before .before .before .before .before .before .before .before .before .before .before .pay in
-    let p = paid (y .result .enough) (y .result .left) _ (y .ensures .0) (w .before .before .before .before .before .before .before .before .before .if4 .left) in
-    let o = w .before .before .before .before .before .before .before .before .before .before .before .before .if3 .taken in
+    let y = w .before .before .before .before .before .before .before .before .before .before .pay in
+    let p = paid (y .result .enough) (y .result .left) _ (y .ensures .0) (w .before .before .before .before .before .before .before .before .if4 .left) in
+    let o = w .before .before .before .before .before .before .before .before .before .before .before .if3 .taken in
     let i = c .before .extend in
-    i .ensures ∙ halt T o (y .result .left) p (w .before .place .result) (w .test .result .partial) (w .test .result .ok) (tested t w) (c .before .before .if6 .taken) (ap (λ (r : Outcome). r .stopped) (sym (i .ensures)) ∙ c .if7 .taken)
+    i .ensures ∙ halt T o (y .result .left) p (w .tried .result .partial) (w .tried .result .ok) (told t w) (c .before .before .if6 .taken) (ap (λ (r : Outcome). r .stopped) (sym (i .ensures)) ∙ c .if7 .taken)
 
 extend-returns-4 : (t : ℕ) → extend-lts.Need-returns-4 (calls t) (extend-at t) extend.Post extend-Inv-loop extend-μ-loop
 extend-returns-4 t c =
     let w = c .before .before .before .before in
-    let k = w .before .before .before .before .before .before .before .before .before .before .before .before .before in
+    let k = w .before .before .before .before .before .before .before .before .before .before .before .before in
     let z = start t k in
     let T = turn t k in
-    let y = w .before .before .before .before .before .before .before .before .before .before .before .pay in
-    let p = paid (y .result .enough) (y .result .left) _ (y .ensures .0) (w .before .before .before .before .before .before .before .before .before .if4 .left) in
-    let o = w .before .before .before .before .before .before .before .before .before .before .before .before .if3 .taken in
+    let y = w .before .before .before .before .before .before .before .before .before .before .pay in
+    let p = paid (y .result .enough) (y .result .left) _ (y .ensures .0) (w .before .before .before .before .before .before .before .before .if4 .left) in
+    let o = w .before .before .before .before .before .before .before .before .before .before .before .if3 .taken in
     let i = c .before .before .extend in
-    i .ensures ∙ found T o (y .result .left) p (w .before .place .result) (w .test .result .partial) (w .test .result .ok) (tested t w) (c .before .before .before .if6 .taken) (ap (λ (r : Outcome). r .ok) (sym (i .ensures)) ∙ c .if8 .taken)
+    i .ensures ∙ found T o (y .result .left) p (w .tried .result .partial) (w .tried .result .ok) (told t w) (c .before .before .before .if6 .taken) (ap (λ (r : Outcome). r .ok) (sym (i .ensures)) ∙ c .if8 .taken)
 
 extend-add-x : (t : ℕ) → extend-lts.Need-add-x (calls t) (extend-at t) extend.Post extend-Inv-loop extend-μ-loop
 extend-add-x t c = let n = c .before .before .before .before .before .before .before .before .before .before .before .before .pre .1 .0 .1 .order in let t = c .before .before .before .before .loop-test .taken in omega arith
@@ -242,14 +214,13 @@ extend-loop-again t c =
       l .inv .2,
       ⊎-elim
           (λ w.
-          let more = w .11 .ensures .1 .0 in
-          let test = w .12 .ensures in
-          let v : Verdict _ _ _ _ (w .11 .result) (w .12 .result .partial) (w .12 .result .ok) = record { longer = more .0; one-more = more .2; says = test .0; same-images = test .1 .1 .0 .0; same-length = test .1 .1 .0 .1 } in
-          let r = w .14 in
-          fail T (w .0 .taken) (w .1 .result .left) (paid (w .1 .result .enough) (w .1 .result .left) _ (w .1 .ensures .0) (w .3 .left)) (w .11 .result) (w .12 .result .partial) (w .12 .result .ok) v (w .13 .taken) (ap (λ (q : Outcome). q .stopped) (sym (r .ensures)) ∙ w .15 .left) (ap (λ (q : Outcome). q .ok) (sym (r .ensures)) ∙ w .16 .left)
-          ∙ rw (w .17, ap (λ (q : Outcome). q .left) (r .ensures)))
+          let e = w .11 .ensures in
+          let v : Verdict _ _ _ _ (w .11 .result .partial) (w .11 .result .ok) = record { longer = e .1 .0 .0; one-more = e .1 .0 .1; says = e .0 } in
+          let r = w .13 in
+          fail T (w .0 .taken) (w .1 .result .left) (paid (w .1 .result .enough) (w .1 .result .left) _ (w .1 .ensures .0) (w .3 .left)) (w .11 .result .partial) (w .11 .result .ok) v (w .12 .taken) (ap (λ (q : Outcome). q .stopped) (sym (r .ensures)) ∙ w .14 .left) (ap (λ (q : Outcome). q .ok) (sym (r .ensures)) ∙ w .15 .left)
+          ∙ rw (w .16, ap (λ (q : Outcome). q .left) (r .ensures)))
           (⊎-elim
-          (λ w. refuse T (w .0 .taken) (w .1 .result .left) (paid (w .1 .result .enough) (w .1 .result .left) _ (w .1 .ensures .0) (w .3 .left)) (ap (passes _ _) (sym (w .11 .ensures .1 .0 .0)) ∙ sym (w .12 .ensures .0) ∙ w .13 .left) ∙ rw (w .14))
+          (λ w. refuse T (w .0 .taken) (w .1 .result .left) (paid (w .1 .result .enough) (w .1 .result .left) _ (w .1 .ensures .0) (w .3 .left)) (sym (w .11 .ensures .0) ∙ w .12 .left) ∙ rw (w .13))
           (⊎-elim
           (λ w. refuse T (w .0 .taken) (w .1 .result .left) (paid (w .1 .result .enough) (w .1 .result .left) _ (w .1 .ensures .0) (w .3 .left)) (w .9 .ensures .1 (w .10 .left)) ∙ rw (w .11))
           (λ w. skip T (w .0 .left) ∙ rw (w .1))))
@@ -285,8 +256,7 @@ pub +extend-spec : {M : Type 1} → statement M
     (extend-no-map-requires t)
     (extend-returns-2 t)
     (extend-may-pass-requires t)
-    (extend-place-requires t)
-    (extend-test-requires t)
+    (extend-tried-requires t)
     (extend-extend-requires t)
     (extend-returns-3 t)
     (extend-returns-4 t)

@@ -2,9 +2,8 @@
 use mathlib.Core.Path.{_≡_, refl, sym, _∙_, subst}
 use mathlib.Core.Logic.{⊎-elim}
 use mathlib.Core.List.{List}
-use Prim.Native.Nat.{ℕ, _+_, _-_, _≤_, _<_}
+use Prim.Native.Nat.{ℕ, _+_, _-_, _≤_}
 use native.Mathlib.Omega.{arith}
-use Rattle.semigroups.specs.Tables.{Element}
 use Rattle.rows.specs.InnerRows.{has, Shrinks}
 use Rattle.rows.proofs.Rows.{shrinks-none, shrinks-more}
 use Rattle.narrowing.specs.InnerTwins.{sharesLater, Lifted}
