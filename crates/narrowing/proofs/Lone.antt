@@ -7,7 +7,6 @@ use mathlib.Core.List.{List}
 use Prim.Native.Nat.{ℕ, _+_, _-_, _≤_}
 use native.Mathlib.Omega.{arith}
 use borrow.Author.Tests.{eqb-true, eq-eqb, ne-eqb}
-use lib.Bits.{and-self}
 use lib.Count.{ones}
 use lib.Dec.{eqb}
 use lib.ListN.{length, set, length-set, replicate, getD-replicate, length-replicate}
@@ -21,7 +20,7 @@ use Rattle.semigroups.proofs.Lists.{mem-elements}
 use Rattle.semigroups.proofs.Sums.{sum-same, sum-add, count-element}
 use Rattle.rows.specs.declared.Row.{Row}
 use Rattle.rows.specs.InnerRows.{inRow, rowOf, has, singleRow, RowInside, Only, Shrinks, Forced}
-use Rattle.rows.proofs.Rows.{in-single, single-size, inside-single, single-unique, shrinks-has, shrinks-none, shrinks-more, only-still}
+use Rattle.rows.proofs.Rows.{in-single, single-size, inside-single, inside-self, single-unique, shrinks-has, shrinks-none, shrinks-more, only-still}
 use Rattle.narrowing.specs.InnerRows.{Narrows}
 use Rattle.narrowing.specs.InnerLone.{KeepsOrFails, Lone, NextLone}
 use Rattle.narrowing.proofs.Narrowed.{narrowed-wider, forced-kept}
@@ -30,16 +29,16 @@ use Rattle.narrowing.proofs.Narrowed.{narrowed-wider, forced-kept}
 
 module _ (m : ℕ) (s : Product) (n : ℕ) (t : Product) (f : List ℕ) (F : Embedding m s n t f) (lm : m ≤ 120) (ln : n ≤ 120) where
   -- It sends an element to what its row holds alone.
-  pub lone-image : (lo hi : List ℕ) → Among m (has lo hi) f → (c x : ℕ) → Element m c → Element 120 x → rowOf lo hi c ≡ singleRow x → at f c ≡ x
+  pub lone-image : (rows : List ℕ) → Among m (has rows) f → (c x : ℕ) → Element m c → Element 120 x → rowOf rows c ≡ singleRow x → at f c ≡ x
   unfolding has
-  lone-image lo hi among c x hc hx e =
+  lone-image rows among c x hc hx e =
       let w = F .homomorphism .within c hc in
       eqb-true (at f c) x (sym (in-single x hx (at f c) (omega arith)) ∙ ap (λ (r : Row). inRow r (at f c)) (sym e) ∙ among c hc)
 
-  pub product-kept : Closed m s → (lo hi newLo newHi : List ℕ) (a y b z : ℕ) → Element m a → Element m b → at f a ≡ y → at f b ≡ z → Forced (s a b) (t y z) lo hi newLo newHi
-      → Among m (has lo hi) f → Among m (has newLo newHi) f
-  product-kept closed lo hi newLo newHi a y b z ha hb ea eb =
-      forced-kept m s n t f F lm ln lo hi newLo newHi (s a b) (t y z) (closed a b ha hb) (F .homomorphism .keeps-product a b ha hb ∙ ap₂ t ea eb)
+  pub product-kept : Closed m s → (rows newRows : List ℕ) (a y b z : ℕ) → Element m a → Element m b → at f a ≡ y → at f b ≡ z → Forced (s a b) (t y z) rows newRows
+      → Among m (has rows) f → Among m (has newRows) f
+  product-kept closed rows newRows a y b z ha hb ea eb =
+      forced-kept m s n t f F lm ln rows newRows (s a b) (t y z) (closed a b ha hb) (F .homomorphism .keeps-product a b ha hb ∙ ap₂ t ea eb)
 
 -- ---- marks of use
 
@@ -80,64 +79,64 @@ module _ (used : List ℕ) (l : ℕ) (first : 1 ≤ l) (fits : l ≤ length used
 
 -- ---- narrowed by what row c holds alone
 
-module _ (m : ℕ) (s : Product) (n : ℕ) (t : Product) (lo₀ hi₀ : List ℕ) where
+module _ (m : ℕ) (s : Product) (n : ℕ) (t : Product) (rows₀ : List ℕ) where
   -- Row c was used: it has at most the image that it held alone then, and the rows are narrowed by it.
-  pub record Used (lo hi : List ℕ) (c : ℕ) : Type 0 where
+  pub record Used (rows : List ℕ) (c : ℕ) : Type 0 where
     pub image : ℕ
     pub element : Element 120 image
-    pub only : Only lo hi c image
-    pub narrows : Element n image → Narrows m s n t c image (has lo₀ hi₀) (has lo hi)
+    pub only : Only rows c image
+    pub narrows : Element n image → Narrows m s n t c image (has rows₀) (has rows)
 
   -- What holds while rows are used, where l is the next to be used, or 0.
-  pub record Propagating (lo hi used : List ℕ) (l : ℕ) : Type 0 where
+  pub record Propagating (rows used : List ℕ) (l : ℕ) : Type 0 where
     pub long : length used ≡ 120
-    pub keeps : (f : List ℕ) → Embedding m s n t f → Among m (has lo₀ hi₀) f → Among m (has lo hi) f
-    pub shrinks : Shrinks lo₀ hi₀ lo hi
-    pub done : (c : ℕ) → Element m c → (at used c ≡ 0 → ⊥) → Used lo hi c
-    pub next : NextLone lo hi used m l
+    pub keeps : (f : List ℕ) → Embedding m s n t f → Among m (has rows₀) f → Among m (has rows) f
+    pub shrinks : Shrinks rows₀ rows
+    pub done : (c : ℕ) → Element m c → (at used c ≡ 0 → ⊥) → Used rows c
+    pub next : NextLone rows used m l
 
 module _ (m : ℕ) (s : Product) (n : ℕ) (t : Product) (closed : Closed m s) (lm : m ≤ 120) where
-  narrows-still : (old : ℕ → ℕ → Bool) (lo hi newLo newHi : List ℕ) → Shrinks lo hi newLo newHi → (l x : ℕ) → Narrows m s n t l x old (has lo hi) → Narrows m s n t l x old (has newLo newHi)
-  narrows-still old lo hi newLo newHi less l x N c y hc hy e = N c y hc hy (shrinks-has lo hi newLo newHi less c y (omega arith) e)
+  narrows-still : (old : ℕ → ℕ → Bool) (rows newRows : List ℕ) → Shrinks rows newRows → (l x : ℕ) → Narrows m s n t l x old (has rows) → Narrows m s n t l x old (has newRows)
+  narrows-still old rows newRows less l x N c y hc hy e = N c y hc hy (shrinks-has rows newRows less c y (omega arith) e)
 
-  pub narrows-wider : (lo₀ hi₀ lo hi : List ℕ) → Shrinks lo₀ hi₀ lo hi → (l x : ℕ) → Element m l → (new : ℕ → ℕ → Bool) → Narrows m s n t l x (has lo hi) new → Narrows m s n t l x (has lo₀ hi₀) new
-  narrows-wider lo₀ hi₀ lo hi less l x hl new N c y hc hy e = narrowed-wider m s t closed lm lo₀ hi₀ lo hi less l x c y hl hc (N c y hc hy e)
+  pub narrows-wider : (rows₀ rows : List ℕ) → Shrinks rows₀ rows → (l x : ℕ) → Element m l → (new : ℕ → ℕ → Bool) → Narrows m s n t l x (has rows) new → Narrows m s n t l x (has rows₀) new
+  narrows-wider rows₀ rows less l x hl new N c y hc hy e = narrowed-wider m s t closed lm rows₀ rows less l x c y hl hc (N c y hc hy e)
 
-  module _ (lo₀ hi₀ : List ℕ) where
-    abbrev UsedNow : List ℕ → List ℕ → ℕ → Type 0
-    UsedNow lo hi c = Used m s n t lo₀ hi₀ lo hi c
+  module _ (rows₀ : List ℕ) where
+    abbrev UsedNow : List ℕ → ℕ → Type 0
+    UsedNow rows c = Used m s n t rows₀ rows c
 
-    used-still : (lo hi newLo newHi : List ℕ) → Shrinks lo hi newLo newHi → (c : ℕ) → Element m c → UsedNow lo hi c → UsedNow newLo newHi c
-    used-still lo hi newLo newHi less c hc u =
+    used-still : (rows newRows : List ℕ) → Shrinks rows newRows → (c : ℕ) → Element m c → UsedNow rows c → UsedNow newRows c
+    used-still rows newRows less c hc u =
         record {
           image = u .image;
           element = u .element;
-          only = only-still lo hi newLo newHi less c (u .image) (omega arith) (u .only);
-          narrows = λ h. narrows-still (has lo₀ hi₀) lo hi newLo newHi less c (u .image) (u .narrows h);
+          only = only-still rows newRows less c (u .image) (omega arith) (u .only);
+          narrows = λ h. narrows-still (has rows₀) rows newRows less c (u .image) (u .narrows h);
         }
 
-    used-now : (lo hi newLo newHi : List ℕ) → Shrinks lo₀ hi₀ lo hi → Shrinks lo hi newLo newHi → (l : ℕ) → Element m l → (w : Lone lo hi l)
-        → ((x : ℕ) → Element n x → rowOf lo hi l ≡ singleRow x → Narrows m s n t l x (has lo hi) (has newLo newHi)) → UsedNow newLo newHi l
-    used-now lo hi newLo newHi before less l hl w N =
+    used-now : (rows newRows : List ℕ) → Shrinks rows₀ rows → Shrinks rows newRows → (l : ℕ) → Element m l → (w : Lone rows l)
+        → ((x : ℕ) → Element n x → rowOf rows l ≡ singleRow x → Narrows m s n t l x (has rows) (has newRows)) → UsedNow newRows l
+    used-now rows newRows before less l hl w N =
         record {
           image = w .image;
           element = w .element;
-          only = only-still lo hi newLo newHi less l (w .image) (omega arith) (subst (RowInside (rowOf lo hi l)) (w .row) (and-self (at lo l), and-self (at hi l)));
-          narrows = λ h. narrows-wider lo₀ hi₀ lo hi before l (w .image) hl (has newLo newHi) (N (w .image) h (w .row));
+          only = only-still rows newRows less l (w .image) (omega arith) (subst (RowInside (rowOf rows l)) (w .row) (inside-self (rowOf rows l)));
+          narrows = λ h. narrows-wider rows₀ rows before l (w .image) hl (has newRows) (N (w .image) h (w .row));
         }
 
-    pub propagating-start : (l : ℕ) → NextLone lo₀ hi₀ (replicate 120 0) m l → Propagating m s n t lo₀ hi₀ lo₀ hi₀ (replicate 120 0) l
+    pub propagating-start : (l : ℕ) → NextLone rows₀ (replicate 120 0) m l → Propagating m s n t rows₀ rows₀ (replicate 120 0) l
     unfolding at
     propagating-start l next =
         record {
           long = length-replicate {A = ℕ} 120 0;
           keeps = λ f F h. h;
-          shrinks = shrinks-none lo₀ hi₀;
+          shrinks = shrinks-none rows₀;
           done = λ c hc ne. absurd (ne (getD-replicate {A = ℕ} 120 (c - 1) 0 0 (omega arith)));
           next = next;
         }
 
-    module _ (lo hi used : List ℕ) (l : ℕ) (P : Propagating m s n t lo₀ hi₀ lo hi used l) where
+    module _ (rows used : List ℕ) (l : ℕ) (P : Propagating m s n t rows₀ rows used l) where
       module _ (more : l ≡ 0 → ⊥) where
         pub next-element : Element m l
         next-element = let h = P .next .most in omega arith
@@ -145,38 +144,38 @@ module _ (m : ℕ) (s : Product) (n : ℕ) (t : Product) (closed : Closed m s) (
         pub fewer : unused m used ≡ unused m (set used (l - 1) 1) + 1
         fewer = let h = next-element in let e = P .long in one-fewer used l (h .0) (omega arith) m h (P .next .waits (h .0) .0)
 
-        pub propagating-more : (newLo newHi : List ℕ) (then : ℕ) → KeepsOrFails m s n t (has lo hi) true (has newLo newHi) → Shrinks lo hi newLo newHi
-            → ((x : ℕ) → Element n x → rowOf lo hi l ≡ singleRow x → Narrows m s n t l x (has lo hi) (has newLo newHi)) → NextLone newLo newHi (set used (l - 1) 1) m then
-            → Propagating m s n t lo₀ hi₀ newLo newHi (set used (l - 1) 1) then
-        propagating-more newLo newHi then kept less N next =
+        pub propagating-more : (newRows : List ℕ) (then : ℕ) → KeepsOrFails m s n t (has rows) true (has newRows) → Shrinks rows newRows
+            → ((x : ℕ) → Element n x → rowOf rows l ≡ singleRow x → Narrows m s n t l x (has rows) (has newRows)) → NextLone newRows (set used (l - 1) 1) m then
+            → Propagating m s n t rows₀ newRows (set used (l - 1) 1) then
+        propagating-more newRows then kept less N next =
             record {
               long = length-set used (l - 1) 1 ∙ P .long;
               keeps = λ f F h. kept f F (P .keeps f F h) .1;
-              shrinks = shrinks-more lo hi newLo newHi lo₀ hi₀ (P .shrinks) less;
+              shrinks = shrinks-more rows newRows rows₀ (P .shrinks) less;
               done = λ c hc ne. go c hc ne (equal-or-not c l);
               next = next;
             }
           where
-            go : (c : ℕ) → Element m c → (at (set used (l - 1) 1) c ≡ 0 → ⊥) → (c ≡ l) ⊎ (c ≡ l → ⊥) → UsedNow newLo newHi c
+            go : (c : ℕ) → Element m c → (at (set used (l - 1) 1) c ≡ 0 → ⊥) → (c ≡ l) ⊎ (c ≡ l → ⊥) → UsedNow newRows c
             go c hc ne (inl q) =
                 let h = next-element in
-                subst (UsedNow newLo newHi) (sym q) (used-now lo hi newLo newHi (P .shrinks) less l h (P .next .waits (h .0) .1) N)
+                subst (UsedNow newRows) (sym q) (used-now rows newRows (P .shrinks) less l h (P .next .waits (h .0) .1) N)
             go c hc ne (inr apart) =
                 let h = next-element in
                 let e = P .long in
-                used-still lo hi newLo newHi less c hc (P .done c hc (λ z. ne (marked-other used l (h .0) (omega arith) c (hc .0) apart ∙ z)))
+                used-still rows newRows less c hc (P .done c hc (λ z. ne (marked-other used l (h .0) (omega arith) c (hc .0) apart ∙ z)))
 
       -- No row is left to be used: each that holds one element alone has narrowed the others.
-      pub all-narrowed : l ≡ 0 → n ≤ 120 → (c x : ℕ) → Element m c → Element n x → rowOf lo hi c ≡ singleRow x → Narrows m s n t c x (has lo₀ hi₀) (has lo hi)
+      pub all-narrowed : l ≡ 0 → n ≤ 120 → (c x : ℕ) → Element m c → Element n x → rowOf rows c ≡ singleRow x → Narrows m s n t c x (has rows₀) (has rows)
       all-narrowed none ln c x hc hx e = go (equal-or-not (at used c) 0)
         where
           inside : Element 120 x
           inside = omega arith
 
-          go : (at used c ≡ 0) ⊎ (at used c ≡ 0 → ⊥) → Narrows m s n t c x (has lo₀ hi₀) (has lo hi)
+          go : (at used c ≡ 0) ⊎ (at used c ≡ 0 → ⊥) → Narrows m s n t c x (has rows₀) (has rows)
           go (inl z) = absurd (P .next .before c hc (λ h. absurd (let w : ⊥ = omega arith in w)) z (record { image = x; element = inside; row = e }))
           go (inr ne) =
               let u = P .done c hc ne in
-              let size : ones (at lo c) + ones (at hi c) ≡ 1 = ap (λ (r : Row). ones (r .lo) + ones (r .hi)) e ∙ single-size x inside in
-              let same : u .image ≡ x = single-unique (u .image) x (u .element) inside (sym (inside-single (u .image) (u .element) (rowOf lo hi c) (u .only) (omega arith)) ∙ e) in
-              subst (λ (v : ℕ). Narrows m s n t c v (has lo₀ hi₀) (has lo hi)) same (u .narrows (subst (Element n) (sym same) hx))
+              let size : ones (rowOf rows c .lo) + ones (rowOf rows c .hi) ≡ 1 = ap (λ (r : Row). ones (r .lo) + ones (r .hi)) e ∙ single-size x inside in
+              let same : u .image ≡ x = single-unique (u .image) x (u .element) inside (sym (inside-single (u .image) (u .element) (rowOf rows c) (u .only) (omega arith)) ∙ e) in
+              subst (λ (v : ℕ). Narrows m s n t c v (has rows₀) (has rows)) same (u .narrows (subst (Element n) (sym same) hx))

@@ -34,11 +34,12 @@ full-row : row 1152921504606846975 1152921504606846975 ≡ packedRow 120 (λ _. 
 unfolding packedRow word
 full-row = refl
 
-pub all-left : (c y : ℕ) → Element 120 c → Element 120 y → has (replicate 120 1152921504606846975) (replicate 120 1152921504606846975) c y ≡ true
+pub all-left : (c y : ℕ) → Element 120 c → Element 120 y → has (replicate 240 1152921504606846975) c y ≡ true
 unfolding has at
 all-left c y hc hy =
-    let entry = getD-replicate {A = ℕ} 120 (c - 1) 1152921504606846975 0 (omega arith) in
-    ap₂ (λ (a b : ℕ). inRow (row a b) y) entry entry ∙ ap (λ (r : Row). inRow r y) full-row ∙ in-packed-row 120 (λ _. true) y hy
+    let low = getD-replicate {A = ℕ} 240 (c - 1) 1152921504606846975 0 (omega arith) in
+    let high = getD-replicate {A = ℕ} 240 (120 + c - 1) 1152921504606846975 0 (omega arith) in
+    ap₂ (λ (a b : ℕ). inRow (row a b) y) low high ∙ ap (λ (r : Row). inRow r y) full-row ∙ in-packed-row 120 (λ _. true) y hy
 
 -- ---- the test of one element
 
@@ -57,30 +58,30 @@ module _ (t : Product) (x looks : ℕ) (left right : Row) (y : ℕ) where
 
 -- ---- a row as it is read
 
-module _ (s t : Product) (lo hi : List ℕ) (l x c : ℕ) (looks : ℕ) (is : looks ≡ pattern l c (s l c) (s c l))
-    (old left right : Row) (was : old ≡ rowOf lo hi c) (of-left : left ≡ rowOf lo hi (s l c)) (of-right : right ≡ rowOf lo hi (s c l)) where
-  same-test : (y : ℕ) → (inRow old y && stays t x looks left right y) ≡ narrowed s t (has lo hi) l x c y
+module _ (s t : Product) (rows : List ℕ) (l x c : ℕ) (looks : ℕ) (is : looks ≡ pattern l c (s l c) (s c l))
+    (old left right : Row) (was : old ≡ rowOf rows c) (of-left : left ≡ rowOf rows (s l c)) (of-right : right ≡ rowOf rows (s c l)) where
+  same-test : (y : ℕ) → (inRow old y && stays t x looks left right y) ≡ narrowed s t (has rows) l x c y
   unfolding narrowed stays has
   same-test y = rw (is, was, of-left, of-right)
 
-  pub low-narrowed : (k : ℕ) → k ≤ 60 → word (λ y. hasBit (old .lo) (y - 1) && stays t x looks left right y) 1 k ≡ word (narrowed s t (has lo hi) l x c) 1 k
+  pub low-narrowed : (k : ℕ) → k ≤ 60 → word (λ y. hasBit (old .lo) (y - 1) && stays t x looks left right y) 1 k ≡ word (narrowed s t (has rows) l x c) 1 k
   low-narrowed k h =
-      word-same (λ y. hasBit (old .lo) (y - 1) && stays t x looks left right y) (narrowed s t (has lo hi) l x c) 1 k
+      word-same (λ y. hasBit (old .lo) (y - 1) && stays t x looks left right y) (narrowed s t (has rows) l x c) 1 k
       (λ j b. ap (λ (w : Bool). w && stays t x looks left right (1 + j)) (row-low old (1 + j) (omega arith)) ∙ same-test (1 + j))
 
-  pub high-narrowed : (k : ℕ) → word (λ y. hasBit (old .hi) (y - 61) && stays t x looks left right y) 61 k ≡ word (narrowed s t (has lo hi) l x c) 61 k
+  pub high-narrowed : (k : ℕ) → word (λ y. hasBit (old .hi) (y - 61) && stays t x looks left right y) 61 k ≡ word (narrowed s t (has rows) l x c) 61 k
   high-narrowed k =
-      word-same (λ y. hasBit (old .hi) (y - 61) && stays t x looks left right y) (narrowed s t (has lo hi) l x c) 61 k
+      word-same (λ y. hasBit (old .hi) (y - 61) && stays t x looks left right y) (narrowed s t (has rows) l x c) 61 k
       (λ j b. ap (λ (w : Bool). w && stays t x looks left right (61 + j)) (row-high old (61 + j) (omega arith)) ∙ same-test (61 + j))
 
 -- ---- rows narrowed one after another: those before c are done
 
 -- What is left after a placing over rows that shrank is left over the rows before.
-pub narrowed-wider : (m : ℕ) (s t : Product) → Closed m s → m ≤ 120 → (lo₀ hi₀ lo hi : List ℕ) → Shrinks lo₀ hi₀ lo hi → (l x c y : ℕ) → Element m l → Element m c → narrowed s t (has lo hi) l x c y ≡ true → narrowed s t (has lo₀ hi₀) l x c y ≡ true
+pub narrowed-wider : (m : ℕ) (s t : Product) → Closed m s → m ≤ 120 → (rows₀ rows : List ℕ) → Shrinks rows₀ rows → (l x c y : ℕ) → Element m l → Element m c → narrowed s t (has rows) l x c y ≡ true → narrowed s t (has rows₀) l x c y ≡ true
 unfolding narrowed
-narrowed-wider m s t closed lm lo₀ hi₀ lo hi less l x c y hl hc e =
-    let new : ℕ → ℕ → Bool = has lo hi in
-    let old : ℕ → ℕ → Bool = has lo₀ hi₀ in
+narrowed-wider m s t closed lm rows₀ rows less l x c y hl hc e =
+    let new : ℕ → ℕ → Bool = has rows in
+    let old : ℕ → ℕ → Bool = has rows₀ in
     let alike = eqb (pattern x y (t x y) (t y x)) (pattern l c (s l c) (s c l)) in
     let right = new (s c l) (t y x) in
     let left = new (s l c) (t x y) in
@@ -88,23 +89,23 @@ narrowed-wider m s t closed lm lo₀ hi₀ lo hi less l x c y hl hc e =
     let cl = closed c l hc hl in
     let rest = and-right (new c y) (left && (right && alike)) e in
     let last = and-right left (right && alike) rest in
-    both (old c y) (old (s l c) (t x y) && (old (s c l) (t y x) && alike)) (shrinks-has lo₀ hi₀ lo hi less c y (omega arith) (and-left (new c y) (left && (right && alike)) e))
-    (both (old (s l c) (t x y)) (old (s c l) (t y x) && alike) (shrinks-has lo₀ hi₀ lo hi less (s l c) (t x y) (omega arith) (and-left left (right && alike) rest))
-    (both (old (s c l) (t y x)) alike (shrinks-has lo₀ hi₀ lo hi less (s c l) (t y x) (omega arith) (and-left right alike last)) (and-right right alike last)))
+    both (old c y) (old (s l c) (t x y) && (old (s c l) (t y x) && alike)) (shrinks-has rows₀ rows less c y (omega arith) (and-left (new c y) (left && (right && alike)) e))
+    (both (old (s l c) (t x y)) (old (s c l) (t y x) && alike) (shrinks-has rows₀ rows less (s l c) (t x y) (omega arith) (and-left left (right && alike) rest))
+    (both (old (s c l) (t y x)) alike (shrinks-has rows₀ rows less (s c l) (t y x) (omega arith) (and-left right alike last)) (and-right right alike last)))
 
-pub narrows-more : (m : ℕ) (s : Product) (n : ℕ) (t : Product) → Closed m s → m ≤ 120 → (lo₀ hi₀ lo hi : List ℕ) → Shrinks lo₀ hi₀ lo hi → (l x c : ℕ) → Element m l → Element m c → (r : Row) → r ≡ packedRow n (narrowed s t (has lo hi) l x c)
-    → Narrows (c - 1) s n t l x (has lo₀ hi₀) (has lo hi) → Narrows (c + 1 - 1) s n t l x (has lo₀ hi₀) (has (masked lo c (r .lo)) (masked hi c (r .hi)))
-narrows-more m s n t closed lm lo₀ hi₀ lo hi less l x c hl hc r is N d y hd hy = go (equal-or-not d c)
+pub narrows-more : (m : ℕ) (s : Product) (n : ℕ) (t : Product) → Closed m s → m ≤ 120 → (rows₀ rows : List ℕ) → Shrinks rows₀ rows → (l x c : ℕ) → Element m l → Element m c → (r : Row) → r ≡ packedRow n (narrowed s t (has rows) l x c)
+    → Narrows (c - 1) s n t l x (has rows₀) (has rows) → Narrows (c + 1 - 1) s n t l x (has rows₀) (has (masked rows c r))
+narrows-more m s n t closed lm rows₀ rows less l x c hl hc r is N d y hd hy = go (equal-or-not d c)
   where
     new : ℕ → ℕ → Bool
-    new = has (masked lo c (r .lo)) (masked hi c (r .hi))
+    new = has (masked rows c r)
 
-    go : (d ≡ c) ⊎ (d ≡ c → ⊥) → new d y ≡ true → narrowed s t (has lo₀ hi₀) l x d y ≡ true
+    go : (d ≡ c) ⊎ (d ≡ c → ⊥) → new d y ≡ true → narrowed s t (has rows₀) l x d y ≡ true
     go (inl q) e =
-        let here = and-right (has lo hi c y) (inRow r y) (sym (has-masked lo hi c (omega arith) r y) ∙ ap (λ (k : ℕ). new k y) (sym q) ∙ e) in
-        ap (λ (k : ℕ). narrowed s t (has lo₀ hi₀) l x k y) q
-        ∙ narrowed-wider m s t closed lm lo₀ hi₀ lo hi less l x c y hl hc (sym (ap (λ (w : Row). inRow w y) is ∙ in-packed-row n (narrowed s t (has lo hi) l x c) y hy) ∙ here)
-    go (inr ne) e = N d y (omega arith) hy (sym (other-masked lo hi c (omega arith) r y d (omega arith) ne) ∙ e)
+        let here = and-right (has rows c y) (inRow r y) (sym (has-masked rows c (omega arith) r y) ∙ ap (λ (k : ℕ). new k y) (sym q) ∙ e) in
+        ap (λ (k : ℕ). narrowed s t (has rows₀) l x k y) q
+        ∙ narrowed-wider m s t closed lm rows₀ rows less l x c y hl hc (sym (ap (λ (w : Row). inRow w y) is ∙ in-packed-row n (narrowed s t (has rows) l x c) y hy) ∙ here)
+    go (inr ne) e = N d y (omega arith) hy (sym (other-masked rows c (omega arith) r y d (omega arith) ne) ∙ e)
 
 -- ---- a forced row
 
@@ -112,13 +113,13 @@ cond-of : (a b : Bool) → (a ≡ true → b ≡ true) → cond a b true ≡ tru
 cond-of true b h = h refl
 cond-of false b h = refl
 
-pub forced-kept : (m : ℕ) (s : Product) (n : ℕ) (t : Product) (f : List ℕ) → Embedding m s n t f → m ≤ 120 → n ≤ 120 → (lo hi newLo newHi : List ℕ) (c v : ℕ) → Element m c → at f c ≡ v → Forced c v lo hi newLo newHi
-    → Among m (has lo hi) f → Among m (has newLo newHi) f
-forced-kept m s n t f F lm ln lo hi newLo newHi c v hc e forced among d hd =
+pub forced-kept : (m : ℕ) (s : Product) (n : ℕ) (t : Product) (f : List ℕ) → Embedding m s n t f → m ≤ 120 → n ≤ 120 → (rows newRows : List ℕ) (c v : ℕ) → Element m c → at f c ≡ v → Forced c v rows newRows
+    → Among m (has rows) f → Among m (has newRows) f
+forced-kept m s n t f F lm ln rows newRows c v hc e forced among d hd =
     let w = F .homomorphism .within d hd in
     let u : Element n v = subst (Element n) e (F .homomorphism .within c hc) in
-    forced-has lo hi newLo newHi c v (omega arith) (omega arith) forced d (at f d) (omega arith) (omega arith)
-    ∙ both (has lo hi d (at f d)) (cond (eqb d c) (eqb (at f d) v) true) (among d hd) (cond-of (eqb d c) (eqb (at f d) v) (λ q. eq-eqb (at f d) v (ap (at f) (eqb-true d c q) ∙ e)))
+    forced-has rows newRows c v (omega arith) (omega arith) forced d (at f d) (omega arith) (omega arith)
+    ∙ both (has rows d (at f d)) (cond (eqb d c) (eqb (at f d) v) true) (among d hd) (cond-of (eqb d c) (eqb (at f d) v) (λ q. eq-eqb (at f d) v (ap (at f) (eqb-true d c q) ∙ e)))
 
 -- ---- rows that an embedding is among
 
@@ -162,27 +163,27 @@ module _ (m : ℕ) (s : Product) (n : ℕ) (t : Product) (closed : Closed m s) (
 
   -- ---- row c narrowed
 
-  module _ (lo hi : List ℕ) (among : Among m (has lo hi) f) (l x c : ℕ) (hl : Element m l) (hc : Element m c) (e : at f l ≡ x) (r : Row) (is : r ≡ packedRow n (narrowed s t (has lo hi) l x c)) where
+  module _ (rows : List ℕ) (among : Among m (has rows) f) (l x c : ℕ) (hl : Element m l) (hc : Element m c) (e : at f l ≡ x) (r : Row) (is : r ≡ packedRow n (narrowed s t (has rows) l x c)) where
     image-stays : inRow r (at f c) ≡ true
     image-stays =
-        ap (λ (w : Row). inRow w (at f c)) is ∙ in-packed-row n (narrowed s t (has lo hi) l x c) (at f c) (F .homomorphism .within c hc)
-        ∙ narrowed-kept (has lo hi) among l x c hl hc e
+        ap (λ (w : Row). inRow w (at f c)) is ∙ in-packed-row n (narrowed s t (has rows) l x c) (at f c) (F .homomorphism .within c hc)
+        ∙ narrowed-kept (has rows) among l x c hl hc e
 
     pub not-empty : isEmpty r ≡ false
     not-empty = untrue (isEmpty r) (λ h. clash {b = inRow r (at f c)} image-stays (none-in-empty r (at f c) h))
 
-    pub mask-kept : m ≤ 120 → Among m (has (masked lo c (r .lo)) (masked hi c (r .hi))) f
+    pub mask-kept : m ≤ 120 → Among m (has (masked rows c r)) f
     mask-kept lm d hd = go (equal-or-not d c)
       where
         new : ℕ → ℕ → Bool
-        new = has (masked lo c (r .lo)) (masked hi c (r .hi))
+        new = has (masked rows c r)
 
         go : (d ≡ c) ⊎ (d ≡ c → ⊥) → new d (at f d) ≡ true
-        go (inl q) = ap (λ (k : ℕ). new k (at f k)) q ∙ has-masked lo hi c (omega arith) r (at f c) ∙ both (has lo hi c (at f c)) (inRow r (at f c)) (among c hc) image-stays
-        go (inr ne) = other-masked lo hi c (omega arith) r (at f d) d (omega arith) ne ∙ among d hd
+        go (inl q) = ap (λ (k : ℕ). new k (at f k)) q ∙ has-masked rows c (omega arith) r (at f c) ∙ both (has rows c (at f c)) (inRow r (at f c)) (among c hc) image-stays
+        go (inr ne) = other-masked rows c (omega arith) r (at f d) d (omega arith) ne ∙ among d hd
 
   -- ---- the product of two elements whose images are placed
 
-  pub pair-kept : m ≤ 120 → n ≤ 120 → (image lo hi newLo newHi : List ℕ) (a b : ℕ) → Element m a → Element m b → at f a ≡ at image a → at f b ≡ at image b
-      → Forced (s a b) (t (at image a) (at image b)) lo hi newLo newHi → Among m (has lo hi) f → Among m (has newLo newHi) f
-  pair-kept lm ln image lo hi newLo newHi a b ha hb ea eb = forced-kept m s n t f F lm ln lo hi newLo newHi (s a b) (t (at image a) (at image b)) (closed a b ha hb) (sym (kept a b ha hb) ∙ ap₂ t ea eb)
+  pub pair-kept : m ≤ 120 → n ≤ 120 → (image rows newRows : List ℕ) (a b : ℕ) → Element m a → Element m b → at f a ≡ at image a → at f b ≡ at image b
+      → Forced (s a b) (t (at image a) (at image b)) rows newRows → Among m (has rows) f → Among m (has newRows) f
+  pair-kept lm ln image rows newRows a b ha hb ea eb = forced-kept m s n t f F lm ln rows newRows (s a b) (t (at image a) (at image b)) (closed a b ha hb) (sym (kept a b ha hb) ∙ ap₂ t ea eb)

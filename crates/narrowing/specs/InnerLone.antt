@@ -17,19 +17,19 @@ abbrev pub KeepsOrFails : ℕ → Product → ℕ → Product → (ℕ → ℕ �
 KeepsOrFails m s n t old ok new = (f : List ℕ) → Embedding m s n t f → Among m old f → (ok ≡ true) × Among m new f
 
 -- The element that row c holds alone.
-pub record Lone (lo hi : List ℕ) (c : ℕ) : Type 0 where
+pub record Lone (rows : List ℕ) (c : ℕ) : Type 0 where
   pub image : ℕ
   pub element : Element 120 image
-  pub row : rowOf lo hi c ≡ singleRow image
+  pub row : rowOf rows c ≡ singleRow image
 
 -- The answer is whether row c holds one element alone and its mark of use is 0.
-pub record Waits (lo hi used : List ℕ) (c : ℕ) (r : Bool) : Type 0 where
+pub record Waits (rows used : List ℕ) (c : ℕ) (r : Bool) : Type 0 where
   pub unused : r ≡ true → at used c ≡ 0
-  pub lone : r ≡ true → Lone lo hi c
-  pub none : r ≡ false → at used c ≡ 0 → Lone lo hi c → ⊥
+  pub lone : r ≡ true → Lone rows c
+  pub none : r ≡ false → at used c ≡ 0 → Lone rows c → ⊥
 
 -- The number is that of the first of m elements whose row holds one element alone and whose mark of use is 0, or 0 if there is none.
-pub record NextLone (lo hi used : List ℕ) (m r : ℕ) : Type 0 where
+pub record NextLone (rows used : List ℕ) (m r : ℕ) : Type 0 where
   pub most : r ≤ m
-  pub waits : 1 ≤ r → (at used r ≡ 0) × Lone lo hi r
-  pub before : (c : ℕ) → Element m c → (1 ≤ r → c < r) → at used c ≡ 0 → Lone lo hi c → ⊥
+  pub waits : 1 ≤ r → (at used r ≡ 0) × Lone rows r
+  pub before : (c : ℕ) → Element m c → (1 ≤ r → c < r) → at used c ≡ 0 → Lone rows c → ⊥

@@ -43,8 +43,8 @@ abbrev pub Keeps : ℕ → Product → ℕ → Product → List ℕ → ℕ → 
 Keeps m s n t image len old new = (f : List ℕ) → Embedding m s n t f → Begins f image len → Among m old f → Among m new f
 
 -- The rows of the products of l with the first k elements, on both sides, have at most the products of their images.
-abbrev pub Multiplied : Product → Product → List ℕ → ℕ → ℕ → List ℕ → List ℕ → Type 0
-Multiplied s t image l k lo hi = (i : ℕ) → Element k i → Only lo hi (s i l) (t (at image i) (at image l)) × Only lo hi (s l i) (t (at image l) (at image i))
+abbrev pub Multiplied : Product → Product → List ℕ → ℕ → ℕ → List ℕ → Type 0
+Multiplied s t image l k rows = (i : ℕ) → Element k i → Only rows (s i l) (t (at image i) (at image l)) × Only rows (s l i) (t (at image l) (at image i))
 
 -- What is left after placing x for l passes `narrowed` over the old rows.
 abbrev pub Narrows : ℕ → Product → ℕ → Product → ℕ → ℕ → (ℕ → ℕ → Bool) → (ℕ → ℕ → Bool) → Type 0

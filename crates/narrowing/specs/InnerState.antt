@@ -21,7 +21,7 @@ abbrev pub placedList : Partial → List ℕ
 placedList p = take (p .len) (p .image)
 
 abbrev pub rowsIn : Partial → ℕ → ℕ → Bool
-rowsIn p = has (p .lo) (p .hi)
+rowsIn p = has (p .rows)
 
 -- What a call must return.
 abbrev pub Due : Product → ℕ → Product → ℕ → List ℕ → List ℕ → Bool → Partial → Option (List ℕ)
@@ -36,18 +36,18 @@ pub record PlacedImages (n : ℕ) (image : List ℕ) (len : ℕ) : Type 0 where
 
 -- What the rows hold of the images placed: the row of a placed element has at most its image, and the row of the product of two of the first `paired`
 -- elements at most the product of their images.
-pub record Settled (s t : Product) (image : List ℕ) (len paired : ℕ) (lo hi : List ℕ) : Type 0 where
-  pub own : (i : ℕ) → Element len i → Only lo hi i (at image i)
-  pub products : (i j : ℕ) → Element paired i → Element paired j → Only lo hi (s i j) (t (at image i) (at image j))
+pub record Settled (s t : Product) (image : List ℕ) (len paired : ℕ) (rows : List ℕ) : Type 0 where
+  pub own : (i : ℕ) → Element len i → Only rows i (at image i)
+  pub products : (i j : ℕ) → Element paired i → Element paired j → Only rows (s i j) (t (at image i) (at image j))
 
 -- What holds whenever the search goes on from a partial map.
 pub record Reached (s : Product) (m : ℕ) (t : Product) (n : ℕ) (scratch after : List ℕ) (tight : Bool) (p : Partial) : Type 0 where
   pub placing : PlacedImages n (p .image) (p .len)
   pub within : p .len ≤ m
   pub marks : (i : ℕ) → Element (p .len) i → marked n scratch i (at (p .image) i) ≡ true
-  pub settled : Settled s t (p .image) (p .len) (p .len) (p .lo) (p .hi)
+  pub settled : Settled s t (p .image) (p .len) (p .len) (p .rows)
   pub passed : p .ok ≡ true → Placed n (placedList p) × (passes s t (placedList p) ≡ true)
-  pub covers : (f : List ℕ) → Embedding m s n t f → Among m (marked n scratch) f → Begins f (p .image) (p .len) → (p .ok ≡ true) × Among m (has (p .lo) (p .hi)) f
+  pub covers : (f : List ℕ) → Embedding m s n t f → Among m (marked n scratch) f → Begins f (p .image) (p .len) → (p .ok ≡ true) × Among m (has (p .rows)) f
   pub space : scratchSize m n ≤ length scratch
   pub bound : length after ≡ m
   pub same : tight ≡ true → take (p .len) after ≡ placedList p

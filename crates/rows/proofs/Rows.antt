@@ -1,5 +1,5 @@
 -- The bits of a row, of a row that is replaced or masked, and of the row of one element. Assumes nothing.
-use mathlib.Core.Path.{_≡_, refl, sym, ap, ap₂, _∙_, subst, subst₂}
+use mathlib.Core.Path.{_≡_, refl, sym, ap, ap₂, _∙_, subst}
 use mathlib.Core.Bool.{Bool, true, false, _&&_, cond, and-true}
 use mathlib.Core.Logic.{_⊎_, inl, inr, ⊎-elim}
 use mathlib.Core.List.{List, [], _∷_}
@@ -18,7 +18,7 @@ use Rattle.semigroups.specs.Tables.{Element}
 use Rattle.semigroups.specs.Scratch.{marked}
 use Rattle.semigroups.proofs.Booleans.{and-left, and-right, at-most-or-above, equal-or-not}
 use Rattle.rows.specs.declared.Row.{Row}
-use Rattle.rows.specs.InnerRows.{hasBit, inRow, isEmpty, rowOf, has, packedRow, masked, singleRow, lowestElement, Alone, RowInside, Only, Shrinks, Forced, Marked}
+use Rattle.rows.specs.InnerRows.{hasBit, inRow, isEmpty, rowOf, has, packedRow, maskedWord, masked, singleRow, lowestElement, Alone, RowInside, Only, Shrinks, Forced, Marked}
 use Rattle.rows.proofs.Words.{bit-of-word, bit-past, single-word, other-word}
 use Rattle.rows.proofs.Masks.{and-bit, inside-inside, inside-mask, inside-old, inside-bit, ones-zero, ones-power}
 
@@ -193,83 +193,102 @@ masked-at [] i w = sym (and-zero-l w)
 masked-at (x ∷ l) zero w = refl
 masked-at (x ∷ l) (suc i) w = masked-at l i w
 
-module _ (lo hi : List ℕ) (c : ℕ) (hc : Element 120 c) (r : Row) (y : ℕ) where
-  pub has-masked : has (masked lo c (r .lo)) (masked hi c (r .hi)) c y ≡ (has lo hi c y && inRow r y)
-  unfolding has at masked
-  has-masked = ap₂ (λ (a b : ℕ). inRow (row a b) y) (masked-at lo (c - 1) (r .lo)) (masked-at hi (c - 1) (r .hi)) ∙ in-masked (rowOf lo hi c) r y
+masked-word : (l : List ℕ) (i w : ℕ) → at (maskedWord l i w) i ≡ bitAnd (at l i) w
+unfolding at maskedWord
+masked-word l i w = masked-at l (i - 1) w
 
-  pub other-masked : (d : ℕ) → Element 120 d → (d ≡ c → ⊥) → has (masked lo c (r .lo)) (masked hi c (r .hi)) d y ≡ has lo hi d y
-  unfolding has at masked
-  other-masked d hd ne =
-      let apart : d - 1 ≡ c - 1 → ⊥ = (λ q. ne (omega arith)) in
-      ap₂ (λ (u v : ℕ). inRow (row u v) y) (getD-set-other lo (c - 1) (d - 1) (bitAnd (getD lo (c - 1) 0) (r .lo)) 0 apart) (getD-set-other hi (c - 1) (d - 1) (bitAnd (getD hi (c - 1) 0) (r .hi)) 0 apart)
+other-word-masked : (l : List ℕ) (i w j : ℕ) → 1 ≤ i → 1 ≤ j → (j ≡ i → ⊥) → at (maskedWord l i w) j ≡ at l j
+unfolding at maskedWord
+other-word-masked l i w j hi hj ne = getD-set-other l (i - 1) (j - 1) (bitAnd (getD l (i - 1) 0) w) 0 (λ q. ne (omega arith))
+
+module _ (rows : List ℕ) (c : ℕ) (hc : Element 120 c) (r : Row) where
+  -- The masked row.
+  row-masked : rowOf (masked rows c r) c ≡ row (bitAnd (at rows c) (r .lo)) (bitAnd (at rows (120 + c)) (r .hi))
+  unfolding masked
+  row-masked =
+      let low = maskedWord rows c (r .lo) in
+      ap₂ row (other-word-masked low (120 + c) (r .hi) c (omega arith) (omega arith) (λ q. let z : ⊥ = omega arith in z) ∙ masked-word rows c (r .lo))
+      (masked-word low (120 + c) (r .hi) ∙ ap (λ (w : ℕ). bitAnd w (r .hi)) (other-word-masked rows c (r .lo) (120 + c) (omega arith) (omega arith) (λ q. let z : ⊥ = omega arith in z)))
+
+  -- Any other row.
+  row-other : (d : ℕ) → Element 120 d → (d ≡ c → ⊥) → rowOf (masked rows c r) d ≡ rowOf rows d
+  unfolding masked
+  row-other d hd ne =
+      let low = maskedWord rows c (r .lo) in
+      ap₂ row
+      (other-word-masked low (120 + c) (r .hi) d (omega arith) (omega arith) (λ q. let z : ⊥ = omega arith in z) ∙ other-word-masked rows c (r .lo) d (omega arith) (omega arith) ne)
+      (other-word-masked low (120 + c) (r .hi) (120 + d) (omega arith) (omega arith) (λ q. ne (omega arith)) ∙ other-word-masked rows c (r .lo) (120 + d) (omega arith) (omega arith) (λ q. let z : ⊥ = omega arith in z))
+
+  pub has-masked : (y : ℕ) → has (masked rows c r) c y ≡ (has rows c y && inRow r y)
+  unfolding has
+  has-masked y = ap (λ (w : Row). inRow w y) row-masked ∙ in-masked (rowOf rows c) r y
+
+  pub other-masked : (y d : ℕ) → Element 120 d → (d ≡ c → ⊥) → has (masked rows c r) d y ≡ has rows d y
+  unfolding has
+  other-masked y d hd ne = ap (λ (w : Row). inRow w y) (row-other d hd ne)
 
 -- What is left where row c is masked by the row of v: of row c v alone, of the others what was.
-pub forced-has : (lo hi newLo newHi : List ℕ) (c v : ℕ) → Element 120 c → Element 120 v → Forced c v lo hi newLo newHi
-    → (d y : ℕ) → Element 120 d → Element 120 y → has newLo newHi d y ≡ (has lo hi d y && cond (eqb d c) (eqb y v) true)
-forced-has lo hi newLo newHi c v hc hv F d y hd hy = ap₂ (λ (l h : List ℕ). has l h d y) (F .0) (F .1) ∙ go (equal-or-not d c)
+pub forced-has : (rows newRows : List ℕ) (c v : ℕ) → Element 120 c → Element 120 v → Forced c v rows newRows
+    → (d y : ℕ) → Element 120 d → Element 120 y → has newRows d y ≡ (has rows d y && cond (eqb d c) (eqb y v) true)
+forced-has rows newRows c v hc hv F d y hd hy = ap (λ (l : List ℕ). has l d y) F ∙ go (equal-or-not d c)
   where
     new : ℕ → ℕ → Bool
-    new = has (masked lo c (singleRow v .lo)) (masked hi c (singleRow v .hi))
+    new = has (masked rows c (singleRow v))
 
-    go : (d ≡ c) ⊎ (d ≡ c → ⊥) → new d y ≡ (has lo hi d y && cond (eqb d c) (eqb y v) true)
+    go : (d ≡ c) ⊎ (d ≡ c → ⊥) → new d y ≡ (has rows d y && cond (eqb d c) (eqb y v) true)
     go (inl q) =
-        ap (λ (k : ℕ). new k y) q ∙ has-masked lo hi c hc (singleRow v) y
-        ∙ ap₂ _&&_ (ap (λ (k : ℕ). has lo hi k y) (sym q)) (in-single v hv y hy ∙ sym (ap (λ (b : Bool). cond b (eqb y v) true) (eq-eqb d c q)))
-    go (inr ne) = other-masked lo hi c hc (singleRow v) y d hd ne ∙ sym (ap (λ (b : Bool). has lo hi d y && cond b (eqb y v) true) (ne-eqb d c ne) ∙ and-true (has lo hi d y))
+        ap (λ (k : ℕ). new k y) q ∙ has-masked rows c hc (singleRow v) y
+        ∙ ap₂ _&&_ (ap (λ (k : ℕ). has rows k y) (sym q)) (in-single v hv y hy ∙ sym (ap (λ (b : Bool). cond b (eqb y v) true) (eq-eqb d c q)))
+    go (inr ne) = other-masked rows c hc (singleRow v) y d hd ne ∙ sym (ap (λ (b : Bool). has rows d y && cond b (eqb y v) true) (ne-eqb d c ne) ∙ and-true (has rows d y))
 
 -- ---- rows inside rows
 
 pub inside-trans : (a b c : Row) → RowInside a b → RowInside b c → RowInside a c
 inside-trans a b c i j = (inside-inside (a .lo) (b .lo) (c .lo) (i .0) (j .0), inside-inside (a .hi) (b .hi) (c .hi) (i .1) (j .1))
 
-pub shrinks-none : (lo hi : List ℕ) → Shrinks lo hi lo hi
-shrinks-none lo hi c hc = (and-self (at lo c), and-self (at hi c))
+pub inside-self : (a : Row) → RowInside a a
+inside-self a = (and-self (a .lo), and-self (a .hi))
 
-module _ (lo hi : List ℕ) (c : ℕ) (hc : Element 120 c) (r : Row) where
-  entry : (l : List ℕ) (w : ℕ) → at (masked l c w) c ≡ bitAnd (at l c) w
-  unfolding at masked
-  entry l w = masked-at l (c - 1) w
+pub shrinks-none : (rows : List ℕ) → Shrinks rows rows
+shrinks-none rows c hc = inside-self (rowOf rows c)
 
-  other : (l : List ℕ) (w d : ℕ) → Element 120 d → (d ≡ c → ⊥) → at (masked l c w) d ≡ at l d
-  unfolding at masked
-  other l w d hd ne = getD-set-other l (c - 1) (d - 1) (bitAnd (getD l (c - 1) 0) w) 0 (λ q. ne (omega arith))
+module _ (rows : List ℕ) (c : ℕ) (hc : Element 120 c) (r : Row) where
+  pub masked-inside : RowInside (rowOf (masked rows c r) c) r
+  masked-inside =
+      subst (λ (w : Row). RowInside w r) (sym (row-masked rows c hc r))
+      (inside-mask (at rows c) (r .lo), inside-mask (at rows (120 + c)) (r .hi))
 
-  pub masked-inside : RowInside (rowOf (masked lo c (r .lo)) (masked hi c (r .hi)) c) r
-  masked-inside = (ap (λ (x : ℕ). bitAnd x (r .lo)) (entry lo (r .lo)) ∙ inside-mask (at lo c) (r .lo) ∙ sym (entry lo (r .lo)), ap (λ (x : ℕ). bitAnd x (r .hi)) (entry hi (r .hi)) ∙ inside-mask (at hi c) (r .hi) ∙ sym (entry hi (r .hi)))
-
-  word-shrinks : (l : List ℕ) (w d : ℕ) → Element 120 d → bitAnd (at (masked l c w) d) (at l d) ≡ at (masked l c w) d
-  word-shrinks l w d hd = go (equal-or-not d c)
+  pub masked-shrinks : Shrinks rows (masked rows c r)
+  masked-shrinks d hd = go (equal-or-not d c)
     where
-      go : (d ≡ c) ⊎ (d ≡ c → ⊥) → bitAnd (at (masked l c w) d) (at l d) ≡ at (masked l c w) d
-      go (inl q) = subst (λ (k : ℕ). bitAnd (at (masked l c w) k) (at l k) ≡ at (masked l c w) k) (sym q) (ap (λ (x : ℕ). bitAnd x (at l c)) (entry l w) ∙ inside-old (at l c) w ∙ sym (entry l w))
-      go (inr ne) = ap (λ (x : ℕ). bitAnd x (at l d)) (other l w d hd ne) ∙ and-self (at l d) ∙ sym (other l w d hd ne)
+      go : (d ≡ c) ⊎ (d ≡ c → ⊥) → RowInside (rowOf (masked rows c r) d) (rowOf rows d)
+      go (inl q) =
+          subst (λ (k : ℕ). RowInside (rowOf (masked rows c r) k) (rowOf rows k)) (sym q)
+          (subst (λ (w : Row). RowInside w (rowOf rows c)) (sym (row-masked rows c hc r)) (inside-old (at rows c) (r .lo), inside-old (at rows (120 + c)) (r .hi)))
+      go (inr ne) = subst (λ (w : Row). RowInside w (rowOf rows d)) (sym (row-other rows c hc r d hd ne)) (inside-self (rowOf rows d))
 
-  pub masked-shrinks : Shrinks lo hi (masked lo c (r .lo)) (masked hi c (r .hi))
-  masked-shrinks d hd = (word-shrinks lo (r .lo) d hd, word-shrinks hi (r .hi) d hd)
-
-module _ (lo hi newLo newHi : List ℕ) where
-  pub shrinks-more : (lo₀ hi₀ : List ℕ) → Shrinks lo₀ hi₀ lo hi → Shrinks lo hi newLo newHi → Shrinks lo₀ hi₀ newLo newHi
-  shrinks-more lo₀ hi₀ a b c hc = inside-trans (rowOf newLo newHi c) (rowOf lo hi c) (rowOf lo₀ hi₀ c) (b c hc) (a c hc)
+module _ (rows newRows : List ℕ) where
+  pub shrinks-more : (rows₀ : List ℕ) → Shrinks rows₀ rows → Shrinks rows newRows → Shrinks rows₀ newRows
+  shrinks-more rows₀ a b c hc = inside-trans (rowOf newRows c) (rowOf rows c) (rowOf rows₀ c) (b c hc) (a c hc)
 
   -- What is left was left.
-  pub shrinks-has : Shrinks lo hi newLo newHi → (c y : ℕ) → Element 120 c → has newLo newHi c y ≡ true → has lo hi c y ≡ true
+  pub shrinks-has : Shrinks rows newRows → (c y : ℕ) → Element 120 c → has newRows c y ≡ true → has rows c y ≡ true
   unfolding has
   shrinks-has a c y hc e =
       let i = a c hc in
-      let new = rowOf newLo newHi c in
-      let old = rowOf lo hi c in
+      let new = rowOf newRows c in
+      let old = rowOf rows c in
       and-right (inRow new y) (inRow old y) (sym (in-masked new old y) ∙ ap₂ (λ (u v : ℕ). inRow (row u v) y) (i .0) (i .1) ∙ e)
 
-  pub only-still : Shrinks lo hi newLo newHi → (c v : ℕ) → Element 120 c → Only lo hi c v → Only newLo newHi c v
-  only-still a c v hc o = inside-trans (rowOf newLo newHi c) (rowOf lo hi c) (singleRow v) (a c hc) o
+  pub only-still : Shrinks rows newRows → (c v : ℕ) → Element 120 c → Only rows c v → Only newRows c v
+  only-still a c v hc o = inside-trans (rowOf newRows c) (rowOf rows c) (singleRow v) (a c hc) o
 
-  module _ (c v : ℕ) (hc : Element 120 c) (F : Forced c v lo hi newLo newHi) where
-    pub forced-only : Only newLo newHi c v
-    forced-only = subst₂ (λ (l h : List ℕ). Only l h c v) (sym (F .0)) (sym (F .1)) (masked-inside lo hi c hc (singleRow v))
+  module _ (c v : ℕ) (hc : Element 120 c) (F : Forced c v rows newRows) where
+    pub forced-only : Only newRows c v
+    forced-only = subst (λ (l : List ℕ). Only l c v) (sym F) (masked-inside rows c hc (singleRow v))
 
-    pub forced-shrinks : Shrinks lo hi newLo newHi
-    forced-shrinks = subst₂ (λ (l h : List ℕ). Shrinks lo hi l h) (sym (F .0)) (sym (F .1)) (masked-shrinks lo hi c hc (singleRow v))
+    pub forced-shrinks : Shrinks rows newRows
+    forced-shrinks = subst (Shrinks rows) (sym F) (masked-shrinks rows c hc (singleRow v))
 
 -- ---- rows masked one after another: those before c are done
 
@@ -280,22 +299,22 @@ pub record Masking (n : ℕ) (scratch : List ℕ) (old new : ℕ → ℕ → Boo
 pub masking-start : (n : ℕ) (scratch : List ℕ) (old : ℕ → ℕ → Bool) → Masking n scratch old old 1
 masking-start n scratch old = record { done = λ d y a b hy. absurd (let z : ⊥ = omega arith in z); ahead = λ d y a b hy. refl }
 
-pub masking-step : (n : ℕ) (scratch : List ℕ) (old : ℕ → ℕ → Bool) (lo hi : List ℕ) (c : ℕ) → Element 120 c → Masking n scratch old (has lo hi) c → (r : Row) → r ≡ packedRow n (marked n scratch c)
-    → Masking n scratch old (has (masked lo c (r .lo)) (masked hi c (r .hi))) (c + 1)
-masking-step n scratch old lo hi c hc M r e =
+pub masking-step : (n : ℕ) (scratch : List ℕ) (old : ℕ → ℕ → Bool) (rows : List ℕ) (c : ℕ) → Element 120 c → Masking n scratch old (has rows) c → (r : Row) → r ≡ packedRow n (marked n scratch c)
+    → Masking n scratch old (has (masked rows c r)) (c + 1)
+masking-step n scratch old rows c hc M r e =
     record {
       done = λ d y a b hy. go d y a b hy (equal-or-not d c);
-      ahead = λ d y a b hy. other-masked lo hi c hc r y d (omega arith) (λ q. let z : ⊥ = omega arith in z) ∙ M .ahead d y (omega arith) b hy;
+      ahead = λ d y a b hy. other-masked rows c hc r y d (omega arith) (λ q. let z : ⊥ = omega arith in z) ∙ M .ahead d y (omega arith) b hy;
     }
   where
     new : ℕ → ℕ → Bool
-    new = has (masked lo c (r .lo)) (masked hi c (r .hi))
+    new = has (masked rows c r)
 
     go : (d y : ℕ) → 1 ≤ d → d < c + 1 → Element 120 y → (d ≡ c) ⊎ (d ≡ c → ⊥) → new d y ≡ (old d y && (leb y n && marked n scratch d y))
     go d y a b hy (inl q) =
         subst (λ (k : ℕ). new k y ≡ (old k y && (leb y n && marked n scratch k y))) (sym q)
-        (has-masked lo hi c hc r y ∙ ap₂ _&&_ (M .ahead c y (omega arith) (hc .1) hy) (ap (λ (w : Row). inRow w y) e ∙ all-packed-row n (marked n scratch c) y hy))
-    go d y a b hy (inr ne) = other-masked lo hi c hc r y d (omega arith) ne ∙ M .done d y a (omega arith) hy
+        (has-masked rows c hc r y ∙ ap₂ _&&_ (M .ahead c y (omega arith) (hc .1) hy) (ap (λ (w : Row). inRow w y) e ∙ all-packed-row n (marked n scratch c) y hy))
+    go d y a b hy (inr ne) = other-masked rows c hc r y d (omega arith) ne ∙ M .done d y a (omega arith) hy
 
 pub masking-end : (m n : ℕ) (scratch : List ℕ) (old new : ℕ → ℕ → Bool) (c : ℕ) → c ≡ m + 1 → Masking n scratch old new c → Marked m n scratch old new
 masking-end m n scratch old new c e M d y hd hy = ⊎-elim below above (at-most-or-above d m)

@@ -5,19 +5,24 @@ use Prim.Native.Nat.{ℕ, _+_}
 use lib.Bits.{bitAnd}
 use lib.Count.{ones}
 use lib.Dec.{eqb, leb}
-use Rattle.semigroups.specs.Lists.{at, elements, all, count}
+use Rattle.semigroups.specs.Lists.{elements, all, count}
+use Rattle.rows.specs.InnerRows.{rowOf}
 
-module _ (lo hi : List ℕ) where
+module _ (rows : List ℕ) where
   -- Whether every bit of row b is also in row c.
   unfoldable pub liesInside : ℕ → ℕ → Bool
-  liesInside b c = let high = eqb (bitAnd (at hi b) (at hi c)) (at hi b) in eqb (bitAnd (at lo b) (at lo c)) (at lo b) && high
+  liesInside b c =
+      let inner = rowOf rows b in
+      let outer = rowOf rows c in
+      let high = eqb (bitAnd (inner .hi) (outer .hi)) (inner .hi) in
+      eqb (bitAnd (inner .lo) (outer .lo)) (inner .lo) && high
 
   -- How many of m rows lie inside row c.
   unfoldable pub insideCount : ℕ → ℕ → ℕ
   insideCount m c = count (λ b. liesInside b c) (elements m)
 
   unfoldable pub hasRoom : ℕ → ℕ → Bool
-  hasRoom m c = leb (insideCount m c) (ones (at lo c) + ones (at hi c))
+  hasRoom m c = let row = rowOf rows c in leb (insideCount m c) (ones (row .lo) + ones (row .hi))
 
   unfoldable pub roomy : ℕ → Bool
   roomy m = all (hasRoom m) (elements m)

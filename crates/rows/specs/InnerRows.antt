@@ -1,5 +1,5 @@
 -- Rows of bits: for each source element the target elements that are left for it. Target elements 1 to 60 are the bits of one word, from its lowest,
--- and 61 to 120 those of another. Assumes nothing.
+-- and 61 to 120 those of another. All rows are one list of words, the 120 low ones first. Assumes nothing.
 use mathlib.Core.Path.{_≡_}
 use mathlib.Core.Bool.{Bool, true, _&&_, cond}
 use mathlib.Core.List.{List}
@@ -26,12 +26,12 @@ unfoldable pub isEmpty : Row → Bool
 isEmpty row = eqb (row .lo) 0 && eqb (row .hi) 0
 
 -- The row of source element c.
-abbrev pub rowOf : List ℕ → List ℕ → ℕ → Row
-rowOf lo hi c = record { lo = at lo c; hi = at hi c }
+abbrev pub rowOf : List ℕ → ℕ → Row
+rowOf rows c = record { lo = at rows c; hi = at rows (120 + c) }
 
 -- Whether target element y is left for source element c.
-unfoldable pub has : List ℕ → List ℕ → ℕ → ℕ → Bool
-has lo hi c y = inRow (rowOf lo hi c) y
+unfoldable pub has : List ℕ → ℕ → ℕ → Bool
+has rows c y = inRow (rowOf rows c) y
 
 -- The word of the k target elements from `from` on: bit j is set where from + j passes.
 unfoldable pub word : (ℕ → Bool) → ℕ → ℕ → ℕ
@@ -42,9 +42,13 @@ word p from (suc k) = word p from k + cond (p (from + k)) (2 ^ k) 0
 unfoldable pub packedRow : ℕ → (ℕ → Bool) → Row
 packedRow n p = record { lo = word p 1 (min n 60); hi = word p 61 (n - 60) }
 
--- The words, with the entry of c masked by one more word.
-unfoldable pub masked : List ℕ → ℕ → ℕ → List ℕ
-masked words c w = set words (c - 1) (bitAnd (at words c) w)
+-- The list, with entry i masked by one more word.
+unfoldable pub maskedWord : List ℕ → ℕ → ℕ → List ℕ
+maskedWord words i w = set words (i - 1) (bitAnd (at words i) w)
+
+-- The rows, with row c masked by one more row.
+unfoldable pub masked : List ℕ → ℕ → Row → List ℕ
+masked rows c row = maskedWord (maskedWord rows c (row .lo)) (120 + c) (row .hi)
 
 -- The row that holds v alone.
 unfoldable pub singleRow : ℕ → Row
@@ -65,16 +69,16 @@ abbrev pub RowInside : Row → Row → Type 0
 RowInside a b = (bitAnd (a .lo) (b .lo) ≡ a .lo) × (bitAnd (a .hi) (b .hi) ≡ a .hi)
 
 -- Row c has at most v.
-abbrev pub Only : List ℕ → List ℕ → ℕ → ℕ → Type 0
-Only lo hi c v = RowInside (rowOf lo hi c) (singleRow v)
+abbrev pub Only : List ℕ → ℕ → ℕ → Type 0
+Only rows c v = RowInside (rowOf rows c) (singleRow v)
 
 -- No row has gained a bit.
-abbrev pub Shrinks : List ℕ → List ℕ → List ℕ → List ℕ → Type 0
-Shrinks lo hi newLo newHi = (c : ℕ) → Element largestOrder c → RowInside (rowOf newLo newHi c) (rowOf lo hi c)
+abbrev pub Shrinks : List ℕ → List ℕ → Type 0
+Shrinks rows newRows = (c : ℕ) → Element largestOrder c → RowInside (rowOf newRows c) (rowOf rows c)
 
 -- Row c is masked by the row of v alone, and no other word has changed.
-abbrev pub Forced : ℕ → ℕ → List ℕ → List ℕ → List ℕ → List ℕ → Type 0
-Forced c v lo hi newLo newHi = (newLo ≡ masked lo c (singleRow v .lo)) × (newHi ≡ masked hi c (singleRow v .hi))
+abbrev pub Forced : ℕ → ℕ → List ℕ → List ℕ → Type 0
+Forced c v rows newRows = newRows ≡ masked rows c (singleRow v)
 
 -- Each of the first m rows has exactly those of its elements that are at most n and marked; the rows above m are as they were.
 abbrev pub Marked : ℕ → ℕ → List ℕ → (ℕ → ℕ → Bool) → (ℕ → ℕ → Bool) → Type 0

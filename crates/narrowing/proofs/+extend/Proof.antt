@@ -51,23 +51,23 @@ abbrev Opened : ℕ → Type 0
 Opened t = extend-lts.After-open (calls t) (extend-at t) extend.Post extend-Inv-loop extend-μ-loop
 
 abbrev start : (t : ℕ) → Opened t → Start t
-start t k = k .before .before .before .before .before .before .before .before .before .before .before .before .before
+start t k = k .before .before .before .before .before .before .before .before .before .before .before .before
 
 closed : (t : ℕ) (z : Start t) → Closed (z .args .m) (product (z .args .m) (z .args .source .now))
 closed t z = let source = z .pre .1 .0 .0 in product-element (z .args .m) (z .args .source .now) (source .size) (source .in-range)
 
 -- The turn, once `open` has answered.
 turn : (t : ℕ) (k : Opened t) → let a = start t k .args in
-    Turn (product (a .m) (a .source .now)) (a .m) (product (a .n) (a .target .now)) (a .n) (a .scratch .now) (a .after .now) (a .tight) (a .t8) (k .before .before .before .before .before .before .if4 .low) (k .before .before .before .before .before .loop .x) (k .«open» .result)
+    Turn (product (a .m) (a .source .now)) (a .m) (product (a .n) (a .target .now)) (a .n) (a .scratch .now) (a .after .now) (a .tight) (a .t8) (k .before .before .before .before .before .if4 .low) (k .before .before .before .before .loop .x) (k .«open» .result)
 turn t k =
     let z = start t k in
-    let test = k .before .before .before .before .loop-test .taken in
+    let test = k .before .before .before .loop-test .taken in
     record {
       reached = z .pre .1 .1;
       orders = (z .pre .1 .0 .0 .order .1, z .pre .1 .0 .1 .order .1);
-      room = k .before .before .before .before .before .before .before .if2 .left;
-      bound = k .before .before .before .before .before .loop .inv .2;
-      element = (k .before .before .before .before .before .loop .inv .0, test);
+      room = k .before .before .before .before .before .before .if2 .left;
+      bound = k .before .before .before .before .loop .inv .2;
+      element = (k .before .before .before .before .loop .inv .0, test);
       opened = k .«open» .ensures;
     }
 
@@ -76,7 +76,7 @@ Tried t = extend-lts.After-tried (calls t) (extend-at t) extend.Post extend-Inv-
 
 -- What is told of x, once it is tried.
 told : (t : ℕ) (k : Tried t) → let a = start t (k .before .before) .args in
-    Verdict (product (a .m) (a .source .now)) (a .m) (product (a .n) (a .target .now)) (a .n) (a .t8) (k .before .before .before .before .before .before .before .loop .x) (k .tried .result)
+    Verdict (product (a .m) (a .source .now)) (a .m) (product (a .n) (a .target .now)) (a .n) (a .t8) (k .before .before .before .before .before .before .loop .x) (k .tried .result)
 told t k = let e = k .tried .ensures in record { keeps = e .0; longer = e .1 .0 .0; one-more = e .1 .0 .1; settled = e .1 .1 .0; sound = e .1 .1 .1 .0 }
 
 extend-nothing-requires : (t : ℕ) → extend-lts.Need-nothing-requires (calls t) (extend-at t) extend.Post extend-Inv-loop extend-μ-loop
@@ -116,17 +116,17 @@ extend-loop-holds t c =
     (omega arith, omega arith, ⊎-elim (λ w. w .2 ∙ rw (w .0 .taken)) (λ w. w .1 ∙ rw (w .0 .left)) (c .if4 .came), begins (product (a .m) (a .source .now)) (a .m) (product (a .n) (a .target .now)) (a .n) (a .scratch .now) (a .after .now) (a .tight) (a .t8) (z .pre .1 .1) (c .before .if2 .left))
 
 extend-add-open : (t : ℕ) → extend-lts.Need-add-open (calls t) (extend-at t) extend.Post extend-Inv-loop extend-μ-loop
-extend-add-open t c = let m = c .before .before .before .before .before .before .before .before .before .before .before .before .pre .1 .0 .0 .order in let e = c .before .before .before .before .before .before .if2 .left in omega arith
+extend-add-open t c = let m = c .before .before .before .before .before .before .before .before .before .before .before .pre .1 .0 .0 .order in let e = c .before .before .before .before .before .if2 .left in omega arith
 
 extend-open-requires : (t : ℕ) → extend-lts.Need-open-requires (calls t) (extend-at t) extend.Post extend-Inv-loop extend-μ-loop
 extend-open-requires t c κs =
-    let z = c .before .before .before .before .before .before .before .before .before .before .before .before in
+    let z = c .before .before .before .before .before .before .before .before .before .before .before in
     let a = z .args in
     let m = z .pre .1 .0 .0 .order in
     let n = z .pre .1 .0 .1 .order in
-    let e = c .before .before .before .before .before .before .if2 .left in
-    let test = c .before .before .before .loop-test .taken in
-    ((omega arith, (c .before .before .before .before .loop .inv .0, test), n .1), row-marked (product (a .m) (a .source .now)) (a .m) (product (a .n) (a .target .now)) (a .n) (a .scratch .now) (a .after .now) (a .tight) (a .t8) (z .pre .1 .1) e)
+    let e = c .before .before .before .before .before .if2 .left in
+    let test = c .before .before .loop-test .taken in
+    ((omega arith, (c .before .before .before .loop .inv .0, test), n .1), row-marked (product (a .m) (a .source .now)) (a .m) (product (a .n) (a .target .now)) (a .n) (a .scratch .now) (a .after .now) (a .tight) (a .t8) (z .pre .1 .1) e)
 
 extend-tried-requires : (t : ℕ) → extend-lts.Need-tried-requires (calls t) (extend-at t) extend.Post extend-Inv-loop extend-μ-loop
 extend-tried-requires t c κs =
@@ -149,19 +149,19 @@ extend-returns-4 t c =
     let w = c .before .before in
     let k = w .before .before in
     let i = c .before .extend in
-    i .ensures ∙ found (turn t k) (w .before .if5 .taken) (w .tried .result) (told t w) (ap (λ (f : Found). f .ok) (sym (i .ensures)) ∙ c .if6 .taken) (k .before .before .before .before .before .loop .inv .3)
+    i .ensures ∙ found (turn t k) (w .before .if5 .taken) (w .tried .result) (told t w) (ap (λ (f : Found). f .ok) (sym (i .ensures)) ∙ c .if6 .taken) (k .before .before .before .before .loop .inv .3)
 
 extend-add-x : (t : ℕ) → extend-lts.Need-add-x (calls t) (extend-at t) extend.Post extend-Inv-loop extend-μ-loop
-extend-add-x t c = let n = c .before .before .before .before .before .before .before .before .before .before .before .before .before .before .pre .1 .0 .1 .order in let t = c .before .before .before .before .before .loop-test .taken in omega arith
+extend-add-x t c = let n = c .before .before .before .before .before .before .before .before .before .before .before .before .before .pre .1 .0 .1 .order in let t = c .before .before .before .before .loop-test .taken in omega arith
 
 extend-loop-less : (t : ℕ) → extend-lts.Need-loop-less (calls t) (extend-at t) extend.Post extend-Inv-loop extend-μ-loop
-extend-loop-less t c = let t = c .before .before .before .before .before .loop-test .taken in omega arith
+extend-loop-less t c = let t = c .before .before .before .before .loop-test .taken in omega arith
 
 extend-loop-again : (t : ℕ) → extend-lts.Need-loop-again (calls t) (extend-at t) extend.Post extend-Inv-loop extend-μ-loop
 extend-loop-again t c =
     let k = c .before in
     let T = turn t k in
-    let i = k .before .before .before .before .before .loop .inv in
+    let i = k .before .before .before .before .loop .inv in
     let x = T .element in (
       omega arith,
       omega arith,

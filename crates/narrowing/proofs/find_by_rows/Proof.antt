@@ -31,7 +31,7 @@ nothing-requires c κs = search needs
 
 returns : tie.Need-returns
 returns c =
-    let k = c .before .before .before .before .before .before in
+    let k = c .before .before .before .before .before in
     let a = first k .args in
     let s = product (a .m) (a .source .now) in
     let t = product (a .n) (a .target .now) in
@@ -39,11 +39,11 @@ returns c =
     let w = c .before .before .is-roomy in
     c .nothing .ensures
     ∙ nowhere s (a .m) t (a .n) (a .scratch .now) (a .after .now) (a .next) (closed k)
-    (λ f F among. clash {b = w .result} (w .ensures ∙ roomy-kept (p .lo) (p .hi) (a .m) s (a .n) t f (first k .pre .0 .1 .order .1) F (k .«start» .ensures .1 f F among)) (not-true (w .result) (c .before .if1 .taken)))
+    (λ f F among. clash {b = w .result} (w .ensures ∙ roomy-kept (p .rows) (a .m) s (a .n) t f (first k .pre .0 .1 .order .1) F (k .«start» .ensures .1 f F among)) (not-true (w .result) (c .before .if1 .taken)))
 
 extend-requires : tie.Need-extend-requires
 extend-requires c κs =
-    let k = c .before .before .before .before .before in
+    let k = c .before .before .before .before in
     let z = first k in
     let a = z .args in
     let e = k .«start» .ensures in
@@ -51,7 +51,7 @@ extend-requires c κs =
 
 returns-2 : tie.Need-returns-2
 returns-2 c =
-    let k = c .before .before .before .before .before .before in
+    let k = c .before .before .before .before .before in
     let z = first k in
     let a = z .args in
     let e = k .«start» .ensures in

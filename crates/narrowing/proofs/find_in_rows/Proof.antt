@@ -28,10 +28,10 @@ module _ (k : tie.After-write-marks) where
   start = k .before .before .before .before .before
 
   abbrev left : ℕ → ℕ → Bool
-  left = has (start .args .lo .now) (start .args .hi .now)
+  left = has (start .args .rows .now)
 
   abbrev bytes : List ℕ
-  bytes = k .write-marks .last .1 .1 .1 .1 .0
+  bytes = k .write-marks .last .1 .1 .1 .0
 
   long : length bytes ≡ 1800
   long =

@@ -27,7 +27,7 @@ use Rattle.narrowing.proofs.find_narrowed.Tie as tie
 -- The rows, once they are narrowed.
 module _ (k : tie.After-propagate) where
   abbrev marking : tie.After-keep-marked
-  marking = k .before .before .before .before .before
+  marking = k .before .before .before
 
   abbrev start : tie.Start
   start = marking .before .before .before .before .before .before
@@ -48,7 +48,7 @@ module _ (k : tie.After-propagate) where
   candidate = marked n (start .args .scratch .now)
 
   abbrev left : ℕ → ℕ → Bool
-  left = has (k .propagate .last .1 .1 .1 .1 .0) (k .propagate .last .1 .1 .1 .1 .1 .0)
+  left = has (k .propagate .last .1 .1 .1 .1 .0)
 
   closed : Closed m s
   closed = filled-closed m (start .args .source .now) (start .pre .0 .0)
@@ -66,7 +66,7 @@ module _ (k : tie.After-propagate) where
       let p = marking .keep-marked .result in
       let new = k .propagate .last .1 .1 .1 .1 in
       let o = start .pre .0 .0 .order in
-      sym (row i (at f i) hi (F .homomorphism .within i hi)) ∙ shrinks-has (p .lo) (p .hi) (new .0) (new .1 .0) (k .propagate .ensures .1 .0) i (at f i) (omega arith) (among i hi)
+      sym (row i (at f i) hi (F .homomorphism .within i hi)) ∙ shrinks-has (p .rows) (new .0) (k .propagate .ensures .1 .0) i (at f i) (omega arith) (among i hi)
 
   none-lost : (f : List ℕ) → Embedding m s n t f → Among m candidate f → (k .propagate .result ≡ true) × Among m left f
   none-lost f F among = k .propagate .ensures .0 f F (covered f F among)
@@ -91,27 +91,27 @@ returns c =
     ∙ nowhere (s k) (m k) (t k) (n k) (a .scratch .now) (a .after .now) (a .next) (closed k) (λ f F among. clash {b = k .propagate .result} (none-lost k f F among .0) (not-true (k .propagate .result) (c .before .if1 .taken)))
 
 is-roomy-requires : tie.Need-is-roomy-requires
-is-roomy-requires c κs = c .before .before .before .before .before .before .before .before .before .before .before .before .before .before .pre .0 .0 .order .1
+is-roomy-requires c κs = c .before .before .before .before .before .before .before .before .before .before .before .pre .0 .0 .order .1
 
 nothing-requires-2 : tie.Need-nothing-requires-2
 nothing-requires-2 c κs = search needs
 
 returns-2 : tie.Need-returns-2
 returns-2 c =
-    let k = c .before .before .before .before .before .before in
+    let k = c .before .before .before .before .before in
     let a = start k .args in
     let w = c .before .before .is-roomy in
     let new = k .propagate .last .1 .1 .1 .1 in
     c .nothing2 .ensures
     ∙ nowhere (s k) (m k) (t k) (n k) (a .scratch .now) (a .after .now) (a .next) (closed k)
-    (λ f F among. clash {b = w .result} (w .ensures ∙ roomy-kept (new .0) (new .1 .0) (m k) (s k) (n k) (t k) f (start k .pre .0 .1 .order .1) F (none-lost k f F among .1)) (not-true (w .result) (c .before .if2 .taken)))
+    (λ f F among. clash {b = w .result} (w .ensures ∙ roomy-kept (new .0) (m k) (s k) (n k) (t k) f (start k .pre .0 .1 .order .1) F (none-lost k f F among .1)) (not-true (w .result) (c .before .if2 .taken)))
 
 find-in-rows-requires : tie.Need-find-in-rows-requires
-find-in-rows-requires c κs = let z = c .before .before .before .before .before .before .before .before .before .before .before .before .before .before .before .before .before .before in (z .pre .0, z .pre .1 .1)
+find-in-rows-requires c κs = let z = c .before .before .before .before .before .before .before .before .before .before .before .before .before .before in (z .pre .0, z .pre .1 .1)
 
 returns-3 : tie.Need-returns-3
 returns-3 c =
-    let k = c .before .before .before .before .before .before .before .before in
+    let k = c .before .before .before .before .before .before in
     let a = start k .args in
     c .find-in-rows .ensures ∙ ap foundIn (search-alike (m k) (s k) (n k) (t k) (left k) (candidate k) (none-added k) (λ f F among. none-lost k f F among .1) (bounded (a .next) (a .after .now)) (closed k))
 

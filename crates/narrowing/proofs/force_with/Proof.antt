@@ -18,28 +18,28 @@ lone-requires : tie.Need-lone-requires
 lone-requires c κs = search needs
 
 returns : tie.Need-returns
-returns c = let a = c .before .before .before .before .before .before .before .args in ((λ f F e h. h), shrinks-none (a .lo .now) (a .hi .now))
+returns c = let a = c .before .before .before .before .before .before .args in ((λ f F e h. h), shrinks-none (a .rows .now))
 
 returns-2 : tie.Need-returns-2
-returns-2 c = let a = c .before .before .before .before .before .before .before .before .args in ((λ f F e h. h), shrinks-none (a .lo .now) (a .hi .now))
+returns-2 c = let a = c .before .before .before .before .before .before .before .args in ((λ f F e h. h), shrinks-none (a .rows .now))
 
 force-product-requires : tie.Need-force-product-requires
 force-product-requires c κs =
-    let z = c .before .before .before .before .before .before .before .before .before .before in
-    let some = c .before .before .before .if1 .left in
-    let most = c .before .before .if2 .left in
+    let z = c .before .before .before .before .before .before .before .before in
+    let some = c .before .before .if1 .left in
+    let most = c .before .if2 .left in
     (z .pre .0, (z .pre .1 .0, z .pre .1 .1, z .pre .1 .2, omega arith))
 
 force-product-requires-2 : tie.Need-force-product-requires-2
 force-product-requires-2 c κs =
-    let z = c .before .before .before .before .before .before .before .before .before .before .before .before .before in
-    let some = c .before .before .before .before .before .before .if1 .left in
-    let most = c .before .before .before .before .before .if2 .left in
+    let z = c .before .before .before .before .before .before .before .before .before .before in
+    let some = c .before .before .before .before .if1 .left in
+    let most = c .before .before .before .if2 .left in
     (z .pre .0, (z .pre .1 .2, omega arith, z .pre .1 .0, z .pre .1 .1))
 
 returns-3 : tie.Need-returns-3
 returns-3 c =
-    let z = c .before .before .before .before .before .before .before .before .before .before .before .before .before .before in
+    let z = c .before .before .before .before .before .before .before .before .before .before .before in
     let a = z .args in
     let s = product (a .m) (a .source .now) in
     let t = product (a .n) (a .target .now) in
@@ -51,26 +51,24 @@ returns-3 c =
     let hl = z .pre .1 .0 in
     let hx = z .pre .1 .1 in
     let hc = z .pre .1 .2 in
-    let found = c .before .before .before .before .before .before .before .before .lone in
+    let found = c .before .before .before .before .before .before .lone in
     let y = found .result in
-    let some = c .before .before .before .before .before .before .before .if1 .left in
-    let most = c .before .before .before .before .before .before .if2 .left in
+    let some = c .before .before .before .before .before .if1 .left in
+    let most = c .before .before .before .before .if2 .left in
     let hy : Element 120 y = omega arith in
-    let row : rowOf (a .lo .now) (a .hi .now) (a .c) ≡ singleRow y = sym (c .before .before .before .before .before .before .before .before .before .row-of .ensures) ∙ found .ensures .holds (hy .0) in
-    let one = c .before .before .before .force-product in
+    let row : rowOf (a .rows .now) (a .c) ≡ singleRow y = sym (c .before .before .before .before .before .before .before .row-of .ensures) ∙ found .ensures .holds (hy .0) in
+    let one = c .before .before .force-product in
     let two = c .force-product2 in
-    let lo₁ = one .last .1 .1 .1 .1 .0 in
-    let hi₁ = one .last .1 .1 .1 .1 .1 .0 in
-    let lo₂ = two .last .1 .1 .1 .1 .0 in
-    let hi₂ = two .last .1 .1 .1 .1 .1 .0 in
+    let rows₁ = one .last .1 .1 .1 .1 .0 in
+    let rows₂ = two .last .1 .1 .1 .1 .0 in
     let left = closed (a .l) (a .c) hl hc in
     let right = closed (a .c) (a .l) hc hl in (
       (λ f F e h.
-          let image = lone-image (a .m) s (a .n) t f F (so .1) (to .1) (a .lo .now) (a .hi .now) h (a .c) y hc hy row in
-          product-kept (a .m) s (a .n) t f F (so .1) (to .1) closed lo₁ hi₁ lo₂ hi₂ (a .c) y (a .l) (a .x) hc hl image e (two .ensures)
-          (product-kept (a .m) s (a .n) t f F (so .1) (to .1) closed (a .lo .now) (a .hi .now) lo₁ hi₁ (a .l) (a .x) (a .c) y hl hc e image (one .ensures) h)),
-      shrinks-more lo₁ hi₁ lo₂ hi₂ (a .lo .now) (a .hi .now) (forced-shrinks (a .lo .now) (a .hi .now) lo₁ hi₁ (s (a .l) (a .c)) (t (a .x) y) (omega arith) (one .ensures))
-          (forced-shrinks lo₁ hi₁ lo₂ hi₂ (s (a .c) (a .l)) (t y (a .x)) (omega arith) (two .ensures)),
+          let image = lone-image (a .m) s (a .n) t f F (so .1) (to .1) (a .rows .now) h (a .c) y hc hy row in
+          product-kept (a .m) s (a .n) t f F (so .1) (to .1) closed rows₁ rows₂ (a .c) y (a .l) (a .x) hc hl image e (two .ensures)
+          (product-kept (a .m) s (a .n) t f F (so .1) (to .1) closed (a .rows .now) rows₁ (a .l) (a .x) (a .c) y hl hc e image (one .ensures) h)),
+      shrinks-more rows₁ rows₂ (a .rows .now) (forced-shrinks (a .rows .now) rows₁ (s (a .l) (a .c)) (t (a .x) y) (omega arith) (one .ensures))
+          (forced-shrinks rows₁ rows₂ (s (a .c) (a .l)) (t y (a .x)) (omega arith) (two .ensures)),
     )
 
 pub force-with-spec : {M : Type 1} → statement M

@@ -50,8 +50,7 @@ unfolding packedRow
 returns c =
     let p = c .before .before .before .before .before .before in
     let a = p .before .before .before .before .before .args in
-    let lo = a .lo .now in
-    let hi = a .hi .now in
+    let rows = a .rows .now in
     let s = product (a .m) (a .source .now) in
     let t = product (a .n) (a .target .now) in
     let lc = p .before .before .times .ensures .0 in
@@ -63,12 +62,12 @@ returns c =
     let k0 = k .ensures .0 in
     let k1 = k .ensures .1 in
     let looks : p .pattern .result ≡ pattern (a .l) (a .c) (s (a .l) (a .c)) (s (a .c) (a .l)) = p .pattern .ensures ∙ ap₂ (pattern (a .l) (a .c)) lc cl in
-    let of-left : left .result ≡ rowOf lo hi (s (a .l) (a .c)) = left .ensures ∙ ap (rowOf lo hi) lc in
-    let of-right : right .result ≡ rowOf lo hi (s (a .c) (a .l)) = right .ensures ∙ ap (rowOf lo hi) cl in
-    let after = narrowed s t (has lo hi) (a .l) (a .x) (a .c) in
+    let of-left : left .result ≡ rowOf rows (s (a .l) (a .c)) = left .ensures ∙ ap (rowOf rows) lc in
+    let of-right : right .result ≡ rowOf rows (s (a .c) (a .l)) = right .ensures ∙ ap (rowOf rows) cl in
+    let after = narrowed s t (has rows) (a .l) (a .x) (a .c) in
     ap₂ row
-    (c .before .narrow-word .ensures ∙ low-narrowed s t lo hi (a .l) (a .x) (a .c) (p .pattern .result) looks (old .result) (left .result) (right .result) (old .ensures) of-left of-right (k .result) (omega arith) ∙ ap (word after 1) k0)
-    (c .narrow-word2 .ensures ∙ high-narrowed s t lo hi (a .l) (a .x) (a .c) (p .pattern .result) looks (old .result) (left .result) (right .result) (old .ensures) of-left of-right (a .n - k .result) ∙ ap (word after 61) (k1 .2))
+    (c .before .narrow-word .ensures ∙ low-narrowed s t rows (a .l) (a .x) (a .c) (p .pattern .result) looks (old .result) (left .result) (right .result) (old .ensures) of-left of-right (k .result) (omega arith) ∙ ap (word after 1) k0)
+    (c .narrow-word2 .ensures ∙ high-narrowed s t rows (a .l) (a .x) (a .c) (p .pattern .result) looks (old .result) (left .result) (right .result) (old .ensures) of-left of-right (a .n - k .result) ∙ ap (word after 61) (k1 .2))
 
 pub narrow-row-spec : {M : Type 1} → statement M
 narrow-row-spec =

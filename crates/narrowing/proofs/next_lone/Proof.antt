@@ -11,10 +11,10 @@ use Rattle.narrowing.proofs.next_lone.Statement.{statement}
 use Rattle.narrowing.proofs.next_lone.Tie as tie
 
 abbrev Inv-loop : tie.InvT-loop
-Inv-loop lo hi used m c₀ c = (1 ≤ c) × (c ≤ m + 1) × ((d : ℕ) → Element m d → d < c → at used d ≡ 0 → Lone lo hi d → ⊥)
+Inv-loop rows used m c₀ c = (1 ≤ c) × (c ≤ m + 1) × ((d : ℕ) → Element m d → d < c → at used d ≡ 0 → Lone rows d → ⊥)
 
 abbrev μ-loop : tie.MeasureT-loop
-μ-loop lo hi used m c₀ c = m + 1 - c
+μ-loop rows used m c₀ c = m + 1 - c
 
 loop-holds : tie.Need-loop-holds Inv-loop μ-loop
 loop-holds c = (omega arith, omega arith, λ d hd h. absurd (let z : ⊥ = omega arith in z))
@@ -43,11 +43,11 @@ loop-again : tie.Need-loop-again Inv-loop μ-loop
 loop-again c = let t = c .before .before .loop-test .taken in (omega arith, omega arith, λ d hd h. go d hd (eq-or-lt-of-le (let z : d ≤ c .before .before .before .loop .c = omega arith in z)))
   where
     go : (d : ℕ) → Element (c .before .before .before .before .args .m) d → (d ≡ c .before .before .before .loop .c) ⊎ (d < c .before .before .before .loop .c) → at (c .before .before .before .before .args .used .now) d ≡ 0
-        → Lone (c .before .before .before .before .args .lo .now) (c .before .before .before .before .args .hi .now) d → ⊥
+        → Lone (c .before .before .before .before .args .rows .now) d → ⊥
     go d hd (inr b) = c .before .before .before .loop .inv .2 d hd b
     go d hd (inl e) =
         let a = c .before .before .before .before .args in
-        λ z o. c .before .waits .ensures .none (c .if1 .left) (subst (λ (k : ℕ). at (a .used .now) k ≡ 0) e z) (subst (Lone (a .lo .now) (a .hi .now)) e o)
+        λ z o. c .before .waits .ensures .none (c .if1 .left) (subst (λ (k : ℕ). at (a .used .now) k ≡ 0) e z) (subst (Lone (a .rows .now)) e o)
 
 returns-2 : tie.Need-returns-2 Inv-loop μ-loop
 returns-2 c =
