@@ -27,6 +27,10 @@ row a b = record { lo = a; hi = b }
 
 -- ---- the two words of a row
 
+-- Where the code has the high word of row c, counted from 0.
+pub high-place : (c : ℕ) → 119 + c ≡ 120 + c - 1
+high-place c = omega arith
+
 module _ (row : Row) (y : ℕ) where
   pub row-low : y ≤ 60 → hasBit (row .lo) (y - 1) ≡ inRow row y
   unfolding inRow
