@@ -11,4 +11,5 @@ pub mod Text
 pub mod Said
 pub mod Steps
 pub mod Cut
+pub mod Requests
 pub mod Program

@@ -6,3 +6,4 @@ pub mod Held
 pub mod Examples
 pub mod InnerHeld
 pub mod ProgressLaws
+pub mod Requests

@@ -5,6 +5,7 @@ pub mod Raising
 pub mod Bounds
 pub mod Going
 pub mod Existence
+pub mod Spending
 pub mod Fixing
 pub mod Answering
 pub mod Exchanges

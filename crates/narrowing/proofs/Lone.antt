@@ -1,7 +1,7 @@
 -- Narrowing by rows that hold one element alone: no embedding among the rows is lost, each row is used once, and what is left at the end is narrowed by each
 -- of them. Assumes nothing.
 use mathlib.Core.Path.{_≡_, refl, sym, ap, ap₂, _∙_, subst}
-use mathlib.Core.Bool.{Bool, true, cond}
+use mathlib.Core.Bool.{Bool, true, false, cond}
 use mathlib.Core.Logic.{_⊎_, inl, inr}
 use mathlib.Core.List.{List}
 use Prim.Native.Nat.{ℕ, _+_, _-_, _≤_}
@@ -40,23 +40,23 @@ module _ (m : ℕ) (s : Product) (n : ℕ) (t : Product) (f : List ℕ) (F : Emb
   product-kept closed rows newRows a y b z ha hb ea eb =
       forced-kept m s n t f F lm ln rows newRows (s a b) (t y z) (closed a b ha hb) (F .homomorphism .keeps-product a b ha hb ∙ ap₂ t ea eb)
 
--- ---- marks of use
+-- ---- marks of use, each a number that is not 0
 
 -- How many of m elements have no mark.
 abbrev pub unused : ℕ → List ℕ → ℕ
 unused m used = count (λ c. eqb (at used c) 0) (elements m)
 
-module _ (used : List ℕ) (l : ℕ) (first : 1 ≤ l) (fits : l ≤ length used) where
+module _ (used : List ℕ) (l mark : ℕ) (first : 1 ≤ l) (fits : l ≤ length used) (some : 1 ≤ mark) where
   abbrev pub marked-now : List ℕ
-  marked-now = set used (l - 1) 1
+  marked-now = set used (l - 1) mark
 
-  marked-here : at marked-now l ≡ 1
+  marked-here : eqb (at marked-now l) 0 ≡ false
   unfolding at
-  marked-here = getD-set-same used (l - 1) 1 0 (omega arith)
+  marked-here = ap (λ (k : ℕ). eqb k 0) (getD-set-same used (l - 1) mark 0 (omega arith)) ∙ ne-eqb mark 0 (omega arith)
 
   pub marked-other : (c : ℕ) → 1 ≤ c → (c ≡ l → ⊥) → at marked-now c ≡ at used c
   unfolding at
-  marked-other c h ne = getD-set-other used (l - 1) (c - 1) 1 0 (λ (e : c - 1 ≡ l - 1). ne (omega arith))
+  marked-other c h ne = getD-set-other used (l - 1) (c - 1) mark 0 (λ (e : c - 1 ≡ l - 1). ne (omega arith))
 
   -- With one mark more, one element fewer has none.
   pub one-fewer : (m : ℕ) → Element m l → at used l ≡ 0 → unused m used ≡ unused m marked-now + 1
@@ -72,7 +72,7 @@ module _ (used : List ℕ) (l : ℕ) (first : 1 ≤ l) (fits : l ≤ length used
       each : (c : ℕ) → Element m c → (c ≡ l) ⊎ (c ≡ l → ⊥) → bit (eqb (at used c) 0) ≡ bit (eqb (at marked-now c) 0) + bit (eqb l c)
       each c hc (inl q) =
           ap (λ (k : ℕ). bit (eqb (at used k) 0)) q ∙ ap (λ (k : ℕ). bit (eqb k 0)) e
-          ∙ sym (ap (λ (k : ℕ). bit (eqb (at marked-now k) 0) + bit (eqb l k)) q ∙ ap₂ (λ (k : ℕ) (b : Bool). bit (eqb k 0) + bit b) marked-here (eq-eqb l l refl))
+          ∙ sym (ap (λ (k : ℕ). bit (eqb (at marked-now k) 0) + bit (eqb l k)) q ∙ ap₂ (λ (a b : Bool). bit a + bit b) marked-here (eq-eqb l l refl))
       each c hc (inr ne) =
           (let z : bit (eqb (at used c) 0) ≡ bit (eqb (at used c) 0) + 0 = omega arith in z)
           ∙ sym (ap₂ (λ (k : ℕ) (b : Bool). bit (eqb k 0) + bit b) (marked-other c (hc .0) ne) (ne-eqb l c (λ q. ne (sym q))))
@@ -142,7 +142,7 @@ module _ (m : ℕ) (s : Product) (n : ℕ) (t : Product) (closed : Closed m s) (
         next-element = let h = P .next .most in omega arith
 
         pub fewer : unused m used ≡ unused m (set used (l - 1) 1) + 1
-        fewer = let h = next-element in let e = P .long in one-fewer used l (h .0) (omega arith) m h (P .next .waits (h .0) .0)
+        fewer = let h = next-element in let e = P .long in one-fewer used l 1 (h .0) (omega arith) (omega arith) m h (P .next .waits (h .0) .0)
 
         pub propagating-more : (newRows : List ℕ) (then : ℕ) → KeepsOrFails m s n t (has rows) true (has newRows) → Shrinks rows newRows
             → ((x : ℕ) → Element n x → rowOf rows l ≡ singleRow x → Narrows m s n t l x (has rows) (has newRows)) → NextLone newRows (set used (l - 1) 1) m then
@@ -163,7 +163,7 @@ module _ (m : ℕ) (s : Product) (n : ℕ) (t : Product) (closed : Closed m s) (
             go c hc ne (inr apart) =
                 let h = next-element in
                 let e = P .long in
-                used-still rows newRows less c hc (P .done c hc (λ z. ne (marked-other used l (h .0) (omega arith) c (hc .0) apart ∙ z)))
+                used-still rows newRows less c hc (P .done c hc (λ z. ne (marked-other used l 1 (h .0) (omega arith) (omega arith) c (hc .0) apart ∙ z)))
 
       -- No row is left to be used: each that holds one element alone has narrowed the others.
       pub all-narrowed : l ≡ 0 → n ≤ 120 → (c x : ℕ) → Element m c → Element n x → rowOf rows c ≡ singleRow x → Narrows m s n t c x (has rows₀) (has rows)

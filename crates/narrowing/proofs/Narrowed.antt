@@ -4,7 +4,7 @@ use mathlib.Core.Path.{_≡_, refl, sym, ap, ap₂, _∙_, subst}
 use mathlib.Core.Bool.{Bool, true, false, _&&_, cond, true≢false}
 use mathlib.Core.Logic.{_⊎_, inl, inr}
 use mathlib.Core.List.{List}
-use Prim.Native.Nat.{ℕ, _+_, _-_, _≤_}
+use Prim.Native.Nat.{ℕ, zero, suc, _+_, _-_, _^_, _≤_, _<_, min}
 use native.Mathlib.Omega.{arith}
 use borrow.Author.Tests.{eqb-true, eq-eqb}
 use lib.Dec.{eqb}
@@ -40,6 +40,36 @@ all-left c y hc hy =
     let low = getD-replicate {A = ℕ} 240 (c - 1) 1152921504606846975 0 (omega arith) in
     let high = getD-replicate {A = ℕ} 240 (120 + c - 1) 1152921504606846975 0 (omega arith) in
     ap₂ (λ (a b : ℕ). inRow (row a b) y) low high ∙ ap (λ (r : Row). inRow r y) full-row ∙ in-packed-row 120 (λ _. true) y hy
+
+-- ---- a row that is not empty
+
+-- A word that is not 0 has an element that passes.
+some-in-word : (p : ℕ → Bool) (from k : ℕ) → (word p from k ≡ 0 → ⊥) → (j : ℕ) × (j < k) × (p (from + j) ≡ true)
+unfolding word
+some-in-word p from zero ne = absurd (ne refl)
+some-in-word p from (suc k) ne = go (p (from + k)) refl (some-in-word p from k)
+  where
+    go : (b : Bool) → p (from + k) ≡ b → ((word p from k ≡ 0 → ⊥) → (j : ℕ) × (j < k) × (p (from + j) ≡ true)) → (j : ℕ) × (j < suc k) × (p (from + j) ≡ true)
+    go true e below = (k, omega arith, e)
+    go false e below =
+        let r = below (λ z. ne (ap (λ (b : Bool). word p from k + cond b (2 ^ k) 0) e ∙ (let w : word p from k + 0 ≡ 0 = omega arith in w))) in
+        let less = r .1 in
+        (r .0, omega arith, r .2)
+
+pub some-in-row : (n : ℕ) (p : ℕ → Bool) → isEmpty (packedRow n p) ≡ false → (y : ℕ) × Element n y × (p y ≡ true)
+unfolding isEmpty packedRow
+some-in-row n p e = go (equal-or-not (word p 1 (min n 60)) 0)
+  where
+    go : (word p 1 (min n 60) ≡ 0) ⊎ (word p 1 (min n 60) ≡ 0 → ⊥) → (y : ℕ) × Element n y × (p y ≡ true)
+    go (inr some) =
+        let r = some-in-word p 1 (min n 60) some in
+        let less = r .1 in
+        (1 + r .0, (omega arith, omega arith), r .2)
+    go (inl none) =
+        let high : word p 61 (n - 60) ≡ 0 → ⊥ = λ z. true≢false (sym (both (eqb (word p 1 (min n 60)) 0) (eqb (word p 61 (n - 60)) 0) (eq-eqb (word p 1 (min n 60)) 0 none) (eq-eqb (word p 61 (n - 60)) 0 z)) ∙ e) in
+        let r = some-in-word p 61 (n - 60) high in
+        let less = r .1 in
+        (61 + r .0, (omega arith, omega arith), r .2)
 
 -- ---- the test of one element
 
@@ -106,6 +136,31 @@ narrows-more m s n t closed lm rows₀ rows less l x c hl hc r is N d y hd hy = 
         ap (λ (k : ℕ). narrowed s t (has rows₀) l x k y) q
         ∙ narrowed-wider m s t closed lm rows₀ rows less l x c y hl hc (sym (ap (λ (w : Row). inRow w y) is ∙ in-packed-row n (narrowed s t (has rows) l x c) y hy) ∙ here)
     go (inr ne) e = N d y (omega arith) hy (sym (other-masked rows c (omega arith) r y d (omega arith) ne) ∙ e)
+
+-- Row c keeps an element where narrowing leaves one, and the rows before it keep theirs.
+pub kept-more : (m : ℕ) (s : Product) (n : ℕ) (t : Product) (rows : List ℕ) (l x c : ℕ) → m ≤ 120 → Element m c → (r : Row) → r ≡ packedRow n (narrowed s t (has rows) l x c) → isEmpty r ≡ false
+    → ((d : ℕ) → Element (c - 1) d → (y : ℕ) × Element n y × (has rows d y ≡ true)) → (d : ℕ) → Element (c + 1 - 1) d → (y : ℕ) × Element n y × (has (masked rows c r) d y ≡ true)
+unfolding narrowed
+kept-more m s n t rows l x c lm hc r is some before d hd = go (equal-or-not d c)
+  where
+    test : ℕ → Bool
+    test = narrowed s t (has rows) l x c
+
+    go : (d ≡ c) ⊎ (d ≡ c → ⊥) → (y : ℕ) × Element n y × (has (masked rows c r) d y ≡ true)
+    go (inl q) =
+        let w = some-in-row n test (ap isEmpty (sym is) ∙ some) in
+        let y = w .0 in
+        let here : inRow r y ≡ true = ap (λ (u : Row). inRow u y) is ∙ in-packed-row n test y (w .1) ∙ w .2 in
+        let alike = eqb (pattern x y (t x y) (t y x)) (pattern l c (s l c) (s c l)) in
+        (y, w .1, ap (λ (k : ℕ). has (masked rows c r) k y) q ∙ has-masked rows c (omega arith) r y ∙ both (has rows c y) (inRow r y) (and-left (has rows c y) (has rows (s l c) (t x y) && (has rows (s c l) (t y x) && alike)) (w .2)) here)
+    go (inr ne) =
+        let w = before d (omega arith) in
+        (w .0, w .1, other-masked rows c (omega arith) r (w .0) d (omega arith) ne ∙ w .2)
+
+-- An empty row has none of the elements that narrowing might have left.
+pub none-narrowed : (s : Product) (n : ℕ) (t : Product) (rows : List ℕ) (l x c : ℕ) (r : Row) → r ≡ packedRow n (narrowed s t (has rows) l x c) → isEmpty r ≡ true → (y : ℕ) → Element n y → narrowed s t (has rows) l x c y ≡ false
+none-narrowed s n t rows l x c r is empty y hy =
+    sym (in-packed-row n (narrowed s t (has rows) l x c) y hy) ∙ ap (λ (u : Row). inRow u y) (sym is) ∙ none-in-empty r y empty
 
 -- ---- a forced row
 

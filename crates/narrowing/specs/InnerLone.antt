@@ -2,11 +2,11 @@
 use mathlib.Core.Path.{_≡_}
 use mathlib.Core.Bool.{Bool, true, false}
 use mathlib.Core.List.{List}
-use Prim.Native.Nat.{ℕ, _≤_, _<_}
+use Prim.Native.Nat.{ℕ, _+_, _≤_, _<_}
 use Rattle.semigroups.specs.Lists.{at}
 use Rattle.semigroups.specs.Tables.{Product, Element}
 use Rattle.semigroups.specs.MapsLaws.{Embedding, Among}
-use Rattle.rows.specs.InnerRows.{rowOf, singleRow}
+use Rattle.rows.specs.InnerRows.{rowOf, masked, singleRow}
 
 -- The new rows lose no embedding that sends l to x and is among the old rows.
 abbrev pub KeepsSending : ℕ → Product → ℕ → Product → ℕ → ℕ → (ℕ → ℕ → Bool) → (ℕ → ℕ → Bool) → Type 0
@@ -21,6 +21,21 @@ pub record Lone (rows : List ℕ) (c : ℕ) : Type 0 where
   pub image : ℕ
   pub element : Element 120 image
   pub row : rowOf rows c ≡ singleRow image
+
+-- The rows after that of the product of a and b keeps at most the product of y and z, and then that of b and a at most the product of z and y.
+abbrev pub forcedBoth : Product → Product → ℕ → ℕ → ℕ → ℕ → List ℕ → List ℕ
+forcedBoth s t a y b z rows = masked (masked rows (s a b) (singleRow (t y z))) (s b a) (singleRow (t z y))
+
+-- If row c holds one of n elements alone, the rows of its products with l, on both sides, keep at most the products of that element with x; otherwise no row
+-- changes.
+pub record ForcedWith (s : Product) (n : ℕ) (t : Product) (l x c : ℕ) (rows newRows : List ℕ) : Type 0 where
+  pub alone : (y : ℕ) → Element n y → rowOf rows c ≡ singleRow y → newRows ≡ forcedBoth s t l x c y rows
+  pub otherwise : ((y : ℕ) → Element n y → rowOf rows c ≡ singleRow y → ⊥) → newRows ≡ rows
+
+-- The rows are those that `ForcedWith` leaves for each source element before c in turn.
+pub data ForcedBefore (s : Product) (n : ℕ) (t : Product) (l x : ℕ) (rows : List ℕ) : ℕ → List ℕ → Type 0 where
+  begun : ForcedBefore s n t l x rows 1 rows
+  further : (c : ℕ) (mid newRows : List ℕ) → ForcedBefore s n t l x rows c mid → ForcedWith s n t l x c mid newRows → ForcedBefore s n t l x rows (c + 1) newRows
 
 -- The answer is whether row c holds one element alone and its mark of use is 0.
 pub record Waits (rows used : List ℕ) (c : ℕ) (r : Bool) : Type 0 where

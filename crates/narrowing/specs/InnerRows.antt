@@ -1,9 +1,9 @@
 -- What a placing leaves of the rows, and what rows must not lose. A row holds the target elements that are left for a source element. Assumes nothing.
 use mathlib.Core.Path.{_≡_}
-use mathlib.Core.Bool.{Bool, true, _&&_, cond}
+use mathlib.Core.Bool.{Bool, true, false, _&&_, cond}
 use mathlib.Core.List.{List}
 use Prim.Native.Nat.{ℕ, _+_}
-use lib.Dec.{eqb}
+use lib.Dec.{eqb, leb}
 use lib.ListN.{replicate}
 use Rattle.semigroups.specs.Lists.{at}
 use Rattle.semigroups.specs.Tables.{Product, Element}
@@ -49,6 +49,16 @@ Multiplied s t image l k rows = (i : ℕ) → Element k i → Only rows (s i l) 
 -- What is left after placing x for l passes `narrowed` over the old rows.
 abbrev pub Narrows : ℕ → Product → ℕ → Product → ℕ → ℕ → (ℕ → ℕ → Bool) → (ℕ → ℕ → Bool) → Type 0
 Narrows m s n t l x old new = (c y : ℕ) → Element m c → Element n y → new c y ≡ true → narrowed s t old l x c y ≡ true
+
+-- What the answer of a narrowing by x for l says of the rows that it leaves: "yes" only if each of the first m rows has one of n elements, "no" only if
+-- `narrowed` leaves none for some source element.
+pub record KeptOrEmptied (m : ℕ) (s : Product) (n : ℕ) (t : Product) (l x : ℕ) (ok : Bool) (rows : ℕ → ℕ → Bool) : Type 0 where
+  pub kept : ok ≡ true → (c : ℕ) → Element m c → (y : ℕ) × Element n y × (rows c y ≡ true)
+  pub emptied : ok ≡ false → (c : ℕ) × Element m c × ((y : ℕ) → Element n y → narrowed s t rows l x c y ≡ false)
+
+-- Each of the first m rows has exactly those of its elements that are at most n and pass; the rows above m are as they were.
+abbrev pub KeepsExactly : ℕ → ℕ → (ℕ → ℕ → Bool) → (ℕ → ℕ → Bool) → (ℕ → ℕ → Bool) → Type 0
+KeepsExactly m n p old new = (c y : ℕ) → Element 120 c → Element 120 y → new c y ≡ (old c y && cond (leb c m) (leb y n && p c y) true)
 
 -- There is no image yet.
 abbrev pub Blank : List ℕ → Type 0

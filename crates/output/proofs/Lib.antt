@@ -1,3 +1,4 @@
 pub mod Records
 pub mod Said
 pub mod Program
+pub mod Rules

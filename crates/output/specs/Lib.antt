@@ -1,4 +1,5 @@
 pub mod Records
 pub mod Program
+pub mod Rules
 pub mod ProgramLaws
 pub mod Examples

@@ -6,3 +6,4 @@ pub mod Points
 pub mod Searching
 pub mod Trying
 pub mod Questions
+pub mod Requests

@@ -5,3 +5,4 @@ pub mod Examples
 pub mod Answers
 pub mod Calls
 pub mod CallsLaws
+pub mod Requests

@@ -1,15 +1,26 @@
 -- `force_with` meets its contract: an embedding among the rows sends c to what row c holds alone, and keeps products. Assumes nothing.
-use mathlib.Core.Path.{_≡_, sym, _∙_}
+use mathlib.Core.Path.{_≡_, refl, sym, ap, _∙_}
+use mathlib.Core.List.{List}
+use Prim.Native.Nat.{ℕ}
 use native.Mathlib.Omega.{arith}
 use borrow.Author.Needs.{needs}
 use Rattle.semigroups.specs.Tables.{product, Element}
 use Rattle.semigroups.specs.TablesLaws.{Closed}
 use Rattle.semigroups.proofs.Tables.{product-element}
-use Rattle.rows.specs.InnerRows.{rowOf, singleRow}
+use Rattle.rows.specs.InnerRows.{rowOf, masked, singleRow}
 use Rattle.rows.proofs.Rows.{shrinks-none, shrinks-more, forced-shrinks}
+use Rattle.narrowing.specs.InnerLone.{forcedBoth}
 use Rattle.narrowing.proofs.Lone.{lone-image, product-kept}
 use Rattle.narrowing.proofs.force_with.Statement.{statement}
 use Rattle.narrowing.proofs.force_with.Tie as tie
+
+-- What row c holds alone is what `lone` returns.
+module _ (k : tie.After-lone) where
+  abbrev start : tie.Start
+  start = k .before .before .before .before .before
+
+  alone-is : (y : ℕ) → Element (start .args .n) y → rowOf (start .args .rows .now) (start .args .c) ≡ singleRow y → k .lone .result ≡ y
+  alone-is y hy e = let o = start .pre .0 .1 .order in k .lone .ensures .found y (omega arith) (k .before .row-of .ensures ∙ e)
 
 row-of-requires : tie.Need-row-of-requires
 row-of-requires c κs = search needs
@@ -18,10 +29,32 @@ lone-requires : tie.Need-lone-requires
 lone-requires c κs = search needs
 
 returns : tie.Need-returns
-returns c = let a = c .before .before .before .before .before .before .args in ((λ f F e h. h), shrinks-none (a .rows .now))
+returns c =
+    let k = c .before in
+    let a = start k .args in (
+      (λ f F e h. h),
+      (
+        shrinks-none (a .rows .now),
+        record {
+          alone = λ y hy e. absurd (let q = alone-is k y hy e in let none = c .if1 .taken in let z : ⊥ = omega arith in z);
+          otherwise = λ _. refl;
+        },
+      ),
+    )
 
 returns-2 : tie.Need-returns-2
-returns-2 c = let a = c .before .before .before .before .before .before .before .args in ((λ f F e h. h), shrinks-none (a .rows .now))
+returns-2 c =
+    let k = c .before .before in
+    let a = start k .args in (
+      (λ f F e h. h),
+      (
+        shrinks-none (a .rows .now),
+        record {
+          alone = λ y hy e. absurd (let q = alone-is k y hy e in let above = c .if2 .taken in let z : ⊥ = omega arith in z);
+          otherwise = λ _. refl;
+        },
+      ),
+    )
 
 force-product-requires : tie.Need-force-product-requires
 force-product-requires c κs =
@@ -62,13 +95,21 @@ returns-3 c =
     let rows₁ = one .last .1 .1 .1 .1 .0 in
     let rows₂ = two .last .1 .1 .1 .1 .0 in
     let left = closed (a .l) (a .c) hl hc in
-    let right = closed (a .c) (a .l) hc hl in (
+    let right = closed (a .c) (a .l) hc hl in
+    let k = c .before .before .before .before .before .before in
+    let both-forced : rows₂ ≡ forcedBoth s t (a .l) (a .x) (a .c) y (a .rows .now) = two .ensures ∙ ap (λ (u : List ℕ). masked u (s (a .c) (a .l)) (singleRow (t y (a .x)))) (one .ensures) in (
       (λ f F e h.
           let image = lone-image (a .m) s (a .n) t f F (so .1) (to .1) (a .rows .now) h (a .c) y hc hy row in
           product-kept (a .m) s (a .n) t f F (so .1) (to .1) closed rows₁ rows₂ (a .c) y (a .l) (a .x) hc hl image e (two .ensures)
           (product-kept (a .m) s (a .n) t f F (so .1) (to .1) closed (a .rows .now) rows₁ (a .l) (a .x) (a .c) y hl hc e image (one .ensures) h)),
-      shrinks-more rows₁ rows₂ (a .rows .now) (forced-shrinks (a .rows .now) rows₁ (s (a .l) (a .c)) (t (a .x) y) (omega arith) (one .ensures))
-          (forced-shrinks rows₁ rows₂ (s (a .c) (a .l)) (t y (a .x)) (omega arith) (two .ensures)),
+      (
+        shrinks-more rows₁ rows₂ (a .rows .now) (forced-shrinks (a .rows .now) rows₁ (s (a .l) (a .c)) (t (a .x) y) (omega arith) (one .ensures))
+            (forced-shrinks rows₁ rows₂ (s (a .c) (a .l)) (t y (a .x)) (omega arith) (two .ensures)),
+        record {
+          alone = λ v hv e. both-forced ∙ ap (λ (w : ℕ). forcedBoth s t (a .l) (a .x) (a .c) w (a .rows .now)) (alone-is k v hv e);
+          otherwise = λ none. absurd (none y (omega arith) row);
+        },
+      ),
     )
 
 pub force-with-spec : {M : Type 1} → statement M

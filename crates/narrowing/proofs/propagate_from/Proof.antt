@@ -74,10 +74,10 @@ returns-3 c =
           let e = lone-image (a .m) s (a .n) t f F (so .1) (to .1) (a .rows .now) h (a .l) x hl hx row in
           w .ensures .0 f F e (force .ensures .0 f F e h)),
       (
-        shrinks-more (mid .0) (new .0) (a .rows .now) (force .ensures .1) (w .ensures .1 .0),
+        shrinks-more (mid .0) (new .0) (a .rows .now) (force .ensures .1 .0) (w .ensures .1 .0),
         λ ok v hv e.
             subst (λ (i : ℕ). Narrows (a .m) s (a .n) t (a .l) i (has (a .rows .now)) (has (new .0))) (found k v hv e)
-            (narrows-wider (a .m) s (a .n) t closed (so .1) (a .rows .now) (mid .0) (force .ensures .1) (a .l) x hl (has (new .0)) (w .ensures .1 .1 ok)),
+            (narrows-wider (a .m) s (a .n) t closed (so .1) (a .rows .now) (mid .0) (force .ensures .1 .0) (a .l) x hl (has (new .0)) (w .ensures .1 .1 .0 ok)),
       ),
     )
 
