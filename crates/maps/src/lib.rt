@@ -17,6 +17,7 @@ ghost use Rattle.semigroups.specs.Calls.{gives};
 ghost use Rattle.maps.specs.Calls.{mapCheck};
 ghost use Rattle.maps.specs.Answers.{mapAnswerSays, pairOption};
 
+// What the map check answers.
 pub enum MapAnswer {
     // One of questions 1 to 4 about a table fails, or question 5.
     Refused(Side, Fault),

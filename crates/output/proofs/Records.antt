@@ -15,7 +15,7 @@ use Rattle.semigroups.specs.Calls.{overwritten}
 use Rattle.csv.proofs.Decimals.{digits-few}
 use Rattle.csv.proofs.Writing.{Writing, write-first, write-last, sets-overwritten}
 use Rattle.lines.proofs.Lines.{written, three-fields, two-fields}
-use Rattle.files.specs.Answers.{refusedWord}
+use Rattle.files.specs.Files.{refusedWord}
 use Rattle.output.specs.Records.{foundWord, firstRecord, pairRecord, pairRecords, foundRecords, refusedRecords}
 
 -- ---- a record

@@ -2,3 +2,4 @@ pub mod Records
 pub mod Program
 pub mod ProgramLaws
 pub mod Examples
+pub mod InnerLength
