@@ -37,6 +37,7 @@ abbrev pub endedUnless : Bool → Bool → ℕ → Limited
 endedUnless true found trials = stopped
 endedUnless false found trials = ended (soughtIf found) trials
 
+-- The result of a search that these values of the code stand for.
 abbrev pub searchedSays : Searched → Limited
 searchedSays r = endedUnless (r .stopped) (r .found) (r .trials)
 
