@@ -84,7 +84,7 @@ static size_t first_bad_cell(const uint8_t *text, size_t length)
     return byte;
 }
 
-/* How many cells the row has that starts at a byte; the byte behind its CR LF, or the length. */
+/* How many cells the row has that starts at a byte; the byte after its CR LF, or the length. */
 static size_t row_cells(const uint8_t *text, size_t length, size_t *byte)
 {
     size_t cells = 1;

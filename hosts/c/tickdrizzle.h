@@ -16,7 +16,7 @@
  *   answer[0]      0, or where the call is refused the number of the earliest failed question (TICKDRIZZLE_NO_...)
  *   answer[1]      the table that a refusal names (TICKDRIZZLE_SOURCE, TICKDRIZZLE_TARGET), else 0
  *   answer[2..15]  the values said below, then zeros
- * A refused call changes no byte of any buffer. Bytes behind the part that a call is said to write stay as they were.
+ * A refused call changes no byte of any buffer. Bytes after the part that a call is said to write stay as they were.
  */
 #ifndef TICKDRIZZLE_H
 #define TICKDRIZZLE_H
@@ -311,7 +311,7 @@ void tickdrizzle_copies(const uint8_t *source, size_t source_length, size_t sour
 /*
  * The same calls with structs and enums. Each is its call above with the fields of its tables as arguments, and hands back the numbers of
  * the answer under their names; nothing is computed here. All that is said above holds of these too. Where refusal.question is not
- * TICKDRIZZLE_ACCEPTED, the fields behind refusal mean nothing.
+ * TICKDRIZZLE_ACCEPTED, the fields after refusal mean nothing.
  */
 
 /* The text of the question with this number; an empty one where there is no such question. */

@@ -22,7 +22,7 @@ amongQuestions m source n target mapLength scratchLength pairsLength = searchQue
 unfoldable pub amongRefusal : ℕ → List ℕ → ℕ → List ℕ → ℕ → ℕ → ℕ → Option Refusal
 amongRefusal m source n target mapLength scratchLength pairsLength = firstNo (amongQuestions m source n target mapLength scratchLength pairsLength)
 
--- The earliest failed question.
+-- The refusal by the earliest failed question, if one fails.
 abbrev pub refusalAmong : List ℕ → Lent → Option Refusal
 refusalAmong pairs l = amongRefusal (l .m) (l .source) (l .n) (l .target) (length (l .mapBytes)) (length (l .scratch)) (length pairs)
 
@@ -34,6 +34,6 @@ answerAmong ask pairs l = earliest ask (allowed (l .m) (product (l .m) (l .sourc
 abbrev pub marksAmong : List ℕ → Lent → List ℕ
 marksAmong pairs l = marks (l .m) (l .n) (allowedCandidate (l .m) (product (l .m) (l .source)) (l .n) (product (l .n) (l .target)) pairs)
 
--- A call of a search among given pairs.
+-- What a call of a search among given pairs says and leaves.
 unfoldable pub callAmong : Ask → List ℕ → Lent → Called (Answer Sought)
 callAmong ask pairs l = leaving (marksAmong pairs l) l (refusalAmong pairs l) (sought (answerAmong ask pairs l)) (answerAmong ask pairs l)

@@ -14,12 +14,15 @@ use Rattle.calls.specs.Among.{callAmong}
 use Rattle.calls.specs.Subsemigroups.{subsemigroupSays, partAfter, elementsAfter}
 use Rattle.calls.specs.Copies.{copiesSays, copiesScratch}
 
+-- The group of order 2.
 abbrev pub group : List ℕ
 group = 1 ∷ 2 ∷ 2 ∷ 1 ∷ []
 
+-- The table of all transformations of two points.
 abbrev pub degreeTwo : List ℕ
 degreeTwo = 1 ∷ 1 ∷ 4 ∷ 4 ∷ 1 ∷ 2 ∷ 3 ∷ 4 ∷ 1 ∷ 3 ∷ 2 ∷ 4 ∷ 1 ∷ 4 ∷ 1 ∷ 4 ∷ []
 
+-- A call with the group as the source and that table as the target.
 abbrev pub groupInTwo : Lent
 groupInTwo = lend group 2 degreeTwo 4 (7 ∷ 8 ∷ []) (9 ∷ 9 ∷ [])
 
@@ -47,5 +50,6 @@ SubsemigroupCallExamples =
     (subsemigroupSays 4 degreeTwo (3 ∷ []) 5 3 ≡ gives 2) × (elementsAfter 4 degreeTwo (3 ∷ []) 5 (9 ∷ 9 ∷ 9 ∷ []) ≡ 2 ∷ 3 ∷ 9 ∷ [])
     × (partAfter 4 degreeTwo (3 ∷ []) (9 ∷ 9 ∷ 9 ∷ 9 ∷ 9 ∷ []) 3 ≡ 1 ∷ 2 ∷ 2 ∷ 1 ∷ 9 ∷ [])
 
+-- The group has one copy in that table.
 abbrev pub CopiesCallExamples : Type 0
 CopiesCallExamples = (copiesSays 2 group 4 degreeTwo 2 ≡ gives (copies.number 1)) × (copiesScratch 2 group 4 degreeTwo (9 ∷ 9 ∷ []) ≡ 75 ∷ 9 ∷ [])

@@ -11,14 +11,14 @@ use Rattle.semigroups.specs.Trials.{Work, work, Limited, limited, foundWithin, 
 use Rattle.calls.specs.Kinds.{orderFits}
 use Rattle.calls.specs.Calls.{Lent, Called, refusalOf, leaving, marksOf}
 
--- The target's product as a search of the kind tests it: for reversed maps, with its factors exchanged (RULES 10).
+-- The target's product as a search of the kind tests it: for reversed maps, with its factors exchanged (RULES 10.2).
 abbrev pub readBy : Kind → Product → Product
 readBy embeddings t = t
 readBy isomorphisms t = t
 readBy reversed t = turned t
 
 -- The work of the search for the first map of the kind. If the orders rule a map out (m > n, or for isomorphisms m different from n), there is no trial and no
--- map.
+-- map (RULES 9.7).
 unfoldable pub firstWork : Kind → Lent → Work
 firstWork kind l =
     let s = product (l .m) (l .source) in
@@ -26,6 +26,6 @@ firstWork kind l =
     let searched = searchWork s (readBy kind t) (candidate kind (l .m) s (l .n) t) (l .n) (l .m) [] in
     cond (orderFits kind (l .m) (l .n)) searched (work none 0)
 
--- A call of a search with a limit.
+-- What a call of a search with a limit says and leaves.
 unfoldable pub limitedCall : Kind → ℕ → Lent → Called (Answer Limited)
 limitedCall kind limit l = let w = firstWork kind l in leaving (marksOf kind l) l (refusalOf l) (limited limit w) (foundWithin limit w)

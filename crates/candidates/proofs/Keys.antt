@@ -1,4 +1,5 @@
--- Keys: their parts can be told apart, since each takes one of its values; and the keys of all elements, one part more at a time. Assumes nothing.
+-- Keys: their parts can be told apart, since each is below the number of its values; and the keys of all elements, with one part more at a time.
+-- Assumes nothing.
 use mathlib.Core.Path.{_≡_, refl, sym, ap, ap₂, _∙_}
 use mathlib.Core.Logic.{⊎-elim}
 use mathlib.Core.Bool.{Bool, true, _&&_, and-true, and-assoc}

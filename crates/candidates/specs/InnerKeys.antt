@@ -13,9 +13,11 @@ pub record KeyPart (A : Type 0) : Type 0 where
   pub number : A → ℕ
   pub values : ℕ
 
+-- A number that takes one byte of a key.
 abbrev pub byte : {A : Type 0} → (A → ℕ) → KeyPart A
 byte number = record { number = number; values = 256 }
 
+-- A number that takes two bytes of a key.
 abbrev pub twoBytes : {A : Type 0} → (A → ℕ) → KeyPart A
 twoBytes number = record { number = number; values = 65536 }
 
@@ -24,6 +26,7 @@ unfoldable pub packed : {A : Type 0} → List (KeyPart A) → A → ℕ → ℕ
 packed [] v key = key
 packed (p ∷ parts) v key = packed parts v (key * p .values + p .number v)
 
+-- The index and the period as parts of a key.
 abbrev pub indexPeriodParts : List (KeyPart IndexPeriod)
 indexPeriodParts = byte (λ v. v .index) ∷ byte (λ v. v .period) ∷ []
 
@@ -31,6 +34,7 @@ indexPeriodParts = byte (λ v. v .index) ∷ byte (λ v. v .period) ∷ []
 abbrev pub countParts : List (KeyPart Profile)
 countParts = twoBytes (λ v. v .frequency) ∷ byte (λ v. v .diagonal) ∷ byte (λ v. v .row) ∷ byte (λ v. v .column) ∷ byte (λ v. v .commuting) ∷ []
 
+-- The key of an index-period.
 unfoldable pub indexPeriodKey : IndexPeriod → ℕ
 indexPeriodKey v = packed indexPeriodParts v 0
 

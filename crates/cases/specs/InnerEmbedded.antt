@@ -1,4 +1,4 @@
--- The first embedding of swap in two, with a scratch buffer of some bytes at the start of 3: what is compared. Assumes nothing.
+-- What is compared of the first embedding of swap in two, where scratch is the first bytes of an array of 3. Assumes nothing.
 use mathlib.Core.List.{List, [], _∷_, _++_}
 use Prim.Native.Nat.{ℕ}
 use lib.Dec.{eqb}
@@ -23,6 +23,7 @@ twoCells = 1 ∷ 1 ∷ 4 ∷ 4 ∷ 1 ∷ 2 ∷ 3 ∷ 4 ∷ 1 ∷ 3 ∷ 2 ∷ 4 �
 abbrev pub mat5Cells : List ℕ
 mat5Cells = 1 ∷ 1 ∷ 1 ∷ 1 ∷ 1 ∷ 1 ∷ 2 ∷ 3 ∷ 2 ∷ 3 ∷ 1 ∷ 1 ∷ 1 ∷ 2 ∷ 3 ∷ 1 ∷ 4 ∷ 5 ∷ 4 ∷ 5 ∷ 1 ∷ 1 ∷ 1 ∷ 4 ∷ 5 ∷ []
 
+-- The call, with this many bytes of scratch.
 abbrev pub embeddedCall : ℕ → Called (Answer Sought)
 embeddedCall size = call embeddings first (lend swapCells 2 twoCells 4 (0 ∷ 0 ∷ []) (take size (replicate 3 255)))
 

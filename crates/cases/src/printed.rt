@@ -15,7 +15,8 @@ use judging::tally::counted;
 use judging::tally::start;
 use search::Kind;
 
-// One call on a map buffer of m bytes, the start of `before`: what is said, and the map buffer afterwards.
+// Makes one call on a map buffer of m bytes, the start of `before`, and compares what it answers and the map buffer afterwards with `said` and `after`.
+// Returns the tally.
 fn told(
     kind: Kind,
     next: bool,
@@ -47,7 +48,7 @@ fn told(
     counted(answered, same_bytes(&buffer, &after))
 }
 
-// Cases 6 to 9 and 13: embeddings.
+// Compares cases 6 to 9 and 13, which are about embeddings, and returns the tally.
 pub fn embeddings() -> Tally
     ensures answer { λ r. ⌜ r ≡ agreed 20 empty ⌝ }
 {
@@ -156,7 +157,7 @@ pub fn embeddings() -> Tally
     told(kind, false, &TWO, 4, &SWAP, 2, zeros, 0, zeros, i)
 }
 
-// Cases 10 to 12: isomorphisms.
+// Compares cases 10 to 12, which are about isomorphisms, and returns the tally.
 pub fn isomorphisms() -> Tally
     ensures answer { λ r. ⌜ r ≡ agreed 14 empty ⌝ }
 {

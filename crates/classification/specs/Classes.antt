@@ -61,13 +61,13 @@ pub data Note : Type 0 where
   refusedBy : ℕ → Note
   inClass : ℕ → ℕ → Note
 
--- The note of a file, from its refusal if it has one, else from its order and the lowest file of its class.
+-- The note of a file, from its refusal if it has one, otherwise from its order and the lowest file of its class.
 abbrev pub noteBy : Option Refusal → ℕ → ℕ → Note
 noteBy none order lowest = inClass order lowest
 noteBy (some r) order lowest = refusedBy (r .number)
 
 module _ (files : List (List ℕ)) where
-  -- The bytes of file k. After the last file, where nothing asks, it is an empty file.
+  -- The bytes of file k. After the last file, which nothing asks for, there is an empty file.
   unfoldable pub file : ℕ → List ℕ
   file k = getD files (k - 1) []
 

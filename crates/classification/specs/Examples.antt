@@ -29,9 +29,10 @@ ClassesExample = classesOutput (swapFile ∷ nullFile ∷ swapFile ∷ []) ≡ c
 unfoldable pub emptyPrinted : List ℕ
 emptyPrinted = 114 ∷ 101 ∷ 102 ∷ 117 ∷ 115 ∷ 101 ∷ 100 ∷ 44 ∷ 49 ∷ 44 ∷ 50 ∷ 48 ∷ 13 ∷ 10 ∷ []
 
--- A folder with the files 1, 2 and 4, and one with every file.
+-- A folder with the files 1, 2 and 4.
 unfoldable pub gapFolder : Folder
 gapFolder k = cond (member k (1 ∷ 2 ∷ 4 ∷ [])) (some swapFile) none
 
+-- A folder with every file.
 unfoldable pub fullFolder : Folder
 fullFolder k = some swapFile

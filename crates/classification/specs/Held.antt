@@ -13,8 +13,8 @@ use Rattle.classification.specs.declared.Task.{Task}
 use Rattle.classification.specs.declared.Task.the-variants.{Read, Compare, Stop}
 use Rattle.classification.specs.declared.Classifier.{Classifier}
 
--- The note that two bytes hold. Order 0 stands for a refused file, and the other byte is then the number of the question; else it is the lowest file of the
--- class.
+-- The note that two bytes hold. Order 0 stands for a refused file, and the other byte is then the number of the question; otherwise it is the lowest file of
+-- the class.
 abbrev pub noteFrom : ℕ → ℕ → Note
 noteFrom zero number = refusedBy number
 noteFrom (suc n) number = inClass (suc n) number

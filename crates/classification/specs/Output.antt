@@ -9,7 +9,7 @@ use lib.ListN.{length, getD}
 use Rattle.semigroups.specs.Lists.{elements, keep, count}
 use Rattle.csv.specs.Decimals.{numeral}
 use Rattle.csv.specs.Records.{rowsText}
-use Rattle.files.specs.Answers.{refusedWord}
+use Rattle.files.specs.Files.{refusedWord}
 use Rattle.classification.specs.Classes.{Folder, filesOf, Note, refusedBy, inClass, notesOf}
 
 -- ---- the words of the records, as bytes

@@ -19,8 +19,8 @@ abbrev pub namesOrder : ℕ → ℕ → Note → Bool
 namesOrder n i (refusedBy q) = false
 namesOrder n i (inClass m l) = eqb m n && eqb l i
 
--- What the program does with the next file: it is a new one; or it is file j, read again, to be compared with the new file's table, which has order n and
--- these cells; or no more files are asked for.
+-- What comes next: a new file is read; or file j is read again, to be compared with the new file's table, which has order n and these cells; or no more
+-- files are asked for.
 pub data Phase : Type 0 where
   reading : Phase
   comparing : ℕ → List ℕ → ℕ → Phase
@@ -86,7 +86,8 @@ step s answer = stepIn (s .notes) (s .phase) answer
 
 -- ---- what always holds of the progress
 
--- There are at most 50 notes; a new file that is being compared is one of them, holds an accepted table, and is compared with a file before it.
+-- There are at most 50 notes. While a new file is compared, there is room for its note, its table is accepted, and the file that it is compared with has a
+-- note.
 abbrev pub SoundIn : List Note → Phase → Type 0
 SoundIn notes reading = length notes ≤ mostFiles
 SoundIn notes (comparing n cells j) = (length notes < mostFiles) × Accepted n cells × Element (length notes) j

@@ -16,6 +16,7 @@ stillToReadIn notes reading = (mostFiles - length notes) * suc mostFiles
 stillToReadIn notes (comparing n cells j) = (mostFiles - length notes) * suc mostFiles - j
 stillToReadIn notes over = 0
 
+-- A bound on how many files may still be asked for.
 abbrev pub stillToRead : Progress → ℕ
 stillToRead s = stillToReadIn (s .notes) (s .phase)
 

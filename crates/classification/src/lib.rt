@@ -339,7 +339,7 @@ impl Classifier {
         self.onward(n, j)
     }
 
-    // Takes the bytes of the file that was wanted, or that it could not be opened, and returns what comes next. The new file's table is kept in `cells`.
+    // Takes the bytes of the file that was wanted, if it could be opened, and returns the classifier after it. The new file's table is kept in `cells`.
     pub fn step(self, opened: bool, text: &[u8], cells: &mut [u8]) -> Classifier
         requires room { ⌜ length (now cells) ≡ room ⌝ }
         requires sound { ⌜ progress.Sound (progressOf self (now cells)) ⌝ }

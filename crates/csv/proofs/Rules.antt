@@ -1,4 +1,4 @@
--- The rules of RULES 19, hold: each field is a law of its subject. Instances are in Examples. Assumes nothing.
+-- What RULES 19 says of tables as text holds: each field is a law of its subject. Instances are in Examples. Assumes nothing.
 use mathlib.Core.Path.{sym, _∙_}
 use Rattle.csv.specs.Rules.{TextRules}
 use Rattle.csv.proofs.Bytes.{closed-is}

@@ -9,7 +9,7 @@ use lib.Dec.{leb, ltb}
 unfoldable pub isDigit : ℕ → Bool
 isDigit b = leb 48 b && leb b 57
 
--- The number that v and the digits that follow make.
+-- The number that v becomes when these digits are written after it.
 unfoldable pub valueFrom : ℕ → List ℕ → ℕ
 valueFrom v [] = v
 valueFrom v (b ∷ f) = valueFrom (v * 10 + (b - 48)) f
@@ -18,7 +18,7 @@ valueFrom v (b ∷ f) = valueFrom (v * 10 + (b - 48)) f
 unfoldable pub value : List ℕ → ℕ
 value f = valueFrom 0 f
 
--- The number k in decimal with no leading 0, if k has at most d digits. Of a larger k, which no cell is, it is the last d digits.
+-- The number k in decimal with no leading 0, if k has at most d digits. For a larger k, which no cell is, it is only the last d digits.
 unfoldable pub numeralWithin : ℕ → ℕ → List ℕ
 numeralWithin zero k = []
 numeralWithin (suc d) k = let r = numeralWithin d (k / 10) in cond (ltb k 10) [] r ++ (48 + k % 10) ∷ []

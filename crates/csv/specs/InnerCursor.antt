@@ -21,10 +21,10 @@ fieldEnd t at = at + length (digits (drop at t))
 unfoldable pub commaFollows : List ℕ → ℕ → Bool
 commaFollows t at = eqb (getD t (fieldEnd t at) 0) 44
 
--- Where the next field begins: after the comma, else after the line break. Where the text ends, no field begins there.
+-- Where the next field begins: after the comma, otherwise after the line break. Where the text ends, no field begins there.
 unfoldable pub nextField : List ℕ → ℕ → ℕ
 nextField t at = cond (commaFollows t at) (fieldEnd t at + 1) (fieldEnd t at + 2)
 
--- Whether there is a next field. After a comma there always is one, though it may be empty at the end of the text; else there is one if bytes are left.
+-- Whether there is a next field. After a comma there always is one, though it may be empty at the end of the text; otherwise there is one if bytes are left.
 unfoldable pub fieldFollows : List ℕ → ℕ → Bool
 fieldFollows t at = commaFollows t at || ltb (nextField t at) (length t)

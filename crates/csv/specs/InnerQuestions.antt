@@ -5,15 +5,14 @@ use Prim.Native.Nat.{ℕ}
 use Rattle.semigroups.specs.Questions.{Refusal, firstNo}
 use Rattle.csv.specs.Questions.{bytesQuestion, fieldsQuestions, gridQuestions}
 
--- ---- the bytes of a text; places count from 0
-
+-- The refusal of the bytes of a text by question 21, if it fails.
 unfoldable pub bytesRefusal : List ℕ → Option Refusal
 bytesRefusal t = firstNo (bytesQuestion t ∷ [])
 
--- ---- the fields of a text
-
+-- The refusal of fields, if a question about one of them fails.
 unfoldable pub fieldsRefusal : List (List ℕ) → Option Refusal
 fieldsRefusal fs = firstNo (fieldsQuestions fs)
 
+-- The refusal of a text for a given order n, if a question about its fields or 26 fails.
 unfoldable pub gridRefusal : ℕ → List ℕ → Option Refusal
 gridRefusal n t = firstNo (gridQuestions n t)

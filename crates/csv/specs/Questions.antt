@@ -15,7 +15,7 @@ use Rattle.csv.specs.Decimals.{isDigit, value}
 use Rattle.csv.specs.Records.{isBreak, rows}
 use Rattle.csv.specs.Tables.{fieldsOf, orderOf, tableText}
 
--- The largest number of bytes that a text may have: those of a table of order 120 whose cells all take three digits.
+-- The largest number of bytes that a text may have (question 20): those of a table of order 120 whose cells all take three digits.
 abbrev pub longestText : ℕ
 longestText = 57720
 
@@ -34,7 +34,7 @@ inBreak t (suc p) = breakAt t p || breakAt t (suc p)
 unfoldable pub isAllowed : List ℕ → ℕ → Bool
 isAllowed t p = isDigit (getD t p 0) || (eqb (getD t p 0) 44 || inBreak t p)
 
--- The place of the first other byte.
+-- The place of the first byte that is none of these, or none.
 unfoldable pub firstOther : List ℕ → Option ℕ
 firstOther t = find (λ p. not (isAllowed t p)) (range 0 (length t))
 

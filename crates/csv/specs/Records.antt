@@ -8,11 +8,11 @@ use mathlib.Core.List.{List, [], _∷_, _++_, map, flatMap}
 use Prim.Native.Nat.{ℕ}
 use lib.Dec.{eqb}
 
--- Whether two bytes in a row are a line break.
+-- Whether two bytes, one after the other, are a line break.
 unfoldable pub isBreak : ℕ → ℕ → Bool
 isBreak b c = eqb b 13 && eqb c 10
 
--- The lists with x put in front of the first one; if there is no list, the one list that holds x alone.
+-- The lists with b put in front of the first one; if there is no list, the one list that holds b alone.
 unfoldable pub onto : ℕ → List (List ℕ) → List (List ℕ)
 onto b [] = (b ∷ []) ∷ []
 onto b (l ∷ ls) = (b ∷ l) ∷ ls

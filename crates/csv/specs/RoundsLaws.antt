@@ -63,10 +63,11 @@ textHeld b = take (b .size) (b .text)
 unfoldable pub saved : ℕ → List ℕ → Buffers → Buffers
 saved n cells b = record { text = textAfter n cells (b .text); size = given (saveAnswer n cells (b .text)); cells = b .cells }
 
--- The order and the cells that loading the text gives.
+-- The order that loading the text gives.
 abbrev pub loadedOrder : Buffers → ℕ
 loadedOrder b = given (loadAnswer (textHeld b) (b .cells))
 
+-- The cells that loading the text gives.
 abbrev pub loadedCells : Buffers → List ℕ
 loadedCells b = take (loadedOrder b * loadedOrder b) (cellsAfter (textHeld b) (b .cells))
 
@@ -74,6 +75,7 @@ loadedCells b = take (loadedOrder b * loadedOrder b) (cellsAfter (textHeld b) (b
 unfoldable pub round : Buffers → Buffers
 round b = saved (loadedOrder b) (loadedCells b) (record { text = b .text; size = b .size; cells = cellsAfter (textHeld b) (b .cells) })
 
+-- The buffers after this many rounds.
 unfoldable pub rounds : ℕ → Buffers → Buffers
 rounds zero b = b
 rounds (suc k) b = round (rounds k b)

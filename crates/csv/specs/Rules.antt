@@ -1,4 +1,4 @@
--- The rules of RULES 19, as sentences about the definitions. Assumes nothing.
+-- What RULES 19 says of tables as text, as sentences about the definitions. Assumes nothing.
 use mathlib.Core.Path.{_≡_}
 use mathlib.Core.List.{List}
 use Prim.Native.Nat.{ℕ, _*_, _≤_, _<_}

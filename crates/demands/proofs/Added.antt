@@ -38,7 +38,7 @@ use Rattle.search.proofs.AmongLaws.{among-laws}
 use Rattle.search.proofs.AmongExamples.{among-examples}
 use Rattle.calls.specs.Copies.{copiesSays, copiesScratch}
 use Rattle.copies.proofs.Answering.{copies-keep}
-use Rattle.demands.specs.Added.{AddedCalls}
+use Rattle.demands.specs.AddedLaws.{AddedCalls}
 use Rattle.demands.proofs.Answers.{asks, answers, search-answers}
 
 pub added-calls : AddedCalls

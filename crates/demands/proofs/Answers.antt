@@ -10,7 +10,7 @@ use Rattle.semigroups.proofs.Questions.{earliest-no}
 use Rattle.semigroups.proofs.Calls.{given-or-refused, refused-by, given-by}
 use Rattle.calls.specs.Calls.{Lent, leaving}
 use Rattle.search.proofs.Calls.{leaving-says}
-use Rattle.demands.specs.Answers.{Asks, Answers}
+use Rattle.demands.specs.AnswersLaws.{Asks, Answers}
 
 module _ {Needs : Type 0} (qs : List Question) (w : (firstNo qs ≡ none) ↔ Needs) where
   -- Questions alone.

@@ -1,4 +1,4 @@
-pub mod Answers
+pub mod AnswersLaws
 pub mod Demand1
 pub mod Demand2
-pub mod Added
+pub mod AddedLaws

@@ -381,6 +381,7 @@ pub extern "C" fn tickdrizzle_first_reversed_isomorphism_within(
 
 // ---- the fewest rest positions
 
+// Returns the sixteen numbers of an answer about the least degree.
 fn degree_words(said: DegreeAnswer) -> [u64; 16]
     ensures answer { λ r. ⌜ r ≡ answerWords degreeValues (degreeAnswerSays said) ⌝ }
 {

@@ -1,5 +1,5 @@
--- What programs say of a file that is refused (RULES 21.1). Assumes nothing.
-use mathlib.Core.List.{List, [], _∷_}
+-- What the function that asks the questions about a file answers (RULES 21.1). Assumes nothing.
+use mathlib.Core.List.{List}
 use Prim.Native.Nat.{ℕ}
 use lib.ListN.{length}
 use Rattle.semigroups.specs.Calls.{Answer, refused, gives, givenUnless}
@@ -10,10 +10,6 @@ use Rattle.files.specs.Files.{fileRefusal}
 abbrev pub failedNumber : Answer ℕ → ℕ
 failedNumber (refused r) = r .number
 failedNumber (gives n) = 0
-
--- The word "refused", as bytes.
-abbrev pub refusedWord : List ℕ
-refusedWord = 114 ∷ 101 ∷ 102 ∷ 117 ∷ 115 ∷ 101 ∷ 100 ∷ []
 
 -- What is said of a file: its order, or its earliest failed question.
 unfoldable pub fileAnswer : List ℕ → List ℕ → Answer ℕ

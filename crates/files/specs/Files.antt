@@ -22,3 +22,7 @@ fileRefusal t room = firstNo (fileQuestions t room)
 -- The number of cells that has room for every table: those of the largest order.
 abbrev pub room : ℕ
 room = largestOrder * largestOrder
+
+-- The word "refused", with which the record of a refused file begins (RULES 21.3 and 22.3).
+abbrev pub refusedWord : List ℕ
+refusedWord = 114 ∷ 101 ∷ 102 ∷ 117 ∷ 115 ∷ 101 ∷ 100 ∷ []

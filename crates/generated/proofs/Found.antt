@@ -1,5 +1,5 @@
--- Elements found one by one: what additions in turn make of the list; and that a list that is multiplied entry by entry with all before it ends as what
--- was to be generated. Assumes nothing.
+-- Elements found one by one: the list after additions in turn; and a list in which every entry was multiplied with all before it holds all that is
+-- generated. Assumes nothing.
 use mathlib.Core.Path.{_≡_, refl, sym, ap, ap₂, _∙_, subst}
 use mathlib.Core.Logic.{_⊎_, inl, inr, ⊎-elim}
 use mathlib.Core.List.{List, [], _∷_, _++_, flatMap, append-nil, append-assoc, List·Memᴰ, List·Memᴰ·head, List·Memᴰ·tail, List·Memᴰ·not-nil, List·Memᴰ·cases-cons, List·Memᴰ·eq-of-singleton, Memᴰ·append-left, Memᴰ·cast}

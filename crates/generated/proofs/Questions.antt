@@ -1,4 +1,5 @@
--- The questions about a list: its entries as cells, as question 50 is asked as question 3 is; and triples with their middle on it. Assumes nothing.
+-- The questions about a list: question 50 is asked of its entries as question 3 is asked of cells; and triples with their middle on the list.
+-- Assumes nothing.
 use mathlib.Core.Path.{_≡_, refl, subst}
 use mathlib.Core.Bool.{Bool, true, false, _&&_}
 use mathlib.Core.List.{List, [], _∷_}

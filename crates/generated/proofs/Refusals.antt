@@ -1,4 +1,4 @@
--- The refusals of a table with a list of its elements are brief. Assumes nothing.
+-- The refusals of the shorter check carry at most three values (`Brief` in `tables`). Assumes nothing.
 use native.Mathlib.Omega.{arith}
 use Rattle.tables.specs.AnswersLaws.{Brief}
 use Rattle.tables.proofs.Refusals.{fault-brief}

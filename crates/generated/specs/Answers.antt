@@ -1,5 +1,4 @@
--- What calls about a table and a list of its elements say, and what their answers mean: for each case the number of the question and the values said
--- with it. Assumes nothing.
+-- What the answers of the shorter check mean (RULES 15 and 7): for each case the number of the question and the values said with it. Assumes nothing.
 use mathlib.Core.List.{[]}
 use mathlib.Core.Option.{Option, none, some}
 use Rattle.semigroups.specs.Questions.{Refusal}

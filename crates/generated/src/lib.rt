@@ -96,7 +96,7 @@ pub enum GeneratorsFault {
 }
 
 impl GeneratorsFault {
-    // Returns its number and values; it names no side.
+    // Returns the refusal by this fault: its number and values; it names no side.
     pub fn refusal(self) -> Refusal
         ensures answer { λ r. ⌜ r ≡ refusalNumbers (generatorsFaultRefusal self) ⌝ }
     {
@@ -108,6 +108,7 @@ impl GeneratorsFault {
     }
 }
 
+// The answer of the shorter check.
 pub enum GeneratorsVerdict {
     Accepted,
     Refused(GeneratorsFault),

@@ -19,6 +19,7 @@ use tables::limits::PLACES;
 
 // ---- the questions
 
+// The answer to the questions about an element.
 pub enum ElementVerdict {
     Accepted,
     Refused(No),
@@ -49,6 +50,7 @@ pub struct IndexPeriod {
     pub idempotent: usize,
 }
 
+// What a call for the index-period answers.
 pub enum IndexPeriodAnswer {
     Value(IndexPeriod),
     Refused(No),
@@ -177,6 +179,7 @@ struct LineCounts {
     commuting: [u16; ORDER],
 }
 
+// Returns the counts of every element over its row and its column.
 fn line_counts(cells: &[u8], n: usize) -> LineCounts
     requires { ⌜ Filled n (now cells) ⌝ }
     ensures answer { λ r. ⌜ AllLineCounts n (product n (now (cells .entry))) r ⌝ }
@@ -210,11 +213,13 @@ pub struct ElementProfile {
     pub commuting: usize,
 }
 
+// What a call for the profile answers.
 pub enum ProfileAnswer {
     Value(ElementProfile),
     Refused(No),
 }
 
+// Returns the profile of element a.
 fn profile_of(cells: &[u8], n: usize, a: usize) -> ElementProfile
     requires { ⌜ Filled n (now cells) ⌝ ∗ ⌜ Element n a ⌝ ∗ ⌜ Associative n (product n (now cells)) ⌝ }
     ensures answer { λ r. ⌜ profileValue r ≡ profile n (product n (now (cells .entry))) a ⌝ }

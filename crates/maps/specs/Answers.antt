@@ -1,4 +1,4 @@
--- What a call of the map check says, and what its answers mean (RULES 12 and 7). Assumes nothing.
+-- What the answers of the map check mean (RULES 12 and 7). Assumes nothing.
 use mathlib.Core.List.{List, [], _∷_}
 use mathlib.Core.Option.{Option, none, some}
 use Prim.Native.Nat.{ℕ}

@@ -19,6 +19,7 @@ ghost use Rattle.maps.specs.Answers.{mapAnswerSays, pairOption};
 
 pub mod exchanges;
 
+// What the map check answers.
 pub enum MapAnswer {
     // One of questions 1 to 4 about a table fails, or question 5.
     Refused(Side, Fault),

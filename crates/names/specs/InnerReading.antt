@@ -24,10 +24,12 @@ use Rattle.names.specs.declared.Judged.the-variants.{Passed, Failed}
 
 -- ---- the automaton
 
+-- The field of a record that a value of the code stands for.
 abbrev pub partOf : Part → automaton.Column
 partOf Number = automaton.number-part
 partOf Name = automaton.name-part
 
+-- The state that a value of the code stands for.
 abbrev pub stateOf : State → automaton.State
 stateOf (Opening n) = automaton.opening (partOf n)
 stateOf (Bare n) = automaton.bare (partOf n)

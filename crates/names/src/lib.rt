@@ -98,6 +98,7 @@ fn after_field(part: Part, b: u8) -> State
     }
 }
 
+// Returns the state after a byte in a field with no quote marks.
 fn bare_step(part: Part, b: u8) -> State
     ensures answer { λ r. ⌜ stateOf r ≡ bareStep (partOf part) b ⌝ }
 {
@@ -107,6 +108,7 @@ fn bare_step(part: Part, b: u8) -> State
     after_field(part, b)
 }
 
+// Returns the state after the first byte of a field.
 fn opening_step(part: Part, b: u8) -> State
     ensures answer { λ r. ⌜ stateOf r ≡ openingStep (partOf part) b ⌝ }
 {
@@ -116,6 +118,7 @@ fn opening_step(part: Part, b: u8) -> State
     bare_step(part, b)
 }
 
+// Returns the state after a byte between quote marks.
 fn quoted_step(part: Part, b: u8) -> State
     ensures answer { λ r. ⌜ stateOf r ≡ stateAfter (stateOf (Quoted part)) b ⌝ }
 {
@@ -128,6 +131,7 @@ fn quoted_step(part: Part, b: u8) -> State
     State::Dead
 }
 
+// Returns the state after a byte that follows a quote mark inside or at the end of a quoted field.
 fn shut_step(part: Part, b: u8) -> State
     ensures answer { λ r. ⌜ stateOf r ≡ stateAfter (stateOf (Shut part)) b ⌝ }
 {
@@ -137,6 +141,7 @@ fn shut_step(part: Part, b: u8) -> State
     after_field(part, b)
 }
 
+// Returns the state after a byte that follows CR.
 fn cr_step(b: u8) -> State
     ensures answer { λ r. ⌜ stateOf r ≡ stateAfter (stateOf Cr) b ⌝ }
 {
@@ -161,6 +166,7 @@ fn step(state: State, b: u8) -> State
     }
 }
 
+// Returns whether the field is the second of its record, so that the text may end in it.
 fn is_name_part(part: Part) -> bool
     ensures answer { λ r. ⌜ r ≡ accepting (stateOf (Bare part)) ⌝ }
 {
@@ -206,6 +212,7 @@ enum Form {
     Offends(usize),
 }
 
+// Asks question 40: is the text one or more records of two fields? Returns that it is, or the offending place.
 fn scan(text: &[u8]) -> Form
     ensures answer { λ r. ⌜ formPlace r ≡ cond (accepts (now (text .entry))) none (some (place (now (text .entry)))) ⌝ }
 {
@@ -284,6 +291,7 @@ impl Value {
         is_number(&bytes[..size], k)
     }
 
+    // Returns whether the value is a name.
     fn is_name(self) -> bool
         ensures answer { λ r. ⌜ ((s : List ℕ) → HoldsValue s self → r ≡ isName s) ⌝ }
     {

@@ -21,6 +21,7 @@ use Rattle.narrowing.specs.declared.Partial.{Partial}
 abbrev pub placedList : Partial → List ℕ
 placedList p = take (p .len) (p .image)
 
+-- Whether a target element is left for a source element in the rows of a partial map.
 abbrev pub rowsIn : Partial → ℕ → ℕ → Bool
 rowsIn p = has (p .rows)
 

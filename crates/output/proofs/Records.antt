@@ -16,7 +16,7 @@ use Rattle.csv.proofs.Decimals.{digits-few}
 use Rattle.csv.proofs.Writing.{Writing, write-first, write-last, sets-overwritten}
 use Rattle.lines.proofs.Lines.{written, two-fields}
 use Rattle.lines.proofs.Records.{line-short}
-use Rattle.files.specs.Answers.{refusedWord}
+use Rattle.files.specs.Files.{refusedWord}
 use Rattle.output.specs.Records.{foundWord, firstRecord, pairRecord, pairRecords, foundRecords, refusedRecords}
 
 -- ---- a record

@@ -3,3 +3,4 @@ pub mod Program
 pub mod Rules
 pub mod ProgramLaws
 pub mod Examples
+pub mod InnerLength

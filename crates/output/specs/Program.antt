@@ -20,7 +20,7 @@ mapRecords m n none = firstRecord noneWord m n ∷ []
 unfoldable pub answerRecords : ℕ → List ℕ → ℕ → List ℕ → List (List (List ℕ))
 answerRecords m source n target = mapRecords m n (earliest first (maps embeddings m (product m source) n (product n target)))
 
--- The record of a file's refusal if there is one, else these records.
+-- The record of a file's refusal if there is one, otherwise these records.
 abbrev pub refusedUnless : ℕ → Option Refusal → List (List (List ℕ)) → List (List (List ℕ))
 refusedUnless side none rs = rs
 refusedUnless side (some r) rs = refusedRecords side r

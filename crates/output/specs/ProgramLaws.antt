@@ -1,15 +1,10 @@
 -- What is claimed of the program `recue` beyond its output. Assumes nothing.
 use mathlib.Core.Path.{_≡_}
 use mathlib.Core.List.{List}
-use Prim.Native.Nat.{ℕ, _+_, _*_}
-use Rattle.semigroups.specs.Tables.{largestOrder}
+use Prim.Native.Nat.{ℕ}
 use Rattle.files.specs.FilesLaws.{firstBytes}
 use Rattle.output.specs.Program.{recueOutput}
 
 -- Only one byte more than a text may have is read of each file: no later byte makes a difference (RULES 21.2).
 abbrev pub FirstBytesDecide : Type 0
 FirstBytesDecide = (source target : List ℕ) → recueOutput (firstBytes source) (firstBytes target) ≡ recueOutput source target
-
--- The number of bytes that has room for every output: a first record of 15 bytes, and nine for each element of a table of the largest order.
-abbrev pub longestOutput : ℕ
-longestOutput = 15 + 9 * largestOrder

@@ -5,7 +5,7 @@ use Prim.Native.Nat.{ℕ}
 use Rattle.semigroups.specs.Lists.{elements, at}
 use Rattle.semigroups.specs.Questions.{Refusal}
 use Rattle.csv.specs.Decimals.{numeral}
-use Rattle.files.specs.Answers.{refusedWord}
+use Rattle.files.specs.Files.{refusedWord}
 
 -- ---- the words of the first record, as bytes
 

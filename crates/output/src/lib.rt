@@ -11,7 +11,7 @@ ghost use Rattle.csv.specs.Decimals.{numeral};
 ghost use Rattle.csv.specs.Records.{lineText, rowsText};
 ghost use Rattle.output.specs.Records.{firstRecord, pairRecords, foundRecords};
 ghost use Rattle.output.specs.Program.{answerRecords, recueOutput};
-ghost use Rattle.output.specs.ProgramLaws.{longestOutput};
+ghost use Rattle.output.specs.InnerLength.{longestOutput};
 use files::failed_question;
 use files::load_then_check;
 use lines::put_break;

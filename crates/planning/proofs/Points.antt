@@ -1,5 +1,5 @@
 -- The number of a transformation, less one, has the images of its points, less one, as its digits: division by the degree drops the last point, and the
--- remainder is its image. So are the landing positions of each element written. Assumes nothing.
+-- remainder is its image. The landing positions of each element are written in this way. Assumes nothing.
 use mathlib.Core.Path.{_≡_, sym, ap, _∙_}
 use mathlib.Core.List.{List, [], _++_}
 use Prim.Native.Nat.{ℕ, _+_, _-_, _*_, _/_, _%_, _≤_, _<_}

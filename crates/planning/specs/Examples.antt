@@ -13,6 +13,7 @@ use Rattle.planning.specs.DegreesLaws.{EmbedsAt, LandingPositions}
 abbrev pub cyclic4 : Table
 cyclic4 = record { order = 4; cells = 1 ∷ 2 ∷ 3 ∷ 4 ∷ 2 ∷ 3 ∷ 4 ∷ 1 ∷ 3 ∷ 4 ∷ 1 ∷ 2 ∷ 4 ∷ 1 ∷ 2 ∷ 3 ∷ [] }
 
+-- The least degree of a table, with the first embedding.
 abbrev pub leastFitOf : Table → Option Fit
 leastFitOf t = leastFit (t .order) (product (t .order) (t .cells))
 

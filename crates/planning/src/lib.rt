@@ -83,6 +83,7 @@ fn fits(cells: &[u8], m: usize, degree: usize, image: &mut [u8]) -> bool
     )
 }
 
+// What a call for the least degree answers.
 pub enum DegreeAnswer {
     // The degree; its positions are written.
     Degree(usize),

@@ -21,8 +21,10 @@ module _ (rows : List ℕ) where
   unfoldable pub insideCount : ℕ → ℕ → ℕ
   insideCount m c = count (λ b. liesInside b c) (elements m)
 
+  -- Whether row c has at least as many elements as there are rows inside it.
   unfoldable pub hasRoom : ℕ → ℕ → Bool
   hasRoom m c = let row = rowOf rows c in leb (insideCount m c) (ones (row .lo) + ones (row .hi))
 
+  -- Whether each of m rows has room for the rows inside it.
   unfoldable pub roomy : ℕ → Bool
   roomy m = all (hasRoom m) (elements m)

@@ -50,6 +50,7 @@ Fewer few many l = (i j : ℕ) → Element (l .m) i → Element (l .n) j → mar
 abbrev pub SamePairs : List ℕ → List ℕ → Lent → Type 0
 SamePairs one other l = (i j : ℕ) → Element (l .m) i → Element (l .n) j → marked (l .n) one i j ≡ marked (l .n) other i j
 
+-- What is claimed of a search among given pairs (RULES 11).
 pub record AmongLaws : Type 0 where
   -- A call is refused exactly if a question fails, and it says the refusal of the earliest.
   pub refused-exactly : (ask : Ask) (pairs : List ℕ) (l : Lent) (r : Refusal) → (callAmong ask pairs l .says ≡ refused r) ↔ (refusalAmong pairs l ≡ some r)
@@ -78,11 +79,12 @@ pub record AmongLaws : Type 0 where
 
 -- ---- examples
 
--- Calls on the table left and itself: with pairs that allow only the exchange; with other unused bits and a later byte; after the exchange; with pairs that
--- allow nothing; and with no byte of pairs.
+-- A call with the table left as source and target, and these bytes in the map buffer.
 abbrev pub leftInLeft : List ℕ → Lent
 leftInLeft bytes = lend (left .cells) 2 (left .cells) 2 bytes (0 ∷ 7 ∷ [])
 
+-- Calls with pairs that allow only the exchange; with other unused bits and a later byte; after the exchange; with pairs that allow nothing; and with no byte
+-- of pairs.
 abbrev pub AmongExamples : Type 0
 AmongExamples =
     (callAmong first (6 ∷ []) (leftInLeft (0 ∷ 0 ∷ [])) ≡ called (gives found) (2 ∷ 1 ∷ []) (6 ∷ 7 ∷ []))

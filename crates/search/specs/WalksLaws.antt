@@ -56,7 +56,7 @@ zeros m = replicate m 0
 abbrev pub fullList : ℕ → List ℕ → List ℕ → List (List ℕ)
 fullList m source target = maps isomorphisms m (product m source) m (product m target)
 
--- Demand 3, for two tables of order m.
+-- Demand 3 (RULES 1.3), for two tables of order m.
 pub record Demand3 (m : ℕ) (source target : List ℕ) : Type 0 where
   -- The full list is every isomorphism once, earliest first.
   pub increasing : Increasing (fullList m source target)

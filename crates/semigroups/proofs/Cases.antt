@@ -1,5 +1,5 @@
--- The worked table under one claim: thirteen cases, each query's result by the definitions the one that stands beside it, and the tables they
--- name. Assumes nothing.
+-- The thirteen worked cases under one claim: by the definitions each query has the result that stands beside it, and the tables that the cases name are
+-- accepted. Assumes nothing.
 use mathlib.Core.Path.{_≡_, refl, sym, ap, _∙_}
 use mathlib.Core.List.{List, _∷_, map, flatMap, List·Memᴰ, List·Memᴰ·head, List·Memᴰ·tail, head-eq-of-cons-eq, tail-eq-of-cons-eq}
 use mathlib.Core.Option.{none, orElse}

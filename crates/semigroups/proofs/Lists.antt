@@ -1,4 +1,4 @@
--- Laws of numbers in a row, of entries counted from 1, and of tests over a list. Assumes nothing.
+-- Laws of consecutive numbers, of entries counted from 1, and of tests over a list. Assumes nothing.
 use mathlib.Core.Path.{_≡_, refl, sym, ap, ap₂, _∙_, subst}
 use mathlib.Core.Bool.{Bool, true, false, cond, _&&_}
 use mathlib.Core.Logic.{_⊎_, inl, inr, ⊎-elim}

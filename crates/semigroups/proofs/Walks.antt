@@ -1,4 +1,4 @@
--- Walks: calls that answer as "next" is defined, on one buffer of zeros, find the entries of the full list in turn and then nothing each time. The idea:
+-- Walks: calls that answer as "next" is defined, on one buffer of zeros, find the entries of the full list in turn and then say "none" each time. The idea:
 -- after k calls that were not refused the buffer holds entry k, and the next map is entry k + 1. Assumes nothing.
 use mathlib.Core.Path.{_≡_, refl, sym, ap, _∙_}
 use mathlib.Core.Bool.{Bool, true, false, cond}

@@ -11,7 +11,7 @@ pub data Answer (A : Type 0) : Type 0 where
   refused : Refusal → Answer A
   gives : A → Answer A
 
--- The answer of a call: its refusal if there is one, else this value.
+-- The answer of a call: its refusal if there is one, otherwise this value.
 abbrev pub givenUnless : {A : Type 0} → Option Refusal → A → Answer A
 givenUnless none value = gives value
 givenUnless (some r) value = refused r

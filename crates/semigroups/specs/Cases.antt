@@ -20,7 +20,7 @@ pub record Table : Type 0 where
   pub order : ℕ
   pub cells : List ℕ
 
--- The tables of RULES 23.1: one, swap, left, right, null3, two and mat5.
+-- The tables of RULES 23.1: one, swap, left, right and null3; after them two and mat5.
 abbrev pub one : Table
 one = record { order = 1; cells = 1 ∷ [] }
 

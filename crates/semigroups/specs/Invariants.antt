@@ -6,7 +6,7 @@ use lib.Dec.{eqb, leb}
 use Rattle.semigroups.specs.Lists.{elements, sum, count, least}
 use Rattle.semigroups.specs.Tables.{Product}
 
--- Power k of a: the first power is a, and each further power is the one before it times a. Power 0, which nothing asks for, is a too.
+-- Power k of a: the first power is a, and each further power is the one before it times a. Power 0, which nothing asks for, is a too (RULES 4.1).
 unfoldable pub power : Product → ℕ → ℕ → ℕ
 power s a zero = a
 power s a (suc zero) = a
@@ -18,11 +18,11 @@ power s a (suc (suc k)) = s (power s a (suc k)) a
 unfoldable pub periodFrom : ℕ → Product → ℕ → ℕ → ℕ
 periodFrom n s a p = least n (λ r. eqb (power s a (p + r)) (power s a p))
 
--- The index of a: the exponent of the first power that comes back.
+-- The index of a: the exponent of the first power that comes back (RULES 4.2).
 unfoldable pub index : ℕ → Product → ℕ → ℕ
 index n s a = least n (λ p. leb (periodFrom n s a p) n)
 
--- The period of a: after how many further powers that power comes back.
+-- The period of a: after how many further powers that power comes back (RULES 4.2).
 unfoldable pub period : ℕ → Product → ℕ → ℕ
 period n s a = periodFrom n s a (index n s a)
 
@@ -44,7 +44,8 @@ pub record IndexPeriod : Type 0 where
 unfoldable pub indexPeriod : ℕ → Product → ℕ → IndexPeriod
 indexPeriod n s a = record { index = index n s a; period = period n s a; idempotent = idempotentPower n s a }
 
--- Definition 3.3: two elements have the same index-period values. The idempotent power is not compared, since it is an element and not a count.
+-- Definition 3.3: two elements have the same index-period values. The idempotent power is not compared, since it is an element and not a count
+-- (RULES 4.4).
 unfoldable pub sameIndexPeriod : IndexPeriod → IndexPeriod → Bool
 sameIndexPeriod a b = eqb (a .index) (b .index) && eqb (a .period) (b .period)
 

@@ -11,7 +11,7 @@ use Rattle.semigroups.specs.Tables.{Product, product, isElement, associa
 use Rattle.semigroups.specs.Questions.{Question, ask, seek, Refusal, firstNo, cellsQuestions}
 use Rattle.semigroups.specs.Generated.{generated}
 
--- The first triple i, j, k, by i, then j, then k, that has its middle on the list and does not associate.
+-- The first triple i, j, k, by i, then j, then k, that has its middle on the list and does not associate; or none (RULES 15.3).
 unfoldable pub badTripleThrough : ℕ → Product → List ℕ → Option (List ℕ)
 badTripleThrough n s l = find (λ t. member (at t 2) l && not (associates s (at t 1) (at t 2) (at t 3))) (lists 3 n)
 

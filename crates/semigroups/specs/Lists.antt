@@ -19,7 +19,7 @@ range i (suc k) = i ∷ range (suc i) k
 unfoldable pub elements : ℕ → List ℕ
 elements n = range 1 n
 
--- Entry i of a list, counted from 1. After the end it is 0, which stands for no element; at 0, which nothing asks for, it is the first entry.
+-- Entry i of a list, counted from 1. After the end it is 0, which stands for no element (RULES 3.2). Entry 0, which nothing asks for, is the first entry.
 unfoldable pub at : List ℕ → ℕ → ℕ
 at l i = getD l (i - 1) 0
 
@@ -31,7 +31,7 @@ module _ {A : Type 0} where
   all p [] = true
   all p (x ∷ l) = let r = all p l in p x && r
 
-  -- The first entry that passes.
+  -- The first entry that passes, or none.
   unfoldable pub find : (A → Bool) → List A → Option A
   find p [] = none
   find p (x ∷ l) = let r = find p l in cond (p x) (some x) r
@@ -76,7 +76,7 @@ distinct (x ∷ l) = let r = distinct l in not (member x l) && r
 
 -- ---- list order
 
--- List a is earlier than list b when, at the first entry where they differ, a's is smaller (RULES 6.1).
+-- List a is earlier than list b when, at the first entry where they differ, a's entry is smaller (RULES 6.1).
 unfoldable pub earlier : List ℕ → List ℕ → Bool
 earlier [] b = false
 earlier (x ∷ a) [] = false

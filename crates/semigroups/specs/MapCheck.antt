@@ -18,7 +18,7 @@ pub data Checked : Type 0 where
   -- the pair i, j, as a list, whose product fails
   wrongProduct : List ℕ → Checked
 
--- A fault, if there is one, else what is said otherwise.
+-- The fault at x, if there is an x; otherwise `rest`.
 abbrev pub unless : {A : Type 0} → (A → Checked) → Option A → Checked → Checked
 unless fault none rest = rest
 unless fault (some x) rest = fault x
@@ -36,7 +36,8 @@ module _ (m : ℕ) (s : Product) (n : ℕ) (t : Product) (f : List ℕ) where
   unfoldable pub firstWrong : Option (List ℕ)
   firstWrong = find (λ l. not (eqb (at f (s (at l 1) (at l 2))) (t (at f (at l 1)) (at f (at l 2))))) (lists 2 m)
 
-  -- What the map check says of the m bytes f: an image outside, else equal images, else a wrong product, else that the map holds.
+  -- What the map check says of the m bytes f: an image outside, else equal images, else a wrong product, else that the map holds
+  -- (RULES 12.1).
   unfoldable pub checkMap : Checked
   checkMap =
       let products = unless wrongProduct firstWrong holds in

@@ -35,8 +35,9 @@ module _ (m : ℕ) (s : Product) (n : ℕ) (t : Product) where
     pub onto : (v : ℕ) → Element n v → (i : ℕ) × Element m i × (at f i ≡ v)
     pub reverses-product : (i j : ℕ) → Element m i → Element m j → at f (s i j) ≡ t (at f j) (at f i)
 
--- ---- the kinds of maps that a search is asked for, and their full lists
+-- ---- the kinds of maps that a search is asked for
 
+-- What a map of each kind is.
 abbrev pub IsMap : Kind → ℕ → Product → ℕ → Product → List ℕ → Type 0
 IsMap embeddings = Embedding
 IsMap isomorphisms = Isomorphism

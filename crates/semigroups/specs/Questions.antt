@@ -28,7 +28,7 @@ ask number passes = record { number = number; side = 0; fails = cond passes none
 abbrev pub seek : ℕ → Option (List ℕ) → Question
 seek number found = record { number = number; side = 0; fails = found }
 
--- A question about one of two tables names its side.
+-- The question with the side of the table that it is about, where there are two tables.
 abbrev pub onSide : ℕ → Question → Question
 onSide side q = record { number = q .number; side = side; fails = q .fails }
 

@@ -16,7 +16,7 @@ use Rattle.semigroups.specs.Questions.{Refusal, Question, firstNo, cells
 abbrev pub no : ℕ → List ℕ → Refusal
 no number values = record { number = number; side = 0; values = values }
 
--- The refusal of one of two tables names its side.
+-- The refusal of one of two tables, with the side that it names.
 abbrev pub naming : ℕ → Refusal → Refusal
 naming side r = record { number = r .number; side = side; values = r .values }
 
@@ -42,6 +42,7 @@ numbers qs = map (λ q. q .number) qs
 
 -- ---- about a table
 
+-- The refusal of cells and an order, if one of questions 1 to 3 fails.
 unfoldable pub cellsRefusal : ℕ → List ℕ → Option Refusal
 cellsRefusal n cells = firstNo (cellsQuestions n cells)
 
@@ -54,7 +55,8 @@ pub data Refused (n : ℕ) (cells : List ℕ) : Refusal → Type 0 where
   wrong-triple : (l : List ℕ) → Element largestOrder n → length cells ≡ n * n → ((k : ℕ) → k < length cells → Element n (getD cells k 0)) → Earliest (FailingTriple n (product n cells)) l
       → Refused n cells (no 4 l)
 
--- ---- about an element, a map check, a search
+-- ---- about two tables
 
+-- The refusal of two tables, if one of the four questions about each fails.
 unfoldable pub tablesRefusal : ℕ → List ℕ → ℕ → List ℕ → Option Refusal
 tablesRefusal m source n target = firstNo (tablesQuestions m source n target)

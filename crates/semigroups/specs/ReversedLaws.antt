@@ -17,6 +17,7 @@ between kind m source n target = maps kind m (product m source) n (product n tar
 
 -- ---- two tables
 
+-- What is said of the reversed isomorphisms from one table to another.
 pub record ReversedMaps (m : ℕ) (source : List ℕ) (n : ℕ) (target : List ℕ) : Type 0 where
   -- The full list is every reversed isomorphism once, earliest first.
   pub increasing : Increasing (between reversed m source n target)
@@ -36,6 +37,7 @@ pub record ReversedMaps (m : ℕ) (source : List ℕ) (n : ℕ) (target : List �
 
 -- ---- three tables, with a map f from the first to the second and a map g from the second to the third
 
+-- What is said of the composites of reversed and plain isomorphisms.
 pub record ReversedComposites (k : ℕ) (first : List ℕ) (m : ℕ) (second : List ℕ) (n : ℕ) (third : List ℕ) (f g : List ℕ) : Type 0 where
   -- Two reversed maps in a row make a plain isomorphism.
   pub both-reversed : List·Memᴰ f (between reversed k first m second) → List·Memᴰ g (between reversed m second n third) → List·Memᴰ (after g f) (between isomorphisms k first n third)
@@ -45,6 +47,7 @@ pub record ReversedComposites (k : ℕ) (first : List ℕ) (m : ℕ) (second : L
 
 -- ---- for any accepted tables
 
+-- Both hold for any accepted tables.
 pub record ReversedTheorem : Type 0 where
   pub maps-between : (m : ℕ) (source : List ℕ) (n : ℕ) (target : List ℕ) → Accepted m source → Accepted n target → ReversedMaps m source n target
   pub composites : (k : ℕ) (first : List ℕ) (m : ℕ) (second : List ℕ) (n : ℕ) (third : List ℕ) → Accepted k first → Accepted m second → Accepted n third → (f g : List ℕ)

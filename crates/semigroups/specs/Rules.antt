@@ -1,4 +1,5 @@
--- The rules about tables, invariants and maps (RULES 3 to 6), as sentences about the definitions: a record for each section, and `TableRules` for all of them.
+-- The rules about tables, invariants, maps and transformations (RULES 3 to 8, 12 and 14), as sentences about the definitions: a record for each subject, and
+-- `TableRules` for all of them.
 -- Assumes nothing.
 use mathlib.Core.Path.{_≡_}
 use mathlib.Core.Bool.{true}

@@ -11,7 +11,8 @@ use Rattle.semigroups.specs.Tables.{cellPlace, grid}
 
 -- ---- eight to a byte
 
--- Byte b of a list of zeros and ones: entry 8 × b + r of the list, counted from 0, is worth 2 to the power r. After the end of the list there are zeros.
+-- Byte b of a list of zeros and ones, packed eight to a byte: entry 8 × b + r of the list, counted from 0, is worth 2 to the power r. Zeros follow the end
+-- of the list.
 unfoldable pub packedByte : List ℕ → ℕ → ℕ
 packedByte l b = sum (λ r. getD l (8 * b + r) 0 * 2 ^ r) (range 0 8)
 
@@ -21,7 +22,7 @@ bit byte r = byte / 2 ^ r % 2
 
 -- ---- the marks
 
--- How many bytes the marks of m source and n target elements take: m × n divided by 8, rounded up.
+-- How many bytes the marks of m source and n target elements take: m × n divided by 8, rounded up (question 6).
 unfoldable pub scratchSize : ℕ → ℕ → ℕ
 scratchSize m n = (m * n + 7) / 8
 

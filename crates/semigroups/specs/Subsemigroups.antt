@@ -11,7 +11,7 @@ use Rattle.semigroups.specs.Tables.{Product, product, grid, isElement}
 use Rattle.semigroups.specs.Questions.{Question, ask, Refusal, firstNo, tableQuestions}
 use Rattle.semigroups.specs.Generated.{generated}
 
--- The number of x among the entries of a list, counted from 1.
+-- The number of x among the entries of a list, counted from 1. If x is not among them, it is one more than their number.
 unfoldable pub numberIn : List ℕ → ℕ → ℕ
 numberIn e x = least (length e) (λ i. eqb (at e i) x)
 
@@ -24,7 +24,7 @@ unfoldable pub partCells : Product → List ℕ → List ℕ
 partCells s e = grid (length e) (length e) (renumbered s e)
 
 -- The questions about a table, a list of chosen elements that generates k of them, and the lengths of two buffers: the table's four; then 60, is the list not
--- empty, and every entry 1 to n? 61, has the cell buffer at least k × k bytes? 62, has the element buffer at least k?
+-- empty, and every entry 1 to n? 61, has the cell buffer at least k × k bytes? 62, has the element buffer at least k bytes?
 abbrev pub subsemigroupQuestions : ℕ → List ℕ → List ℕ → ℕ → ℕ → List Question
 subsemigroupQuestions n cells l cellsLength elementsLength =
     let k = length (generated n (product n cells) l) in

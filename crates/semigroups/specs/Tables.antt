@@ -1,5 +1,5 @@
 -- Cayley tables, called multiplication tables in arXiv 1603.06204, section 2. A table is its order n and its cells row after row.
--- What is said of a semigroup is said of an order and a product of elements, so that a reversed product or a part of a table is one more instance.
+-- Statements about a semigroup are about an order and a product of elements, so that a reversed product or a part of a table is one more instance.
 -- Assumes nothing.
 use mathlib.Core.Path.{_≡_}
 use mathlib.Core.Bool.{Bool, _&&_, not}
@@ -18,7 +18,7 @@ largestOrder = 120
 abbrev pub Product : Type 0
 Product = ℕ → ℕ → ℕ
 
--- The place of row i, column j, counted from 0, where a row has n cells and row stands after row.
+-- The place of the cell in row i and column j, counted from 0, where the rows stand one after another and have n cells each (RULES 3.1).
 abbrev pub cellPlace : ℕ → ℕ → ℕ → ℕ
 cellPlace n i j = (i - 1) * n + (j - 1)
 
@@ -30,11 +30,12 @@ product n cells i j = getD cells (cellPlace n i j) 0
 unfoldable pub grid : ℕ → ℕ → (ℕ → ℕ → ℕ) → List ℕ
 grid m n f = flatMap (λ i. map (f i) (elements n)) (elements m)
 
--- The product with its factors exchanged, and the table of it: rows stand as columns (RULES 10.1: a table that gives the column's element first).
+-- The product with its factors exchanged. The rows of its table are the columns of the other (RULES 10.1: a table in which the column's element comes
+-- first).
 abbrev pub turned : Product → Product
 turned s = λ i j. s j i
 
--- i is an element of a table of order n: elements count from 1.
+-- i is an element of a table of order n: elements are numbered from 1 (RULES 3.2).
 abbrev pub Element : ℕ → ℕ → Type 0
 Element n i = (1 ≤ i) × (i ≤ n)
 
@@ -61,10 +62,10 @@ isElement n x = leb 1 x && leb x n
 unfoldable pub associates : Product → ℕ → ℕ → ℕ → Bool
 associates s i j k = eqb (s (s i j) k) (s i (s j k))
 
--- The first cell that is not 1 to n, counted from 1, or none.
+-- The first cell that is not 1 to n, counted from 1, or none (question 3).
 unfoldable pub badCell : ℕ → List ℕ → Option ℕ
 badCell n cells = find (λ k. not (isElement n (at cells k))) (range 1 (length cells))
 
--- The first triple i, j, k that does not associate, or none. Triples are ordered by i, then j, then k.
+-- The first triple i, j, k that does not associate, or none (question 4). Triples are ordered by i, then j, then k.
 unfoldable pub badTriple : ℕ → Product → Option (List ℕ)
 badTriple n s = find (λ l. not (associates s (at l 1) (at l 2) (at l 3))) (lists 3 n)

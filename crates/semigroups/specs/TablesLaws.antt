@@ -8,6 +8,7 @@ use lib.ListN.{length}
 use Rattle.semigroups.specs.Lists.{at}
 use Rattle.semigroups.specs.Tables.{grid, turned, product, Element, Product}
 
+-- The cells of the table with rows and columns exchanged.
 unfoldable pub turnedCells : ℕ → List ℕ → List ℕ
 turnedCells n cells = grid n n (turned (product n cells))
 

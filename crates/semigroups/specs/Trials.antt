@@ -11,8 +11,8 @@ use Rattle.semigroups.specs.Tables.{Product}
 use Rattle.semigroups.specs.Maps.{Sought, sought}
 
 module _ (s t : Product) where
-  -- Whether the pair i, j of a list placed so far fits: if its product is in the list, the images agree; if it is not, the target product is not an image
-  -- used.
+  -- Whether the pair i, j of a list placed so far fits: if its product is placed, that has the target product as its image; if it is not placed, the target
+  -- product is not an image used (RULES 9.2).
   unfoldable pub fits : List ℕ → ℕ → ℕ → Bool
   fits p i j = let image = t (at p i) (at p j) in cond (leb (s i j) (length p)) (eqb (at p (s i j)) image) (not (member image p))
 
@@ -31,19 +31,19 @@ pub record Work : Type 0 where
 abbrev pub work : Option (List ℕ) → ℕ → Work
 work found trials = record { found = found; trials = trials }
 
--- A work by its two parts and, if it finds no map, the work w after it.
+-- The work with these two parts; if it finds no map, the work w follows it, and the trials add up.
 abbrev pub followed : Option (List ℕ) → ℕ → Work → Work
 followed none trials w = work (w .found) (trials + w .trials)
 followed (some f) trials w = work (some f) trials
 
--- The work at each entry, up to the first that finds a map.
+-- The work at each entry in turn, up to the first at which a map is found.
 unfoldable pub inTurn : (ℕ → Work) → List ℕ → Work
 inTurn g [] = work none 0
 inTurn g (x ∷ l) = let r = inTurn g l in followed (g x .found) (g x .trials) r
 
 module _ (s t : Product) (candidate : ℕ → ℕ → Bool) where
   -- The work at x, given the work of the search that goes on from there: if x is a candidate for the next element and unused so far, that is a trial, counted
-  -- before its test; the search goes on if the list with x passes.
+  -- before its test; the search goes on if the list with x passes (RULES 9.3).
   unfoldable pub trialWork : List ℕ → ℕ → Work → Work
   trialWork p x later =
       let tested = cond (passes s t (p ++ x ∷ [])) later (work none 0) in
@@ -56,7 +56,7 @@ module _ (s t : Product) (candidate : ℕ → ℕ → Bool) where
 
 -- ---- a limit
 
--- The result of a search with a limit: it is stopped; or it ends, with a map found or none, after exactly this number of trials.
+-- The result of a search with a limit (RULES 9.4): it is stopped; or it ends, with a map found or none, after exactly this number of trials.
 pub data Limited : Type 0 where
   stopped : Limited
   ended : Sought → ℕ → Limited

@@ -27,12 +27,15 @@ unfoldable pub afterField : Column → ℕ → State
 afterField number-part b = cond (eqb b 44) (opening name-part) dead
 afterField name-part b = cond (eqb b 13) cr dead
 
+-- The state after a byte in a field with no quote marks.
 unfoldable pub bareStep : Column → ℕ → State
 bareStep n b = cond (isTextData b) (bare n) (afterField n b)
 
+-- The state after the first byte of a field.
 unfoldable pub openingStep : Column → ℕ → State
 openingStep n b = cond (eqb b 34) (quoted n) (bareStep n b)
 
+-- The state after one more byte.
 unfoldable pub stateAfter : State → ℕ → State
 stateAfter (opening n) b = openingStep n b
 stateAfter (bare n) b = bareStep n b
@@ -55,6 +58,7 @@ accepting cr = false
 accepting line = true
 accepting dead = false
 
+-- Whether no sheet begins with what was read.
 unfoldable pub isDead : State → Bool
 isDead (opening n) = false
 isDead (bare n) = false
@@ -64,10 +68,12 @@ isDead cr = false
 isDead line = false
 isDead dead = true
 
+-- The state after these bytes.
 unfoldable pub run : State → List ℕ → State
 run q [] = q
 run q (b ∷ t) = run (stateAfter q b) t
 
+-- Whether the reading of the whole text ends where it may.
 unfoldable pub accepts : List ℕ → Bool
 accepts t = accepting (run (opening number-part) t)
 
@@ -76,5 +82,6 @@ unfoldable pub placeFrom : State → List ℕ → ℕ
 placeFrom q [] = 0
 placeFrom q (b ∷ t) = let r = suc (placeFrom (stateAfter q b) t) in cond (isDead (stateAfter q b)) 0 r
 
+-- How many bytes of the text are read before no sheet begins so.
 unfoldable pub place : List ℕ → ℕ
 place t = placeFrom (opening number-part) t

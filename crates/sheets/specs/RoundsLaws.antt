@@ -63,6 +63,7 @@ nameRound b w =
     namesSaved (namesAfter w (b .names) (b .lengths)) (take (given (loadNamesAnswer w (b .names) (b .lengths))) (lengthsAfter w (b .names) (b .lengths)))
     (record { text = b .text; size = b .size; names = namesAfter w (b .names) (b .lengths); lengths = lengthsAfter w (b .names) (b .lengths) })
 
+-- The buffers after this many rounds.
 unfoldable pub nameRounds : Readable → ℕ → NameBuffers → NameBuffers
 nameRounds read zero b = b
 nameRounds read (suc k) b = let c = nameRounds read k b in nameRound c (read (sheetHeld c))
@@ -72,11 +73,13 @@ pub record SheetUnchanged (first b : NameBuffers) : Type 0 where
   pub text : b .text ≡ first .text
   pub size : b .size ≡ first .size
 
+-- What `SavedNamesLoad` claims holds for any names that can be saved, with room for them.
 abbrev pub SavedNamesAreLoaded : Type 0
 SavedNamesAreLoaded =
     (names lengths text namesBuffer lengthsBuffer : List ℕ) → SaveNamesPass names lengths (length text) → length (flatten (namesAt names lengths)) ≤ length namesBuffer
     → length lengths ≤ length lengthsBuffer → SavedNamesLoad names lengths text namesBuffer lengthsBuffer
 
+-- What `NamesLoadClosed` claims holds for any sheet without its last line break.
 abbrev pub LastBreakMayLack : Type 0
 LastBreakMayLack = (t : List ℕ) (p : IsSheet t) → p .sheet .closed ≡ false → (names lengths : List ℕ) → NamesLoadClosed t names lengths
 

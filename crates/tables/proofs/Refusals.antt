@@ -1,4 +1,4 @@
--- A "no" and the refusals of a table are brief; a number is said as it is, and a "no" with its number and values. Assumes nothing.
+-- A "no" and the refusals of a table carry at most three values (`Brief`); and what an answer says that is a number or a "no". Assumes nothing.
 use mathlib.Core.Path.{_≡_, refl}
 use mathlib.Core.List.{[], _∷_}
 use Prim.Native.Nat.{ℕ}

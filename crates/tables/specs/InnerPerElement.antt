@@ -1,4 +1,4 @@
--- Arrays with a place for each element of a table of any order (RULES 3: the order is at most 120). Assumes nothing.
+-- Arrays with a place for each element of a table of any order (RULES 3.1: the order is at most 120). Assumes nothing.
 use mathlib.Core.List.{List, map, _++_}
 use Prim.Native.Nat.{ℕ, _-_}
 use lib.ListN.{replicate}

@@ -25,6 +25,7 @@ pub enum Fault {
     Triple(usize, usize, usize),
 }
 
+// The answer to the questions about a table.
 pub enum Verdict {
     Accepted,
     Refused(Fault),
@@ -58,6 +59,7 @@ pub enum Numbered {
     Refused(No),
 }
 
+// The answer to the questions about two tables.
 pub enum PairVerdict {
     Accepted,
     Refused(Side, Fault),
@@ -112,7 +114,7 @@ impl Refusal {
 }
 
 impl No {
-    // Returns its number and values; it names no side.
+    // Returns the refusal by this "no": its number and values; it names no side.
     pub fn refusal(self) -> Refusal
         ensures answer { λ r. ⌜ r ≡ refusalNumbers (noRefusal self) ⌝ }
     {
@@ -131,7 +133,7 @@ impl No {
 }
 
 impl Fault {
-    // Returns the "no" to its question.
+    // Returns the "no" to the question that this fault fails.
     pub fn no(self) -> No
         ensures answer { λ r. ⌜ noRefusal r ≡ faultRefusal self ⌝ }
     {
@@ -143,7 +145,7 @@ impl Fault {
         }
     }
 
-    // Returns its number and values; it names no side.
+    // Returns the refusal by this fault: its number and values; it names no side.
     pub fn refusal(self) -> Refusal
         ensures answer { λ r. ⌜ r ≡ refusalNumbers (faultRefusal self) ⌝ }
     {

@@ -16,7 +16,7 @@ use Rattle.semigroups.specs.Transformations.{transformationOrder, transformatio
 use Rattle.semigroups.proofs.Booleans.{equal-or-not}
 use Rattle.semigroups.proofs.Transformations.{length-cells}
 use Rattle.transformations.specs.Calls.{transformationSays, transformationCellsAfter}
-use Rattle.transformations.specs.Answers.{roomRefusal}
+use Rattle.transformations.specs.InnerQuestions.{roomRefusal}
 
 -- ---- a stored table and question 9
 

@@ -10,6 +10,6 @@ use Rattle.semigroups.specs.Transformations.{transformationOrder, transformatio
 unfoldable pub transformationSays : ℕ → ℕ → Answer ℕ
 transformationSays d size = givenUnless (transformationRefusal d size) (transformationOrder d)
 
--- The buffer after the call: the cells of the table; later bytes are untouched.
+-- The buffer after the call: the cells of the table; later bytes are untouched, and a refusal changes no byte.
 unfoldable pub transformationCellsAfter : ℕ → List ℕ → List ℕ
 transformationCellsAfter d before = writtenUnless (transformationRefusal d (length before)) (transformationCells d) before

@@ -5,7 +5,7 @@ ghost use lib.ListN.{length};
 ghost use Rattle.semigroups.specs.Calls.{givenUnless, writtenUnless};
 ghost use Rattle.tables.specs.Answers.{numberedSays};
 ghost use Rattle.transformations.specs.Calls.{transformationSays, transformationCellsAfter};
-ghost use Rattle.transformations.specs.Answers.{roomRefusal};
+ghost use Rattle.transformations.specs.InnerQuestions.{roomRefusal};
 use tables::No;
 use tables::Numbered;
 

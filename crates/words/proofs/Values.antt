@@ -1,4 +1,4 @@
--- The numbers of a brief refusal say it whole. Assumes nothing.
+-- The numbers of a refusal that carries at most three values (`Brief` in `tables`) say all of it. Assumes nothing.
 use mathlib.Core.Path.{_≡_, refl, ap, _∙_}
 use mathlib.Core.List.{List, [], _∷_}
 use Prim.Native.Nat.{ℕ, _≤_}

@@ -47,6 +47,7 @@ pub fn refusal_words(refusal: Refusal) -> [u64; 16]
     words(refusal.number, refusal.side, &values)
 }
 
+// Returns the sixteen numbers of the answer to the questions about a table.
 pub fn verdict_words(verdict: Verdict) -> [u64; 16]
     ensures answer { λ r. ⌜ r ≡ questionWords (verdictRefusal verdict) ⌝ }
 {
@@ -56,6 +57,7 @@ pub fn verdict_words(verdict: Verdict) -> [u64; 16]
     }
 }
 
+// Returns the sixteen numbers of an answer about the index-period.
 pub fn index_period_words(said: IndexPeriodAnswer) -> [u64; 16]
     ensures answer { λ r. ⌜ r ≡ answerWords indexPeriodValues (indexPeriodSays said) ⌝ }
 {
@@ -69,6 +71,7 @@ pub fn index_period_words(said: IndexPeriodAnswer) -> [u64; 16]
     }
 }
 
+// Returns the sixteen numbers of an answer about the profile.
 pub fn profile_words(said: ProfileAnswer) -> [u64; 16]
     ensures answer { λ r. ⌜ r ≡ answerWords profileValues (profileSays said) ⌝ }
 {
@@ -91,6 +94,7 @@ pub fn profile_words(said: ProfileAnswer) -> [u64; 16]
     }
 }
 
+// Returns the sixteen numbers of an answer of the map check.
 pub fn map_words(said: MapAnswer) -> [u64; 16]
     ensures answer { λ r. ⌜ r ≡ answerWords checkedValues (mapAnswerSays said) ⌝ }
 {
@@ -104,6 +108,7 @@ pub fn map_words(said: MapAnswer) -> [u64; 16]
     }
 }
 
+// Returns the sixteen numbers of an answer of the shorter check.
 pub fn generators_words(verdict: GeneratorsVerdict) -> [u64; 16]
     ensures answer { λ r. ⌜ r ≡ questionWords (generatorsVerdictRefusal verdict) ⌝ }
 {
@@ -113,6 +118,7 @@ pub fn generators_words(verdict: GeneratorsVerdict) -> [u64; 16]
     }
 }
 
+// Returns the sixteen numbers of an answer of a search.
 pub fn search_words(said: SearchAnswer) -> [u64; 16]
     ensures answer { λ r. ⌜ r ≡ answerWords soughtValues (searchAnswerSays said) ⌝ }
 {
@@ -123,6 +129,7 @@ pub fn search_words(said: SearchAnswer) -> [u64; 16]
     }
 }
 
+// Returns the sixteen numbers of an answer of a search with a limit.
 pub fn limited_words(said: LimitedAnswer) -> [u64; 16]
     ensures answer { λ r. ⌜ r ≡ answerWords limitedValues (limitedAnswerSays said) ⌝ }
 {
@@ -134,6 +141,7 @@ pub fn limited_words(said: LimitedAnswer) -> [u64; 16]
     }
 }
 
+// Returns the sixteen numbers of an answer that is a number or a "no".
 pub fn numbered_words(said: Numbered) -> [u64; 16]
     ensures answer { λ r. ⌜ r ≡ answerWords numberValues (numberedSays said) ⌝ }
 {
@@ -143,6 +151,7 @@ pub fn numbered_words(said: Numbered) -> [u64; 16]
     }
 }
 
+// Returns the sixteen numbers of an answer about the number of copies.
 pub fn copies_words(said: CopiesAnswer) -> [u64; 16]
     ensures answer { λ r. ⌜ r ≡ answerWords copiesValues (copiesAnswerSays said) ⌝ }
 {

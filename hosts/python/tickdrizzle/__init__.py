@@ -97,11 +97,11 @@ class Question(enum.IntEnum):
     CELL_COUNT = 2, "are there exactly n * n cells?", "there are not exactly order × order cells"
     CELL_RANGE = 3, "is every cell 1 to n?", "cell {0} is no element of the table"
     ASSOCIATIVITY = 4, "is (i.j).k = i.(j.k) for all i, j, k?", "({0}·{1})·{2} is not {0}·({1}·{2})"
-    MAP_LENGTH = 5, "has the map exactly one byte for each source element?", "the map has not exactly one byte for each source element"
+    MAP_LENGTH = 5, "has the map exactly one byte for each source element?", "the map does not have exactly one byte for each source element"
     SCRATCH_LENGTH = (
         6,
         "has the scratch buffer at least a bit for each pair, source order * target order / 8 bytes rounded up?",
-        "the scratch buffer has no bit for each pair of elements",
+        "the scratch buffer does not have a bit for each pair of elements",
     )
     ELEMENT = 7, "is the element 1 to n?", "the element is not in the table"
     DEGREE = 8, "is the degree 1 to 3?", "the degree is not 1 to 3"
@@ -110,7 +110,7 @@ class Question(enum.IntEnum):
     TEXT_BYTE = (
         21,
         "is every byte a digit, a comma or part of a CR LF pair?",
-        "byte {0} is no digit, no comma and no part of a CR LF pair",
+        "byte {0} is not a digit, a comma or part of a CR LF pair",
     )
     FIELD_LENGTH = 23, "is each field 1 to 3 bytes long?", "a field is empty or has more than three digits"
     FIELD_START = 24, "is its first byte other than 0?", "a field starts with 0"
@@ -118,11 +118,11 @@ class Question(enum.IntEnum):
     SQUARE = (
         26,
         "are there as many records as the first has fields, each with that many?",
-        "the records are not as many, or not as long, as the first is long",
+        "there are not as many records as the first has fields, each with that many",
     )
     CELL_ROOM = 27, "has each buffer room for what is loaded?", "the buffer has no room for the cells"
     TEXT_ROOM = 28, "has the buffer room for the text?", "the buffer has no room for the text"
-    SHEET = 40, "is the sheet one or more records of two fields?", "behind byte {0} the text is no sheet of two fields a record"
+    SHEET = 40, "is the sheet one or more records of two fields?", "after {0} bytes the text is no longer a sheet of two fields a record"
     NAME = 41, "is the name 1 to 40 bytes from 20 to 7E?", "name {0} is not 1 to 40 bytes from 20 to 7E"
     NAME_NUMBER = 42, "is the number the next and at most 120?", "the number of record {0} is not the next, or above 120"
     GENERATOR = 50, "is every entry of the list 1 to n?", "an entry of the list is no element of the table"
@@ -133,7 +133,7 @@ class Question(enum.IntEnum):
     PAIRS_LENGTH = (
         70,
         "have the pairs at least a bit for each pair, source order * target order / 8 bytes rounded up?",
-        "the pairs have no bit for each pair of elements",
+        "the pairs do not have a bit for each pair of elements",
     )
     POSITION_ROOM = 80, "has the buffer room for three positions of each element?", "the buffer has no room for three positions of each element"
 
@@ -462,7 +462,7 @@ class Table:
 
         >>> Table.from_csv("1,2\\r\\n2,x")
         Traceback (most recent call last):
-        tickdrizzle.Refusal: byte 7 is no digit, no comma and no part of a CR LF pair (question 21)
+        tickdrizzle.Refusal: byte 7 is not a digit, a comma or part of a CR LF pair (question 21)
         """
         cells = bytearray(MOST_CELLS)
         order, *_ = _asked("load", text.encode() if isinstance(text, str) else bytes(text), cells)

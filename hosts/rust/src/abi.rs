@@ -11,7 +11,7 @@ pub type Answer = [u64; ANSWERS];
 
 /// Declares calls of the library, `tickdrizzle_` and the name, and makes a safe function of each. A slice is handed over as
 /// a pointer and a length, any other argument as it is. The arguments are taken from the front one by one: those of the safe
-/// function, the types that the library declares and the values handed over grow in the three brackets behind them.
+/// function, the types that the library declares and the values handed over grow in the three brackets after them.
 macro_rules! calls {
     ($($name:ident($($argument:tt)*);)*) => {
         $(calls! { @take $name ($($argument)*,) [] [] [] })*

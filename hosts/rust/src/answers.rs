@@ -205,23 +205,27 @@ impl fmt::Display for Question {
             Question::CellCount => write!(formatter, "there are not exactly order × order cells"),
             Question::CellRange { cell } => write!(formatter, "cell {cell} is no element of the table"),
             Question::Associativity { i, j, k } => write!(formatter, "({i}·{j})·{k} is not {i}·({j}·{k})"),
-            Question::MapLength => write!(formatter, "the map has not exactly one byte for each source element"),
-            Question::ScratchLength => write!(formatter, "the scratch buffer has no bit for each pair of elements"),
+            Question::MapLength => write!(formatter, "the map does not have exactly one byte for each source element"),
+            Question::ScratchLength => {
+                write!(formatter, "the scratch buffer does not have a bit for each pair of elements")
+            }
             Question::Element => write!(formatter, "the element is not in the table"),
             Question::Degree => write!(formatter, "the degree is not 1 to 3"),
             Question::TableRoom => write!(formatter, "the buffer has no room for the table of transformations"),
             Question::TextLength => write!(formatter, "the text is not 1 to 57,720 bytes long"),
             Question::TextByte { place } => {
-                write!(formatter, "byte {place} is no digit, no comma and no part of a CR LF pair")
+                write!(formatter, "byte {place} is not a digit, a comma or part of a CR LF pair")
             }
             Question::FieldLength => write!(formatter, "a field is empty or has more than three digits"),
             Question::FieldStart => write!(formatter, "a field starts with 0"),
             Question::FieldRange => write!(formatter, "a field is above 120"),
-            Question::Square => write!(formatter, "the records are not as many, or not as long, as the first is long"),
+            Question::Square => {
+                write!(formatter, "there are not as many records as the first has fields, each with that many")
+            }
             Question::CellRoom => write!(formatter, "the buffer has no room for the cells"),
             Question::TextRoom => write!(formatter, "the buffer has no room for the text"),
             Question::Sheet { place } => {
-                write!(formatter, "behind byte {place} the text is no sheet of two fields a record")
+                write!(formatter, "after {place} bytes the text is no longer a sheet of two fields a record")
             }
             Question::Name { place } => write!(formatter, "name {place} is not 1 to 40 bytes from 20 to 7E"),
             Question::NameNumber { place: 0 } => write!(formatter, "there are not 1 to 120 names"),
@@ -233,7 +237,7 @@ impl fmt::Display for Question {
             Question::Chosen => write!(formatter, "the list is empty, or an entry is no element of the table"),
             Question::PartRoom => write!(formatter, "the buffer has no room for the cells of the part"),
             Question::ElementsRoom => write!(formatter, "the buffer has no room for the elements of the part"),
-            Question::PairsLength => write!(formatter, "the pairs have no bit for each pair of elements"),
+            Question::PairsLength => write!(formatter, "the pairs do not have a bit for each pair of elements"),
             Question::PositionRoom => write!(formatter, "the buffer has no room for three positions of each element"),
         }
     }

@@ -19,7 +19,7 @@
 //!
 //! Below these stand the calls of the library as functions that take slices, such as [`first_embedding`]. Every call takes
 //! any content, any order and buffers of any length. It answers what was asked for, or a [`Refusal`]: the earliest question
-//! that failed. A refused call changes no byte of any buffer, and bytes behind the part that a call is said to write stay as
+//! that failed. A refused call changes no byte of any buffer, and bytes after the part that a call is said to write stay as
 //! they were. [`abi`] has the same calls with sixteen numbers, as C has them.
 //!
 //! # Threads

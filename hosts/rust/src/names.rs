@@ -43,8 +43,8 @@ impl Names {
         let count = load_names(text, &mut bytes, &mut lengths)?;
         let mut rest = &bytes[..];
         let names = lengths[..count].iter().map(|&length| {
-            let (name, behind) = rest.split_at(usize::from(length));
-            rest = behind;
+            let (name, later) = rest.split_at(usize::from(length));
+            rest = later;
             name.iter().copied().map(char::from).collect()
         });
         Ok(Names { names: names.collect() })

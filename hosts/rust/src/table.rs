@@ -246,7 +246,7 @@ type Searching = fn(&[u8], usize, &[u8], usize, &mut [u8], &mut [u8]) -> Result<
 
 type SearchingAmong = fn(&[u8], usize, &[u8], usize, &[u8], &mut [u8], &mut [u8]) -> Result<Search, Refusal>;
 
-/// The search for the map that comes now, and the one for those behind it.
+/// The search for the map that comes now, and the one for those after it.
 #[derive(Clone, Debug)]
 enum Searches {
     All([Searching; 2]),

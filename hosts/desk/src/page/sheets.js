@@ -17,13 +17,13 @@ const sheets = () => [state().show, ...state().rigs].filter(Boolean)
 const stem = name => name.replace(/\.[^.]*$/, '')
 const isNameSheet = name => stem(name).endsWith('.names')
 
-/** A name that no other sheet has, and that is no option of a command, with # and a title behind it. */
+/** A name that no other sheet has, and that is no option of a command, with # and a title after it. */
 function freeName(wanted, taken, title = '') {
   const plain = wanted.replace(/^-+/, '') || 'sheet.csv'
-  const behind = title && `#${title}`
-  let name = plain + behind
+  const suffix = title && `#${title}`
+  let name = plain + suffix
   for (let number = 2; taken.includes(name); number++) {
-    name = `${stem(plain)} (${number})${plain.slice(stem(plain).length)}${behind}`
+    name = `${stem(plain)} (${number})${plain.slice(stem(plain).length)}${suffix}`
   }
   return name
 }

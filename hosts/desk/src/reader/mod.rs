@@ -47,7 +47,7 @@ pub fn grids(bytes: &[u8], sheet: Option<&str>) -> Result<Vec<Grid>, Unread> {
         [b'P', b'K', 3, 4, ..] => Ok(vec![workbook::grid(bytes, sheet)?]),
         [0xD0, 0xCF, 0x11, 0xE0, ..] => Err(Unread::whole("a file of an older Excel (.xls)", "an .xlsx or .ods file")),
         _ if sheet.is_some() => {
-            Err(Unread::whole("text, which has one sheet", "an .xlsx or .ods file behind the # of a sheet's name"))
+            Err(Unread::whole("text, which has one sheet", "an .xlsx or .ods file where # and a sheet's name follow"))
         }
         _ => text::grids(bytes),
     }

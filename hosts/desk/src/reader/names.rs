@@ -34,9 +34,9 @@ pub fn names(text: &[u8]) -> Result<Vec<String>, tickdrizzle::Refusal> {
     let mut rest = &bytes[..];
     let mut names = Vec::new();
     for &length in &lengths[..count] {
-        let (name, behind) = rest.split_at(length.into());
+        let (name, later) = rest.split_at(length.into());
         names.push(String::from_utf8_lossy(name).into_owned());
-        rest = behind;
+        rest = later;
     }
     Ok(names)
 }

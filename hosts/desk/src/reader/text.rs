@@ -110,9 +110,9 @@ fn quoted(text: &str) -> Option<(String, usize)> {
             return None;
         }
         match after.strip_prefix("\"\"") {
-            Some(behind) => {
+            Some(later) => {
                 inner.push('"');
-                rest = behind;
+                rest = later;
             }
             None => return Some((inner, text.len() - after.len() + 1)),
         }

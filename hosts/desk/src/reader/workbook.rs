@@ -83,7 +83,7 @@ pub fn chosen(sheets: &[String], sheet: Option<&str>) -> Result<(usize, Option<S
         (Some(name), _) => match sheets.iter().position(|other| other == name) {
             Some(place) => Ok((place, None)),
             None => Err(Unread {
-                to_do: "name one of these behind the #, or none for the first".into(),
+                to_do: "name one of these after the #, or none for the first".into(),
                 ..Unread::whole(format!("the sheets {}", listed()), &format!("a sheet {}", shown(name)))
             }),
         },

@@ -19,7 +19,7 @@ pub struct Gate {
 /// What a request that passes may have.
 #[derive(Debug, PartialEq, Eq)]
 pub enum Pass {
-    /// What stands behind the token.
+    /// The path after the token.
     Path(String),
     /// The address of the page.
     Address,

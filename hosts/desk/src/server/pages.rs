@@ -7,7 +7,7 @@ const STYLE: &str = "text/css; charset=utf-8";
 const SCRIPT: &str = "text/javascript; charset=utf-8";
 const PICTURE: &str = "image/svg+xml";
 
-/// Each by its path behind the token.
+/// Each by its path after the token.
 const FILES: [(&str, &str, &str); 15] = [
     ("", HTML, include_str!("../page/index.html")),
     ("page.css", STYLE, include_str!("../page/page.css")),

@@ -124,7 +124,7 @@ fn a_sheet_of_a_workbook() {
         assert_eq!(run_in(&here, &["check", &format!("{book}#Act 2")]), answer(&second, 0));
         let none = format!(
             "{book}#Act 3: refused.\n  where:     the whole file\n  there:     the sheets \"Hall\", \"Act 2\"\n  expected:  a sheet \"Act \
-             3\"\n  to do:     name one of these behind the #, or none for the first\n"
+             3\"\n  to do:     name one of these after the #, or none for the first\n"
         );
         assert_eq!(run_in(&here, &["check", &format!("{book}#Act 3")]), answer(&none, 2));
     }

@@ -8,7 +8,7 @@ use std::ops::{Deref, DerefMut};
 use tickdrizzle::abi::{self, Answer};
 use tickdrizzle::{Copies, LimitedSearch, MapCheck, Question, Refusal, Search, Side};
 
-/// Random bytes in front of a lent buffer and behind it, which no call may touch.
+/// Random bytes before a lent buffer and after it, which no call may touch.
 const GUARD: usize = 16;
 
 /// A lent buffer between its guards.

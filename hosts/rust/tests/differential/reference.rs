@@ -157,7 +157,7 @@ pub fn check_table(cells: &[u8], order: usize) -> Answer {
     answer(Table::accepted(cells, order).map(|_| vec![]))
 }
 
-/// Asks question 7 behind those about the table.
+/// Asks question 7 after those about the table.
 fn element_of(cells: &[u8], order: usize, element: usize) -> Result<Table<'_>, No> {
     let table = Table::accepted(cells, order)?;
     ask((1..=order).contains(&element), 7)?;
@@ -172,7 +172,7 @@ pub fn profile(cells: &[u8], order: usize, element: usize) -> Answer {
     answer(element_of(cells, order, element).map(|table| settling(&table, element, &table.profile(element))))
 }
 
-/// Counts that start with index and period, as they are said: with the idempotent power behind these two.
+/// Counts that start with index and period, as they are said: with the idempotent power after these two.
 fn settling(table: &Table, element: usize, counts: &[usize]) -> Vec<u64> {
     let mut values = counts.to_vec();
     values.insert(2, table.idempotent_power(element));

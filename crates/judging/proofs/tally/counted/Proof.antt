@@ -1,4 +1,4 @@
--- `counted` meets its contract on both ways. Assumes nothing.
+-- `counted` meets its contract, whether the two agree or differ. Assumes nothing.
 use Rattle.judging.proofs.Counting.{counted-same, counted-other}
 use borrow.Author.Needs.{needs}
 use Rattle.judging.proofs.tally.counted.Statement.{statement}

@@ -1,4 +1,4 @@
--- `up` meets its contract, full and not. Assumes nothing.
+-- `up` meets its contract, whether the count has reached its largest value or not. Assumes nothing.
 use borrow.Author.Tests.{eq-eqb, ne-eqb}
 use Rattle.judging.specs.InnerTally.{up}
 use borrow.Author.Needs.{needs}

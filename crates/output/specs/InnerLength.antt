@@ -1,0 +1,7 @@
+-- How long an output can be. No contract of an entry point cites this. Assumes nothing.
+use Prim.Native.Nat.{ℕ, _+_, _*_}
+use Rattle.semigroups.specs.Tables.{largestOrder}
+
+-- The number of bytes that has room for every output: a first record of 15 bytes, and nine for each element of a table of the largest order.
+abbrev pub longestOutput : ℕ
+longestOutput = 15 + 9 * largestOrder
