@@ -2,21 +2,31 @@
 
 use super::page::{self, escaped};
 use crate::answer::{Answer, Found};
+use crate::files;
 use crate::output::MARK;
 use crate::reader::table::field;
 use crate::words::today;
 use std::fmt::Write;
+use std::path::Path;
 
 /// So many cues stand on a printed page.
 const PAGE_CUES: usize = 100;
 
+/// The first row of the sheet.
+pub const HEADING: &str = "Cue,Name,Partner,Partner's name\r\n";
+
 /// The sheet: a heading, then number and name of each cue and of its partner.
 pub fn sheet(answer: &Answer) -> String {
-    let mut text = String::from("Cue,Name,Partner,Partner's name\r\n");
+    let mut text = String::from(HEADING);
     for [cue, name, partner, partner_name] in rows(answer) {
         let _ = write!(text, "{cue},{},{partner},{}\r\n", field(&name), field(&partner_name));
     }
     text
+}
+
+/// Whether a file is such a sheet, of an earlier answer.
+pub fn is_sheet(path: &Path) -> bool {
+    files::read(path, HEADING.len() as u64).is_ok_and(|front| front == HEADING.as_bytes())
 }
 
 /// Number and name of each cue and of its partner; names are empty where there are none.
