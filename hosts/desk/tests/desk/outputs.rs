@@ -193,6 +193,28 @@ fn a_page_of_this_program_is_replaced_whatever_the_answer_is() {
 }
 
 #[test]
+fn a_page_calls_each_cue_by_the_names_of_its_own_table() {
+    let here = hall("pages-names");
+    put(&here, "source.names.csv", "1,show one\r\n2,show two\r\n");
+    put(&here, "target.names.csv", "1,rig one\r\n2,rig two\r\n");
+    let said = |page: &str, data: &str, marked: &str| {
+        assert!(page.contains(&format!("id=\"data\">{data}</script>")), "{page}");
+        assert!(page.contains(&format!("Point at a cue, or tap it: {marked} are marked.</p>")), "{page}");
+    };
+    let both = "{\"cues\":[\"Cue \",\"The rig's cue \"],\"images\":[1,2],\"names\":[[\"show one\",\"show two\"],[\"rig one\",\"rig two\"]]}";
+    let page = run_in(&here, &["move", ".", "--html", "-"]).output;
+    said(&page, both, "its row, its column, the cells that lead to it and its partner");
+    put(&here, "source.csv", "1,2\r\n2,x\r\n");
+    let rig = "{\"cues\":[\"The rig's cue \"],\"images\":[],\"names\":[[\"rig one\",\"rig two\"]]}";
+    let page = run_in(&here, &["move", ".", "--html", "-"]).output;
+    said(&page, rig, "its row, its column and the cells that lead to it");
+    let part =
+        "{\"cues\":[\"Cue \",\"The whole table's cue \"],\"images\":[1],\"names\":[[],[\"rig one\",\"rig two\"]]}";
+    let page = run_in(&here, &["cut", "target.csv", "--cues", "1", "--html", "-"]).output;
+    said(&page, part, "its row, its column, the cells that lead to it and its partner");
+}
+
+#[test]
 fn a_page_goes_to_standard_output() {
     let here = hall("standard");
     let page = run_in(&here, &["move", ".", "--html", "-"]);

@@ -147,4 +147,12 @@ fn partners_to_print() {
     assert_eq!((heads, page.matches("<li><i></i>").count()), (2, 120));
     assert!(page.contains("<footer>Page 1 of 2</footer>") && page.contains("<footer>Page 2 of 2</footer>"));
     assert!(page.contains("<li><i></i><b>101</b> <span></span> → <b>101</b> <span></span>\n"));
+    assert!(page.contains("@page{size:A4;margin:10mm}") && !page.contains("<section class="));
+    // Two long names do not fit a row of an upright page.
+    for sheet in ["source.names.csv", "target.names.csv"] {
+        put(&here, sheet, format!("1,{}\r\n", "a name of twenty one"));
+    }
+    let page = run_in(&here, &["move", ".", "--html", "-", "--partners"]).output;
+    assert!(page.contains("@page{size:A4 landscape;margin:10mm}"), "{page}");
+    assert_eq!(page.matches("<section class=\"wide\">").count(), 2);
 }
