@@ -213,7 +213,7 @@ fn missing(folder: &Path, stem: &str, what: &str) -> String {
     let names = names_in(folder);
     let there =
         if names.is_empty() { "The folder has no file.".into() } else { format!("There are: {}.", names.join(", ")) };
-    let near: Vec<_> = names.iter().filter(|name| is_near(name, stem)).map(|name| format!("{name:?}")).collect();
+    let near: Vec<_> = names.iter().filter(|name| is_near(name, stem)).map(|name| format!("\"{name}\"")).collect();
     let hint = match near.len() {
         0 => "Give both sheets, or rename them.".into(),
         _ => format!("Perhaps {} is meant: rename it, or give both sheets.", near.join(" or ")),

@@ -93,6 +93,9 @@ fn files_of_libreoffice() {
         let words = format!("{name}: a linking table of 4 cues.\n");
         assert_eq!(run_in(&here, &["check", name]), answer(&words, 0));
     }
+    let strict = "libreoffice.ods: refused (question 21).\n  where:     the whole file\n  there:     a workbook\n  expected:  digits, a comma \
+                  between cells, CR LF after each row\n  to do:     leave out --strict, or use tickdrizzle mend\n";
+    assert_eq!(run_in(&here, &["check", "--strict", "libreoffice.ods"]), answer(strict, 2));
     let mended = "libreoffice.ods: 4 rows of 4 cells.\n  a workbook; now CSV\nWritten: libreoffice.mended.csv\n";
     assert_eq!(run_in(&here, &["mend", "libreoffice.ods"]), answer(mended, 0));
     let table = fs::read(root().join("examples/found/target.csv")).expect("the example is there");
