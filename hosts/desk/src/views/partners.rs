@@ -93,10 +93,10 @@ footer{text-align:right;border-top:1px solid}
 body{margin:0;font-size:9pt}
 section{margin:0;max-width:none;break-after:page}
 section:last-of-type{break-after:auto}
-h1{font-size:12pt}
+h1{font-size:10pt}
 p{margin:1mm 0}
 ol{columns:2;column-gap:6mm;margin:2mm 0}
 li{padding:0}
-.wide ol{font-size:6.8pt;line-height:1.25}
+.wide ol{font-size:6.6pt;line-height:1.2}
 }
 ";
