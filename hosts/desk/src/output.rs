@@ -92,10 +92,8 @@ pub fn holds(path: &Path, bytes: &[u8]) -> bool {
 /// Writes files, where all of them may be written. What goes to standard output is left to the caller.
 pub fn write(outputs: &[Output], inputs: &[PathBuf], force: bool) -> Result<Vec<String>, Failure> {
     let written: Vec<_> = outputs.iter().filter(|output| !is_standard(&output.path)).collect();
-    for (place, output) in written.iter().enumerate() {
-        if written[..place].iter().any(|other| resolved(&other.path) == resolved(&output.path)) {
-            return Err(Failure::usage(format!("{}: two outputs cannot go to one file", path_shown(&output.path))));
-        }
+    are_distinct(&written.iter().map(|output| output.path.as_path()).collect::<Vec<_>>())?;
+    for output in &written {
         allowed(&output.path, Some(&output.bytes), inputs, force)?;
     }
     for output in written.iter().filter(|_| !files::are_sent()) {
@@ -104,6 +102,15 @@ pub fn write(outputs: &[Output], inputs: &[PathBuf], force: bool) -> Result<Vec<
         done.map_err(|error| Failure::writing(&output.path, &error))?;
     }
     Ok(written.iter().map(|output| path_shown(&output.path)).collect())
+}
+
+/// Refuses two outputs that go to one file.
+pub fn are_distinct(paths: &[&Path]) -> Result<(), Failure> {
+    let files: Vec<_> = paths.iter().map(|path| resolved(path)).collect();
+    match (1..files.len()).find(|&place| files[..place].contains(&files[place])) {
+        Some(place) => Err(Failure::usage(format!("{}: two outputs cannot go to one file", path_shown(paths[place])))),
+        None => Ok(()),
+    }
 }
 
 /// The file that a path leads to.

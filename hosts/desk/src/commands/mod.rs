@@ -147,15 +147,14 @@ impl Work<'_> {
     }
 
     fn ask_outputs(&self, sheet: Option<&Path>, may_be_same: bool) -> Result<(), Failure> {
-        let mut standard = usize::from(self.options.json);
-        for (path, may_be_same) in [(self.html.as_deref(), false), (sheet, may_be_same)] {
-            match path {
-                Some(path) if output::is_standard(path) => standard += 1,
-                Some(path) => output::allowed(path, None, &self.inputs, self.force || may_be_same)?,
-                None => {}
-            }
+        let both = [(sheet, may_be_same), (self.html.as_deref(), false)];
+        let both = both.into_iter().filter_map(|(path, may_be_same)| Some((path?, may_be_same)));
+        let (standard, files): (Vec<_>, Vec<_>) = both.partition(|(path, _)| output::is_standard(path));
+        output::are_distinct(&files.iter().map(|(path, _)| *path).collect::<Vec<_>>())?;
+        for (path, may_be_same) in files {
+            output::allowed(path, None, &self.inputs, self.force || may_be_same)?;
         }
-        if standard > 1 {
+        if standard.len() + usize::from(self.options.json) > 1 {
             return Err(Failure::usage(
                 "standard output takes the answer as JSON, the page or the sheet, not two of them",
             ));

@@ -104,6 +104,8 @@ fn what_cannot_be_written_is_told_before_a_long_search() {
         let folder = failure("tickdrizzle: nowhere/x: writing failed: there is no such folder\n", 4);
         assert_eq!(run_in(&here, &["move", ".", option, "nowhere/x"]), folder);
     }
+    let one = failure("tickdrizzle: x: two outputs cannot go to one file\n", 64);
+    assert_eq!(run_in(&here, &["move", ".", "--output", "./x", "--html", "x"]), one);
     let both = ["move", ".", "--html", "page.html", "--output", "mine.csv"];
     assert_eq!(run_in(&here, &both), is_there("mine.csv"));
     assert_eq!(names(&here), ["mine.csv", "source.csv", "target.csv"]);
