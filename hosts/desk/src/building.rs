@@ -9,30 +9,39 @@ pub fn load(text: &[u8]) -> Result<Table, Refusal> {
     let mut cells = vec![0; MOST_CELLS];
     let order = tickdrizzle::load(text, &mut cells)?;
     cells.truncate(order * order);
+    table(cells, order)
+}
+
+/// Checks cells that were loaded, in the same way.
+pub fn table(cells: Vec<u8>, order: usize) -> Result<Table, Refusal> {
     if cells.iter().any(|&cell| usize::from(cell) > order) {
         return Table::new(cells, order);
     }
     let building = generators(&cells, order);
-    Table::generated(cells, order, &building).or_else(|_| Table::load(text))
+    Table::generated(cells.clone(), order, &building).or_else(|_| Table::new(cells, order))
 }
 
 /// A list of elements of which all others are products, and of which none can be left out.
 pub fn generators(cells: &[u8], order: usize) -> Vec<u8> {
     let mut frequency = vec![0; order + 1];
-    cells.iter().for_each(|&cell| frequency[usize::from(cell)] += 1);
+    // What is no product of two others is in every list.
+    let mut can_go = vec![false; order + 1];
+    for (place, &product) in cells.iter().enumerate() {
+        let (i, j, product) = (place / order + 1, place % order + 1, usize::from(product));
+        frequency[product] += 1;
+        can_go[product] |= i != product && j != product;
+    }
     let mut rarest: Vec<usize> = (1..=order).collect();
     rarest.sort_by_key(|&element| frequency[element]);
-    let (mut chosen, mut held) = (Vec::new(), Vec::new());
+    let (mut chosen, mut part) = (Vec::new(), Closure::new(cells, order));
     for element in rarest {
-        if !held.contains(&element) {
+        if part.add(element) {
             chosen.push(element);
-            held = closure(cells, order, &chosen);
         }
     }
     for place in (0..chosen.len()).rev() {
         let mut fewer = chosen.clone();
-        // What is no product is in every list.
-        if frequency[fewer.remove(place)] > 0 && closure(cells, order, &fewer).len() == order {
+        if can_go[fewer.remove(place)] && closure(cells, order, &fewer).len() == order {
             chosen = fewer;
         }
     }
@@ -42,24 +51,51 @@ pub fn generators(cells: &[u8], order: usize) -> Vec<u8> {
 
 /// The elements and every product of members.
 pub fn closure(cells: &[u8], order: usize, elements: &[usize]) -> Vec<usize> {
-    let mut held = elements.to_vec();
-    let mut is_held = vec![false; order + 1];
-    held.iter().for_each(|&element| is_held[element] = true);
-    let mut place = 0;
-    while place < held.len() {
-        for other in 0..=place {
-            let (one, other) = (held[place], held[other]);
-            for (i, j) in [(one, other), (other, one)] {
-                let product = usize::from(cells[(i - 1) * order + (j - 1)]);
-                if !is_held[product] {
-                    is_held[product] = true;
-                    held.push(product);
+    let mut part = Closure::new(cells, order);
+    for &element in elements {
+        part.add(element);
+    }
+    part.held
+}
+
+/// Elements of a table with every product of them.
+struct Closure<'a> {
+    cells: &'a [u8],
+    order: usize,
+    held: Vec<usize>,
+    is_held: Vec<bool>,
+}
+
+impl Closure<'_> {
+    fn new(cells: &[u8], order: usize) -> Closure<'_> {
+        Closure { cells, order, held: Vec::new(), is_held: vec![false; order + 1] }
+    }
+
+    /// Adds an element and every product with it; whether it is new.
+    fn add(&mut self, element: usize) -> bool {
+        let mut place = self.held.len();
+        let is_new = self.hold(element);
+        while place < self.held.len() {
+            for other in 0..=place {
+                let (one, other) = (self.held[place], self.held[other]);
+                for (i, j) in [(one, other), (other, one)] {
+                    self.hold(self.cells[(i - 1) * self.order + (j - 1)].into());
                 }
             }
+            place += 1;
         }
-        place += 1;
+        is_new
     }
-    held
+
+    /// Holds an element; whether it is new.
+    fn hold(&mut self, element: usize) -> bool {
+        let is_new = !self.is_held[element];
+        if is_new {
+            self.is_held[element] = true;
+            self.held.push(element);
+        }
+        is_new
+    }
 }
 
 #[cfg(test)]

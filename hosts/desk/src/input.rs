@@ -5,6 +5,8 @@ use crate::names::{is_name_sheet, name_sheets};
 use crate::reader::table;
 use crate::status::{Failure, Status};
 use crate::words::{path_shown, visible};
+use std::ffi::OsStr;
+use std::os::unix::ffi::OsStrExt;
 use std::path::{Path, PathBuf};
 
 /// A longer file is not read: a table has less than 60,000 bytes as text, and a workbook of one some hundred thousand.
@@ -26,15 +28,16 @@ pub struct Source {
 impl Source {
     /// What an argument names: `-`, a file, or a sheet of one as `FILE#Sheet`.
     pub fn new(given: &Path) -> Source {
-        let source = |file: Option<PathBuf>, sheet| Source { given: given.to_owned(), file, sheet };
-        let text = given.to_string_lossy();
+        let source =
+            |file: Option<&Path>, sheet| Source { given: given.to_owned(), file: file.map(Path::to_owned), sheet };
+        let bytes = given.as_os_str().as_bytes();
         // The name of a file and that of a sheet may have the sign too.
-        let parts = text.rmatch_indices('#').map(|(place, _)| (&text[..place], &text[place + 1..]));
-        let mut parts = parts.filter(|(file, _)| !files::exists(given) && files::is_file(Path::new(file)));
-        match parts.next() {
-            _ if text == "-" => source(None, None),
-            Some((file, sheet)) => source(Some(file.into()), Some(sheet.to_owned())),
-            None => source(Some(given.to_owned()), None),
+        let signs = (0..bytes.len()).rev().filter(|&place| bytes[place] == b'#');
+        let mut parts = signs.map(|place| (Path::new(OsStr::from_bytes(&bytes[..place])), &bytes[place + 1..]));
+        match parts.find(|(file, _)| !files::exists(given) && files::is_file(file)) {
+            _ if bytes == b"-" => source(None, None),
+            Some((file, sheet)) => source(Some(file), Some(String::from_utf8_lossy(sheet).into_owned())),
+            None => source(Some(given), None),
         }
     }
 
@@ -97,10 +100,11 @@ pub fn pair(paths: &[PathBuf]) -> Result<[Source; 2], Failure> {
             let folder = folder_of(folder)?;
             Ok([in_folder(folder, "source", "show")?, in_folder(folder, "target", "rig")?])
         }
-        [one, other] if one == other && one == Path::new("-") => {
-            Err(Failure::usage("standard input (-) is one sheet; give the other as a file"))
+        [source, target] => {
+            let both = [Source::new(source), Source::new(target)];
+            one_standard(&both)?;
+            Ok(both)
         }
-        [source, target] => Ok([Source::new(source), Source::new(target)]),
         _ => Err(Failure::usage("give a folder or two sheets")),
     }
 }
@@ -147,20 +151,23 @@ pub fn each(paths: &[PathBuf]) -> Result<Vec<Source>, Failure> {
             sources.push(Source::new(path));
         }
     }
-    one_standard(sources)
+    one_standard(&sources)?;
+    Ok(sources)
 }
 
 /// The files that paths name.
 pub fn each_file(paths: &[PathBuf]) -> Result<Vec<Source>, Failure> {
-    one_standard(paths.iter().map(|path| Source::new(path)).collect())
+    let sources: Vec<_> = paths.iter().map(|path| Source::new(path)).collect();
+    one_standard(&sources)?;
+    Ok(sources)
 }
 
 /// Standard input can be read once.
-fn one_standard(sources: Vec<Source>) -> Result<Vec<Source>, Failure> {
-    if sources.iter().filter(|source| source.file.is_none()).count() > 1 {
+pub fn one_standard<'a>(sources: impl IntoIterator<Item = &'a Source>) -> Result<(), Failure> {
+    if sources.into_iter().filter(|source| source.file.is_none()).count() > 1 {
         return Err(Failure::usage("standard input (-) is one sheet; give the others as files"));
     }
-    Ok(sources)
+    Ok(())
 }
 
 /// The sheet of a folder with this name and any ending. Where there are several they must hold the same table.
@@ -190,8 +197,15 @@ fn in_folder(folder: &Path, stem: &str, what: &str) -> Result<Source, Failure> {
 
 /// The files of a name with each of the endings that are there.
 pub fn with_endings(stem: &Path) -> Vec<PathBuf> {
-    let with = |ending: &&str| PathBuf::from(format!("{}.{ending}", stem.display()));
-    ENDINGS.iter().map(with).filter(|path| files::is_file(path)).collect()
+    ENDINGS.iter().map(|ending| with_ending(stem, ending)).filter(|path| files::is_file(path)).collect()
+}
+
+/// The path with an ending more, whatever bytes it has.
+pub fn with_ending(path: &Path, ending: &str) -> PathBuf {
+    let mut longer = path.as_os_str().to_owned();
+    longer.push(".");
+    longer.push(ending);
+    longer.into()
 }
 
 /// What a folder has instead of a sheet, and what may be meant.
@@ -199,7 +213,7 @@ fn missing(folder: &Path, stem: &str, what: &str) -> String {
     let names = names_in(folder);
     let there =
         if names.is_empty() { "The folder has no file.".into() } else { format!("There are: {}.", names.join(", ")) };
-    let near: Vec<_> = names.iter().filter(|name| is_near(name, stem)).map(|name| format!("{name:?}")).collect();
+    let near: Vec<_> = names.iter().filter(|name| is_near(name, stem)).map(|name| format!("\"{name}\"")).collect();
     let hint = match near.len() {
         0 => "Give both sheets, or rename them.".into(),
         _ => format!("Perhaps {} is meant: rename it, or give both sheets.", near.join(" or ")),

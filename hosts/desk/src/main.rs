@@ -49,9 +49,16 @@ fn main() -> ExitCode {
     ExitCode::from(status as u8)
 }
 
+/// What completes the arguments, without the commands that people do not give.
 fn completions(shell: clap_complete::Shell) -> Status {
+    let all = Arguments::command();
+    let shown = all.get_subcommands().filter(|command| !command.is_hide_set()).cloned();
+    let mut offered = clap::Command::new("tickdrizzle")
+        .version(env!("CARGO_PKG_VERSION"))
+        .args(all.get_arguments().cloned())
+        .subcommands(shown);
     let mut script = Vec::new();
-    clap_complete::generate(shell, &mut Arguments::command(), "tickdrizzle", &mut script);
+    clap_complete::generate(shell, &mut offered, "tickdrizzle", &mut script);
     print(&script, Status::Found)
 }
 

@@ -1,11 +1,11 @@
 //! The names of cues, from a name sheet that stands beside the table's: `show.names.csv` beside `show.csv`.
 
 use crate::answer::{Fault, NameSheet, Refusal, Role, Sheet};
-use crate::input::{with_endings, Source};
+use crate::input::{with_ending, with_endings, Source};
 use crate::reader::grid::Cell;
-use crate::reader::names::{names, read, Reading};
+use crate::reader::names::{is_open, names, read, Reading};
 use crate::reader::table::place;
-use crate::sheet::{original_of, several};
+use crate::sheet::{original_of, several, unread};
 use crate::status::Failure;
 use crate::words::{count, path_shown, shown};
 use std::path::{Path, PathBuf};
@@ -34,7 +34,7 @@ pub fn is_name_sheet(path: &Path) -> bool {
 
 /// The name sheets beside a sheet; of a mended sheet also those of the original.
 pub fn name_sheets(file: &Path) -> Vec<PathBuf> {
-    let of = |stem: &Path| with_endings(Path::new(&format!("{}.names", stem.display())));
+    let of = |stem: &Path| with_endings(&with_ending(stem, "names"));
     let own = of(&file.with_extension(""));
     match original_of(file) {
         Some(original) if own.is_empty() => of(&original),
@@ -42,14 +42,15 @@ pub fn name_sheets(file: &Path) -> Vec<PathBuf> {
     }
 }
 
-/// Reads the name sheet beside a sheet. A name sheet that is refused gives no names and stops nothing.
-pub fn beside(file: &Path, strict: bool) -> Result<Beside, Failure> {
+/// Reads the name sheet beside a sheet. A name sheet that is refused or cannot be read gives no names and stops nothing.
+pub fn beside(file: &Path, strict: bool) -> Beside {
     let paths = name_sheets(file);
-    let Some(first) = paths.first() else { return Ok(Beside::default()) };
-    let mut readings = Vec::new();
-    for path in &paths {
-        readings.push(opened(&Source::new(path), strict)?);
-    }
+    let Some(first) = paths.first() else { return Beside::default() };
+    let read = |path: &PathBuf| {
+        let source = Source::new(path);
+        opened(&source, strict).unwrap_or_else(|failure| unread(&source, Role::Names, &failure))
+    };
+    let mut readings: Vec<_> = paths.iter().map(read).collect();
     let one = readings.swap_remove(0);
     let mut refusal = one.refusal;
     if let Some(other) = readings.iter().find(|other| other.names != one.names) {
@@ -63,7 +64,7 @@ pub fn beside(file: &Path, strict: bool) -> Result<Beside, Failure> {
     }
     let names = if refusal.is_some() { Vec::new() } else { one.names };
     let sheet = NameSheet { path: path_shown(first), mended: one.mended, refusal };
-    Ok(Beside { names, sheet: Some(sheet) })
+    Beside { names, sheet: Some(sheet) }
 }
 
 /// A name sheet by itself.
@@ -101,7 +102,9 @@ fn explain(reading: &Reading, question: Question) -> Refusal {
     };
     let mut faults: Vec<_> =
         (0..reading.records.len()).filter_map(|record| fault(reading, record).map(|fault| (record, fault))).collect();
-    if !faults.iter().any(|(record, _)| *record == first) {
+    // Past the last record the library has looked for the end of an earlier one, whose fault is told.
+    let is_told = faults.iter().any(|(record, _)| *record == first || first >= reading.records.len());
+    if !is_told {
         faults.push((first, (whole(reading, first), expected.into())));
     }
     faults.sort_by_key(|(record, _)| (*record != first, *record));
@@ -138,6 +141,9 @@ fn fault(reading: &Reading, record: usize) -> Option<(Fault, String)> {
     };
     if number.trimmed() != (record + 1).to_string() {
         return Some((at(0, told(number)), format!("the next number, {}", record + 1)));
+    }
+    if is_open(name) {
+        return Some((at(1, told(name)), "a name without a quote mark at its front, or between two".into()));
     }
     if let Some(letter) = name.text.chars().find(|letter| !(' '..='~').contains(letter)) {
         let there = format!("{} in {}", shown(&letter.to_string()), shown(&name.text));

@@ -28,9 +28,12 @@ impl Output {
     }
 }
 
+/// What stands for standard output in place of a path.
+pub const STANDARD: &str = "-";
+
 /// Whether a path stands for standard output.
 pub fn is_standard(path: &Path) -> bool {
-    path == Path::new("-")
+    path == Path::new(STANDARD)
 }
 
 /// Asks whether a file may be written: it must be no input, and must not be there, unless it was made by this program, holds these bytes
@@ -42,7 +45,8 @@ pub fn allowed(path: &Path, bytes: Option<&[u8]>, inputs: &[PathBuf], force: boo
     let Ok(data) = path.metadata() else {
         return match path.symlink_metadata() {
             Ok(_) => Err(refused(path, "it is a link to nowhere")),
-            Err(_) => Ok(()),
+            Err(_) if folder_of(path).is_dir() => Ok(()),
+            Err(_) => Err(Failure::writing(path, &io::ErrorKind::NotFound.into())),
         };
     };
     if is_input(&data, inputs) {
@@ -88,10 +92,8 @@ pub fn holds(path: &Path, bytes: &[u8]) -> bool {
 /// Writes files, where all of them may be written. What goes to standard output is left to the caller.
 pub fn write(outputs: &[Output], inputs: &[PathBuf], force: bool) -> Result<Vec<String>, Failure> {
     let written: Vec<_> = outputs.iter().filter(|output| !is_standard(&output.path)).collect();
-    for (place, output) in written.iter().enumerate() {
-        if written[..place].iter().any(|other| resolved(&other.path) == resolved(&output.path)) {
-            return Err(Failure::usage(format!("{}: two outputs cannot go to one file", path_shown(&output.path))));
-        }
+    are_distinct(&written.iter().map(|output| output.path.as_path()).collect::<Vec<_>>())?;
+    for output in &written {
         allowed(&output.path, Some(&output.bytes), inputs, force)?;
     }
     for output in written.iter().filter(|_| !files::are_sent()) {
@@ -102,16 +104,29 @@ pub fn write(outputs: &[Output], inputs: &[PathBuf], force: bool) -> Result<Vec<
     Ok(written.iter().map(|output| path_shown(&output.path)).collect())
 }
 
+/// Refuses two outputs that go to one file.
+pub fn are_distinct(paths: &[&Path]) -> Result<(), Failure> {
+    let files: Vec<_> = paths.iter().map(|path| resolved(path)).collect();
+    match (1..files.len()).find(|&place| files[..place].contains(&files[place])) {
+        Some(place) => Err(Failure::usage(format!("{}: two outputs cannot go to one file", path_shown(paths[place])))),
+        None => Ok(()),
+    }
+}
+
 /// The file that a path leads to.
 fn resolved(path: &Path) -> PathBuf {
     if files::are_sent() {
         return path.to_owned();
     }
-    let folder = path.parent().filter(|parent| !parent.as_os_str().is_empty()).unwrap_or(Path::new("."));
-    path.canonicalize().unwrap_or_else(|_| match (folder.canonicalize(), path.file_name()) {
+    path.canonicalize().unwrap_or_else(|_| match (folder_of(path).canonicalize(), path.file_name()) {
         (Ok(folder), Some(name)) => folder.join(name),
         _ => path.to_owned(),
     })
+}
+
+/// The folder that a file is in.
+fn folder_of(path: &Path) -> &Path {
+    path.parent().filter(|parent| !parent.as_os_str().is_empty()).unwrap_or(Path::new("."))
 }
 
 /// Devices and pipes take the bytes as they come.

@@ -1,6 +1,5 @@
 //! Work that people wait for no longer than they like.
 
-use std::num::ParseFloatError;
 use std::sync::mpsc::{self, RecvTimeoutError};
 use std::thread;
 use std::time::{Duration, Instant};
@@ -53,8 +52,9 @@ pub fn duration(text: &str) -> Result<Duration, String> {
         "h" => 3600.0,
         _ => return Err(format!("{unit} is no unit of time: use ms, s, m or h")),
     };
-    let number: f64 = number.trim().parse().map_err(|error: ParseFloatError| error.to_string())?;
-    Duration::try_from_secs_f64(number * seconds).map_err(|error| error.to_string())
+    let number = number.trim().parse().ok().filter(|number: &f64| *number > 0.0);
+    let time = number.and_then(|number| Duration::try_from_secs_f64(number * seconds).ok());
+    time.ok_or_else(|| "this is no time: give one such as 10s, 2m or 500ms".into())
 }
 
 #[cfg(test)]
@@ -67,7 +67,7 @@ mod tests {
         {
             assert_eq!(duration(text), Ok(Duration::from_millis(milliseconds)));
         }
-        for text in ["", "s", "10d", "-1s", "1e400", "nan"] {
+        for text in ["", "s", "0", "10d", "-1s", "1,5s", "1e400", "nan"] {
             assert!(duration(text).is_err(), "{text}");
         }
     }

@@ -3,6 +3,7 @@
 //!
 //! To it go tables, each as its order and its cells, one byte for each: the show, then rigs. Back come lines, and an empty one where a rig is done.
 
+use crate::building;
 use crate::commands::moving::Search;
 use crate::patience::told_within;
 use crate::signals::{open_no_files, wait_for};
@@ -176,5 +177,5 @@ fn received(input: &mut impl Read) -> io::Result<Option<Table>> {
     let order = usize::from(order[0]);
     let mut cells = vec![0; order * order];
     input.read_exact(&mut cells)?;
-    Table::new(cells, order).map(Some).map_err(|_| ErrorKind::InvalidData.into())
+    building::table(cells, order).map(Some).map_err(|_| ErrorKind::InvalidData.into())
 }

@@ -9,6 +9,8 @@ use crate::reader::Unread;
 use crate::repair;
 use crate::status::Failure;
 use crate::words::{count, path_shown, row_and_column, shown, typed};
+use std::ffi::OsStr;
+use std::os::unix::ffi::OsStrExt;
 use std::path::{Path, PathBuf};
 use tickdrizzle::{Question, Table, GREATEST_ORDER, LONGEST_TEXT};
 
@@ -34,7 +36,7 @@ pub fn open(source: &Source, role: Role, strict: bool) -> Result<Opened, Failure
 pub fn open_by(load: Loading, source: &Source, role: Role, strict: bool) -> Result<Opened, Failure> {
     let bytes = source.bytes()?;
     let Some(file) = &source.file else { return Ok(opened_by(load, source, &bytes, role, strict, Vec::new())) };
-    let beside = names::beside(file, strict)?;
+    let beside = names::beside(file, strict);
     let mut opened = opened_by(load, source, &bytes, role, strict, beside.names);
     opened.hints.extend(names::hint(beside.sheet.as_ref(), &opened.about));
     opened.hints.extend(outdated(file, &bytes));
@@ -96,6 +98,15 @@ fn unreadable(unread: Unread, bytes: &[u8], strict: bool) -> Refusal {
     }
 }
 
+/// A sheet that the system would not read.
+pub fn unread(source: &Source, role: Role, failure: &Failure) -> Sheet {
+    let path = path_shown(&source.given);
+    let there = failure.message.strip_prefix(&format!("{path}: ")).unwrap_or(&failure.message).to_owned();
+    let fault =
+        one_fault("the whole file".into(), there, "a file that can be read", "check that this is the right file");
+    Sheet { path, role, refusal: Some(fault), ..Sheet::default() }
+}
+
 /// A mended sheet whose original now holds something else.
 fn outdated(file: &Path, bytes: &[u8]) -> Option<String> {
     let original = with_endings(&original_of(file)?).into_iter().next()?;
@@ -112,8 +123,8 @@ fn outdated(file: &Path, bytes: &[u8]) -> Option<String> {
 
 /// `show` for `show.mended.csv`.
 pub fn original_of(file: &Path) -> Option<PathBuf> {
-    let name = file.file_name()?.to_str()?;
-    Some(file.with_file_name(name.strip_suffix(".mended.csv")?))
+    let name = file.file_name()?.as_bytes().strip_suffix(b".mended.csv")?;
+    Some(file.with_file_name(OsStr::from_bytes(name)))
 }
 
 /// Tells why a sheet is refused.

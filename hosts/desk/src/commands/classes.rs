@@ -8,6 +8,7 @@ use crate::input::{self, name_of, Source};
 use crate::progress::Progress;
 use crate::sheet::{opened, original_of};
 use crate::status::{Failure, Status};
+use crate::views::{partners, records};
 use crate::words::count;
 use std::path::{Path, PathBuf};
 use tickdrizzle::Table;
@@ -18,6 +19,9 @@ const LAST_FILE: usize = 50;
 /// The words that the records of this program's answers begin with.
 const RECORDS: [&[u8]; 6] = [b"class,", b"total,", b"refused,", b"found,", b"none,", b"stopped,"];
 
+/// The first rows of its sheets of partners and of rigs.
+const HEADINGS: [&str; 2] = [partners::HEADING, records::RIGS_HEADING];
+
 /// A class: a table of it, and the places of its sheets, counted from 1.
 struct Members {
     table: Table,
@@ -25,7 +29,7 @@ struct Members {
 }
 
 pub fn run(arguments: &ClassesArguments, work: &mut Work) -> Result<(), Failure> {
-    work.page_is_allowed()?;
+    work.outputs_are_allowed(None, false)?;
     let strict = work.options.strict || arguments.csv;
     let _line = Progress::start("comparing sheets", work.options.quiet);
     let mut classes = Vec::<Members>::new();
@@ -110,10 +114,11 @@ fn numbered(folder: &Path) -> Vec<PathBuf> {
     names.take_while(|path| files::opens(path)).collect()
 }
 
-/// Whether a file holds records that this program printed.
+/// Whether a file holds what this program printed.
 fn is_answer(path: &Path) -> bool {
     let bytes = Source::new(path).bytes_or_none();
-    RECORDS.iter().any(|word| bytes.starts_with(word))
+    let starts = RECORDS.into_iter().chain(HEADINGS.map(str::as_bytes));
+    starts.into_iter().any(|start| bytes.starts_with(start))
 }
 
 /// Whether a file was mended from another one that is there too.

@@ -13,9 +13,7 @@ use std::path::{Path, PathBuf};
 use tickdrizzle::{save_names, Part, LONGEST_NAME, MOST_NAMES};
 
 pub fn run(arguments: &CutArguments, work: &mut Work) -> Result<(), Failure> {
-    if arguments.output.as_deref().is_some_and(is_standard) && work.html.as_deref().is_some_and(is_standard) {
-        return Err(Failure::usage("standard output (-) takes the part or the page, not both"));
-    }
+    work.outputs_are_allowed(arguments.output.as_deref(), true)?;
     let whole = open(&input::single(&arguments.path)?, Role::Table, work.options.strict)?;
     work.take(&whole);
     let Some(table) = &whole.table else { return Ok(()) };

@@ -6,12 +6,12 @@ use crate::arguments::MendArguments;
 use crate::files::is_folder;
 use crate::input::{self, Source};
 use crate::names::{self, is_name_sheet, name_sheets};
-use crate::output::holds;
+use crate::output::{holds, is_standard, STANDARD};
 use crate::reader::{self, is_workbook};
 use crate::sheet::opened;
 use crate::status::{Failure, Status};
 use crate::words::path_shown;
-use std::path::PathBuf;
+use std::path::{Path, PathBuf};
 use tickdrizzle::MOST_CELLS;
 
 /// A sheet that was read, as it should be.
@@ -28,7 +28,11 @@ struct Clean {
 pub fn run(arguments: &MendArguments, work: &mut Work) -> Result<(), Failure> {
     work.force = arguments.force;
     let mut mendings = Vec::new();
-    for source in sources(&arguments.paths)? {
+    let sources = sources(&arguments.paths)?;
+    if !arguments.dry_run && sources.iter().any(|source| source.file.is_none()) {
+        work.outputs_are_allowed(Some(Path::new(STANDARD)), false)?;
+    }
+    for source in sources {
         let done = one(&source, arguments, work);
         mendings.extend(done.as_ref().ok().cloned());
         work.answer.result = Some(Found::Mended(mendings.clone()));
@@ -50,6 +54,7 @@ fn sources(paths: &[PathBuf]) -> Result<Vec<Source>, Failure> {
         sources.extend(tables);
         sources.extend(names);
     }
+    input::one_standard(&sources)?;
     Ok(sources)
 }
 
@@ -70,15 +75,16 @@ fn one(source: &Source, arguments: &MendArguments, work: &mut Work) -> Result<Me
     if !clean.loads {
         return Ok(mending);
     }
-    if clean.text == bytes {
+    let output = beside(source);
+    let goes_on = is_standard(&output) && !arguments.dry_run;
+    if clean.text == bytes && !goes_on {
         mending.state = MendingState::LoadsAsItIs;
         return Ok(mending);
     }
-    let output = beside(source);
     mending.output = Some(path_shown(&output));
     mending.state = if arguments.dry_run {
         MendingState::WouldBeWritten
-    } else if holds(&output, &clean.text) {
+    } else if !goes_on && holds(&output, &clean.text) {
         MendingState::AlreadyThere
     } else {
         work.put(&output, clean.text);
@@ -130,7 +136,7 @@ fn changes(mended: Vec<String>, bytes: &[u8]) -> Vec<String> {
 /// `show.ods` is mended as `show.mended.csv`, `show.names.csv` as `show.mended.names.csv`, standard input to standard output.
 fn beside(source: &Source) -> PathBuf {
     match &source.file {
-        None => "-".into(),
+        None => STANDARD.into(),
         Some(file) if is_name_sheet(file) => file.with_extension("").with_extension("mended.names.csv"),
         Some(file) => file.with_extension("mended.csv"),
     }

@@ -115,7 +115,7 @@ fn answered(
     if let Err(failure) = done {
         answer = answer.failed(failure);
     }
-    if let Some(path) = html.filter(|_| answer.status != Status::Usage) {
+    if let Some(path) = html {
         outputs.push(Output::new(&path, view(&answer)));
     }
     match output::write(&outputs, &inputs, force) {
@@ -136,12 +136,30 @@ impl Work<'_> {
         }
     }
 
-    /// Asks whether the page may be written, before a search that may take long.
-    pub fn page_is_allowed(&self) -> Result<(), Failure> {
-        match &self.html {
-            Some(path) if !output::is_standard(path) => output::allowed(path, None, &self.inputs, self.force),
-            _ => Ok(()),
+    /// Asks whether the page and a sheet may be written, before a search that may take long; where one may not, neither is. Of a sheet that
+    /// is there already and may turn out to be the same, that is asked when it is written.
+    pub fn outputs_are_allowed(&mut self, sheet: Option<&Path>, may_be_same: bool) -> Result<(), Failure> {
+        let allowed = self.ask_outputs(sheet, may_be_same);
+        if allowed.is_err() {
+            self.html = None;
         }
+        allowed
+    }
+
+    fn ask_outputs(&self, sheet: Option<&Path>, may_be_same: bool) -> Result<(), Failure> {
+        let both = [(sheet, may_be_same), (self.html.as_deref(), false)];
+        let both = both.into_iter().filter_map(|(path, may_be_same)| Some((path?, may_be_same)));
+        let (standard, files): (Vec<_>, Vec<_>) = both.partition(|(path, _)| output::is_standard(path));
+        output::are_distinct(&files.iter().map(|(path, _)| *path).collect::<Vec<_>>())?;
+        for (path, may_be_same) in files {
+            output::allowed(path, None, &self.inputs, self.force || may_be_same)?;
+        }
+        if standard.len() + usize::from(self.options.json) > 1 {
+            return Err(Failure::usage(
+                "standard output takes the answer as JSON, the page or the sheet, not two of them",
+            ));
+        }
+        Ok(())
     }
 
     /// Says the answer.

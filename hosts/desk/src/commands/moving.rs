@@ -6,6 +6,7 @@ use super::{why, Work};
 use crate::answer::{Chosen, Found, Offer, Pair, Role};
 use crate::arguments::MoveArguments;
 use crate::building::generators;
+use crate::files;
 use crate::input;
 use crate::output::is_standard;
 use crate::patience::{told_within, within};
@@ -16,6 +17,7 @@ use crate::status::{Failure, Status};
 use crate::views::partners;
 use crate::words::{count, listed, path_shown};
 use std::cell::OnceCell;
+use std::path::PathBuf;
 use std::time::{Duration, Instant};
 use tickdrizzle::{Copies, LimitedSearch, Maps, Table};
 
@@ -211,14 +213,26 @@ enum Outcome {
 }
 
 pub fn run(arguments: &MoveArguments, work: &mut Work) -> Result<(), Failure> {
-    let standard = |path: &Option<std::path::PathBuf>| path.as_deref().is_some_and(is_standard);
-    if standard(&arguments.output) && standard(&work.html) {
-        return Err(Failure::usage("standard output (-) takes the partners or the page, not both"));
-    }
-    work.page_is_allowed()?;
+    number_is_no_sheet(arguments)?;
+    let sheet = arguments.output.as_deref();
+    work.outputs_are_allowed(sheet, sheet.is_some_and(partners::is_sheet))?;
     if arguments.partners {
         work.view = partners::page;
     }
+    let done = find(arguments, work);
+    match (sheet, &work.answer.result) {
+        (Some(path), Some(Found::Map { .. })) => work.put(path, partners::sheet(&work.answer).into_bytes()),
+        (Some(path), _) if !is_standard(path) => {
+            let older = if files::exists(path) { "; what is there is older" } else { "" };
+            work.answer.hints.push(format!("{} was not written: there are no partners{older}.", path_shown(path)));
+        }
+        _ => {}
+    }
+    done
+}
+
+/// Reads the tables, and finds maps or why there are none.
+fn find(arguments: &MoveArguments, work: &mut Work) -> Result<(), Failure> {
     let strict = work.options.strict || arguments.csv;
     let paths = &arguments.tables.paths;
     let sources = if arguments.csv { input::strict_pair(paths)? } else { input::pair(paths)? };
@@ -236,12 +250,12 @@ pub fn run(arguments: &MoveArguments, work: &mut Work) -> Result<(), Failure> {
     let search = if arguments.mirror { Search::mirrored(source, target) } else { Search::plain(source, target) };
     let line = Progress::start("looking for partners", work.options.quiet);
     let search = choose(search, arguments, work)?;
-    match (arguments.all, arguments.next) {
+    let fits_nowhere = match (arguments.all, arguments.next) {
         _ if arguments.count => ways(&search, arguments, work),
         (Some(number), _) => all(&search, number as usize, arguments, work),
         (None, Some(number)) => next(&search, number as usize, arguments, work),
         (None, None) => one(&search, arguments, work),
-    }
+    };
     drop(line);
     if arguments.mirror && !search.reversed {
         let why = if source.order() == target.order() { "Partners are chosen" } else { "The orders differ" };
@@ -249,7 +263,7 @@ pub fn run(arguments: &MoveArguments, work: &mut Work) -> Result<(), Failure> {
         work.answer.hints.push(how);
     }
     if !arguments.csv {
-        let is_misfit = work.answer.status == Status::None && !search.pins_matter();
+        let is_misfit = fits_nowhere && !search.pins_matter();
         if input::is_same(&sources[0], &sources[1]) {
             work.answer.hints.push("The show and the rig are the same file.".into());
         } else if let Some((offer, says)) = is_misfit.then(|| offer(source, target, arguments.mirror)).flatten() {
@@ -257,13 +271,27 @@ pub fn run(arguments: &MoveArguments, work: &mut Work) -> Result<(), Failure> {
             work.answer.offer = Some(offer);
         }
     }
-    if let Some(path) = &arguments.output {
-        match &work.answer.result {
-            Some(Found::Map { .. }) => work.put(path, partners::sheet(&work.answer).into_bytes()),
-            _ => work.answer.hints.push(format!("{} was not written: there are no partners.", path_shown(path))),
-        }
-    }
     Ok(())
+}
+
+/// Refuses a number of ways that stands apart from its option, where a sheet should be.
+fn number_is_no_sheet(arguments: &MoveArguments) -> Result<(), Failure> {
+    let option = match (arguments.all, arguments.next) {
+        (Some(_), _) => "--all",
+        (None, Some(_)) => "--next",
+        (None, None) => return Ok(()),
+    };
+    let is_number =
+        |path: &&PathBuf| path.to_str().is_some_and(|text| text.parse::<u32>().is_ok()) && !files::exists(path);
+    match arguments.tables.paths.iter().find(is_number) {
+        Some(number) => {
+            let number = path_shown(number);
+            Err(Failure::usage(format!(
+                "{number}: there is no such sheet; a number of ways goes behind =: {option}={number}"
+            )))
+        }
+        None => Ok(()),
+    }
 }
 
 /// The search among the partners that the operator chooses, which are told.
@@ -283,10 +311,11 @@ fn choose(search: Search, arguments: &MoveArguments, work: &mut Work) -> Result<
     Ok(search)
 }
 
-/// The earliest map, or why there is none.
-fn one(search: &Search, arguments: &MoveArguments, work: &mut Work) {
+/// The earliest map, or why there is none; whether there is none.
+fn one(search: &Search, arguments: &MoveArguments, work: &mut Work) -> bool {
     let outcome = earliest(search, arguments);
     work.say(sentence(search, &outcome), status(&outcome));
+    let fits_nowhere = matches!(outcome, Outcome::None { .. });
     match outcome {
         Outcome::Found { images, trials } => {
             work.answer.result = Some(Found::Map { images, trials, mirrored: arguments.mirror });
@@ -305,6 +334,7 @@ fn one(search: &Search, arguments: &MoveArguments, work: &mut Work) {
         }
         _ => {}
     }
+    fits_nowhere
 }
 
 fn earliest(search: &Search, arguments: &MoveArguments) -> Outcome {
@@ -323,8 +353,8 @@ fn earliest(search: &Search, arguments: &MoveArguments) -> Outcome {
     }
 }
 
-/// The map that so many come before.
-fn next(search: &Search, before: usize, arguments: &MoveArguments, work: &mut Work) {
+/// The map that so many come before; whether there is none at all.
+fn next(search: &Search, before: usize, arguments: &MoveArguments, work: &mut Work) -> bool {
     let (mut maps, in_time) = search.first(before + 1, arguments.timeout);
     let found = maps.len();
     if found == before + 1 {
@@ -343,17 +373,18 @@ fn next(search: &Search, before: usize, arguments: &MoveArguments, work: &mut Wo
     } else {
         work.say(stopped(arguments), Status::Stopped);
     }
+    in_time && found == 0
 }
 
-/// At most so many maps.
-fn all(search: &Search, most: usize, arguments: &MoveArguments, work: &mut Work) {
+/// At most so many maps; whether there is none.
+fn all(search: &Search, most: usize, arguments: &MoveArguments, work: &mut Work) -> bool {
     let (mut maps, in_time) = search.first(most + 1, arguments.timeout);
     let more = maps.len() > most;
     maps.truncate(most);
     if maps.is_empty() && !more {
         let outcome = if in_time { search.does_not_fit() } else { stopped(arguments) };
         work.say(outcome, if in_time { Status::None } else { Status::Stopped });
-        return;
+        return in_time;
     }
     let number = count(maps.len(), "way");
     let (says, status) = match (more, in_time) {
@@ -366,10 +397,11 @@ fn all(search: &Search, most: usize, arguments: &MoveArguments, work: &mut Work)
     };
     work.say(says, status);
     work.answer.result = Some(Found::Maps { images: maps, complete: in_time && !more });
+    false
 }
 
-/// How many maps there are: for each copy of the show as many as it has isomorphisms onto itself.
-fn ways(search: &Search, arguments: &MoveArguments, work: &mut Work) {
+/// How many maps there are, for each copy of the show as many as it has isomorphisms onto itself; whether there is none.
+fn ways(search: &Search, arguments: &MoveArguments, work: &mut Work) -> bool {
     if !search.pins.is_empty() {
         return counted(search, arguments, work);
     }
@@ -404,10 +436,11 @@ fn ways(search: &Search, arguments: &MoveArguments, work: &mut Work) {
         }
     };
     work.say(says, status);
+    status == Status::None
 }
 
-/// How many maps there are among chosen partners. Each is walked: of the maps onto one copy only some may be allowed.
-fn counted(search: &Search, arguments: &MoveArguments, work: &mut Work) {
+/// How many maps there are among chosen partners; whether there is none. Each is walked: of the maps onto one copy only some may be allowed.
+fn counted(search: &Search, arguments: &MoveArguments, work: &mut Work) -> bool {
     let lent = search.clone();
     let walked = within(search.left(arguments.timeout), move || lent.maps().take(MOST_COPIES + 1).count());
     let (says, status) = match walked {
@@ -421,6 +454,7 @@ fn counted(search: &Search, arguments: &MoveArguments, work: &mut Work) {
         }
     };
     work.say(says, status);
+    status == Status::None
 }
 
 fn status(outcome: &Outcome) -> Status {

@@ -2,14 +2,14 @@
 
 use super::classes::in_folder;
 use super::{copies, Work};
-use crate::answer::{Fault, Found, Rig, RigOutcome, Role, Sheet};
+use crate::answer::{Found, Rig, RigOutcome, Role, Sheet};
 use crate::arguments::RigsArguments;
 use crate::building;
 use crate::files;
 use crate::input::{self, Source};
 use crate::progress::Progress;
 use crate::searcher::{Searcher, Told};
-use crate::sheet::{open, opened_by, several};
+use crate::sheet::{open, opened_by, unread};
 use crate::status::{Failure, Status};
 use crate::words::{count, path_shown};
 use std::sync::atomic::{AtomicUsize, Ordering};
@@ -22,11 +22,11 @@ use tickdrizzle::Table;
 const PATIENCE: Duration = Duration::from_secs(10);
 
 pub fn run(arguments: &RigsArguments, work: &mut Work) -> Result<(), Failure> {
-    work.page_is_allowed()?;
+    work.outputs_are_allowed(None, false)?;
     let source = input::single(&arguments.show)?;
     let sheet = open(&source, Role::Show, work.options.strict)?;
     work.take(&sheet);
-    let rigs = sources(arguments, &source, work);
+    let rigs = sources(arguments, &source, work)?;
     let Some(show) = sheet.table else { return Ok(()) };
     let limit = arguments.timeout.unwrap_or(PATIENCE);
     let line = Progress::counting("looking at rigs", rigs.len(), work.options.quiet);
@@ -53,7 +53,7 @@ pub fn run(arguments: &RigsArguments, work: &mut Work) -> Result<(), Failure> {
 }
 
 /// The sheets of the rigs; of a folder all, in the order of their names, but not the show.
-fn sources(arguments: &RigsArguments, show: &Source, work: &mut Work) -> Vec<Source> {
+fn sources(arguments: &RigsArguments, show: &Source, work: &mut Work) -> Result<Vec<Source>, Failure> {
     let mut sources = Vec::new();
     for path in &arguments.rigs {
         if files::is_folder(path) {
@@ -62,12 +62,13 @@ fn sources(arguments: &RigsArguments, show: &Source, work: &mut Work) -> Vec<Sou
             sources.push(Source::new(path));
         }
     }
+    input::one_standard(sources.iter().chain([show]))?;
     let all = sources.len();
     sources.retain(|rig| !input::is_same(rig, show));
     if sources.len() < all {
         work.answer.hints.push(format!("Left out: {} (the show itself).", path_shown(&show.given)));
     }
-    sources
+    Ok(sources)
 }
 
 /// Does something with each of some things, on all cores, each with a tool of its own; the results in their order.
@@ -105,7 +106,7 @@ fn search(searcher: &mut Searcher, source: &Source, strict: bool, limit: Duratio
             let opened = opened_by(&building::load, source, &bytes, Role::Rig, strict, Vec::new());
             (opened.about, opened.table)
         }
-        Err(failure) => (unread(source, failure), None),
+        Err(failure) => (unread(source, Role::Rig, &failure), None),
     };
     // A thousand tables would make the answer long.
     (about.table, about.cells) = (None, None);
@@ -126,22 +127,13 @@ fn search(searcher: &mut Searcher, source: &Source, strict: bool, limit: Duratio
     (about, rig)
 }
 
-/// A sheet that could not be read.
-fn unread(source: &Source, failure: Failure) -> Sheet {
-    let path = path_shown(&source.given);
-    let there = failure.message.strip_prefix(&format!("{path}: ")).unwrap_or(&failure.message).to_owned();
-    let fault = Fault { place: "the whole file".into(), cells: Vec::new(), there };
-    let refusal = several(vec![fault], "a file that can be read", "check that this is the right file");
-    Sheet { path, role: Role::Rig, refusal: Some(refusal), ..Sheet::default() }
-}
-
 /// How many rigs take the show. Where any does, that is found; else a search that was stopped or a refused sheet decides.
 fn summary(show: &Table, rigs: &[Rig], limit: Duration) -> (String, Status) {
     let number = |outcome: RigOutcome| rigs.iter().filter(|rig| rig.outcome == outcome).count();
     let [fit, refused, stopped] = [RigOutcome::Fits, RigOutcome::Refused, RigOutcome::Stopped].map(number);
     let mirrored = rigs.iter().filter(|rig| rig.mirrored == Some(true)).count();
+    let take = if fit == 1 || rigs.len() == 1 { "takes" } else { "take" };
     let (rigs, cues) = (count(rigs.len(), "rig"), count(show.order(), "cue"));
-    let take = if fit == 1 { "takes" } else { "take" };
     let mut says = format!("{fit} of {rigs} {take} the show of {cues}");
     let others = [
         (mirrored, format!("{mirrored} would, read column first")),

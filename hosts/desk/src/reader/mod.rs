@@ -45,7 +45,10 @@ impl Unread {
 pub fn grids(bytes: &[u8], sheet: Option<&str>) -> Result<Vec<Grid>, Unread> {
     match bytes {
         [b'P', b'K', 3, 4, ..] => Ok(vec![workbook::grid(bytes, sheet)?]),
-        [0xD0, 0xCF, 0x11, 0xE0, ..] => Err(Unread::whole("a file of an older Excel (.xls)", "an .xlsx or .ods file")),
+        [0xD0, 0xCF, 0x11, 0xE0, ..] => {
+            let there = "a file of an older Excel (.xls), or a workbook with a password";
+            Err(Unread::whole(there, "an .xlsx or .ods file without a password"))
+        }
         _ if sheet.is_some() => {
             Err(Unread::whole("text, which has one sheet", "an .xlsx or .ods file where # and a sheet's name follow"))
         }

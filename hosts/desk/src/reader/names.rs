@@ -82,9 +82,14 @@ impl Reading {
     }
 }
 
-/// A number and a name; a quote mark at the front of a name that is not closed is a fault.
+/// A number and a name.
 fn is_record(cells: &[Cell]) -> bool {
-    matches!(cells, [number, name] if is_number(number) && (name.quoted || !name.text.trim_start().starts_with('"')))
+    matches!(cells, [number, name] if is_number(number) && !is_open(name))
+}
+
+/// Whether a name opens a quote mark and does not close it, which is a fault.
+pub fn is_open(name: &Cell) -> bool {
+    !name.quoted && name.text.trim_start().starts_with('"')
 }
 
 fn is_number(cell: &Cell) -> bool {
@@ -93,7 +98,7 @@ fn is_number(cell: &Cell) -> bool {
 
 /// The name as a field: one that opens a quote mark and does not close it stays as it is, so that the library refuses it.
 fn written(name: &Cell) -> String {
-    if !name.quoted && name.text.trim_start().starts_with('"') {
+    if is_open(name) {
         name.text.clone()
     } else {
         field(&name.text)

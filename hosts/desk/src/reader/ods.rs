@@ -1,7 +1,7 @@
 //! The cells of an .ods file: content.xml has the sheets one after another.
 
 use super::grid::{Cell, Grid, MOST_KEPT};
-use super::workbook::{attribute, characters, chosen, each_event};
+use super::workbook::{attribute, characters, chosen, each_event, NO_VALUE, SHOWN_OTHERWISE};
 use super::Unread;
 use crate::words::count;
 use quick_xml::events::{BytesStart, Event};
@@ -55,6 +55,8 @@ struct Reading {
     cells: Vec<(usize, Cell)>,
     last_filled: usize,
     cell: Cell,
+    /// What is said behind its text, where that is no number.
+    said: &'static str,
     cell_repeated: usize,
     /// How deep the cell stands, while it is read.
     depth: Option<usize>,
@@ -108,10 +110,16 @@ impl Reading {
             b"table-cell" | b"covered-table-cell" => {
                 self.depth = Some(around.len());
                 self.cell_repeated = repeated(start, "number-columns-repeated");
-                let is_number = attribute(start, "value-type").is_some_and(|kind| kind == "float");
-                let value = attribute(start, "value").filter(|_| is_number);
+                let kind = attribute(start, "value-type").unwrap_or_default();
+                let value = attribute(start, "value").filter(|_| matches!(&*kind, "float" | "currency"));
                 self.cell = Cell { stored: value.is_some(), ..Cell::new(&value.unwrap_or_default()) };
-                self.formulas += usize::from(attribute(start, "formula").is_some());
+                let is_formula = attribute(start, "formula").is_some();
+                self.formulas += usize::from(is_formula && !kind.is_empty());
+                self.said = match &*kind {
+                    "" if is_formula => NO_VALUE,
+                    "percentage" | "date" | "time" => SHOWN_OTHERWISE,
+                    _ => "",
+                };
             }
             _ => (),
         }
@@ -119,7 +127,10 @@ impl Reading {
 
     fn close_cell(&mut self) {
         self.depth = None;
-        let cell = std::mem::take(&mut self.cell);
+        let mut cell = std::mem::take(&mut self.cell);
+        if !self.said.is_empty() {
+            cell = Cell::new(format!("{} {}", cell.text, self.said).trim_start());
+        }
         let end = self.column.saturating_add(self.cell_repeated);
         if !cell.is_blank() {
             self.last_filled = end;

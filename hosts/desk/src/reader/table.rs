@@ -54,6 +54,11 @@ pub fn read(bytes: &[u8], sheet: Option<&str>) -> Result<Reading, Unread> {
 
 /// Takes the bytes as the library does, parted by commas.
 pub fn strict(bytes: &[u8]) -> Result<Reading, Unread> {
+    if is_workbook(bytes) {
+        let expected = "digits, a comma between cells, CR LF after each row";
+        let to_do = "leave out --strict, or use tickdrizzle mend".into();
+        return Err(Unread { to_do, ..Unread::whole("a workbook", expected) });
+    }
     let comma = text::grids(bytes)?.swap_remove(0);
     let longest = comma.rows.iter().map(Vec::len).max().unwrap_or(0);
     let (height, width) = (comma.all_rows, comma.width.max(longest));

@@ -11,29 +11,39 @@ const LONGEST_QUOTED: usize = 4096;
 
 /// The text with its cells parted by each separator in turn.
 pub fn grids(bytes: &[u8]) -> Result<Vec<Grid>, Unread> {
-    let (text, mark) = decode(bytes)?;
-    let changes: Vec<String> = mark.into_iter().chain(line_breaks(&text)).collect();
+    let (text, mut changes) = decode(bytes)?;
+    changes.extend(line_breaks(&text));
     Ok(SEPARATORS.into_iter().map(|separator| Grid { changes: changes.clone(), ..parted(&text, separator) }).collect())
 }
 
 /// The text of a file, and what was strange about its bytes.
-fn decode(bytes: &[u8]) -> Result<(String, Option<String>), Unread> {
-    let utf16_text = || Some("UTF-16 text".into());
+fn decode(bytes: &[u8]) -> Result<(String, Vec<String>), Unread> {
+    let utf16_text = || vec!["UTF-16 text".into()];
     match bytes {
         [0xFF, 0xFE, rest @ ..] => Ok((utf16(rest, u16::from_le_bytes)?, utf16_text())),
         [0xFE, 0xFF, rest @ ..] => Ok((utf16(rest, u16::from_be_bytes)?, utf16_text())),
-        [0xEF, 0xBB, 0xBF, rest @ ..] => Ok((utf8(rest)?, Some("a byte order mark at the front".into()))),
+        [0xEF, 0xBB, 0xBF, rest @ ..] => {
+            let (text, others) = utf8(rest)?;
+            Ok((text, ["a byte order mark at the front".into()].into_iter().chain(others).collect()))
+        }
         [first, 0, ..] if *first != 0 => Ok((utf16(bytes, u16::from_le_bytes)?, utf16_text())),
         [0, second, ..] if *second != 0 => Ok((utf16(bytes, u16::from_be_bytes)?, utf16_text())),
-        _ => Ok((utf8(bytes)?, None)),
+        _ => utf8(bytes),
     }
 }
 
-fn utf8(bytes: &[u8]) -> Result<String, Unread> {
-    String::from_utf8(bytes.to_vec()).map_err(|error| {
-        let place = error.utf8_error().valid_up_to();
-        Unread::no_text(format!("the byte {:02X} (hexadecimal), {place} bytes into the file", bytes[place]))
-    })
+/// UTF-8, or text in an older encoding, whose other letters are not known: digits and separators are the same in all of these.
+fn utf8(bytes: &[u8]) -> Result<(String, Vec<String>), Unread> {
+    let is_binary = |byte: &u8| byte.is_ascii_control() && !b"\t\r\n".contains(byte);
+    match std::str::from_utf8(bytes) {
+        Ok(text) => Ok((text.into(), Vec::new())),
+        Err(error) if bytes.iter().any(is_binary) => {
+            let place = error.valid_up_to();
+            let there = format!("the byte {:02X} (hexadecimal), {place} bytes into the file", bytes[place]);
+            Err(Unread::no_text(there))
+        }
+        Err(_) => Ok((String::from_utf8_lossy(bytes).into(), vec!["letters in another encoding than UTF-8".into()])),
+    }
 }
 
 fn utf16(bytes: &[u8], unit: fn([u8; 2]) -> u16) -> Result<String, Unread> {
@@ -146,9 +156,11 @@ mod tests {
         for bytes in
             [&little, &big, &[vec![0xFF, 0xFE], little.clone()].concat(), &[vec![0xFE, 0xFF], big.clone()].concat()]
         {
-            assert_eq!(decode(bytes), Ok((text.into(), Some("UTF-16 text".into()))));
+            assert_eq!(decode(bytes), Ok((text.into(), vec!["UTF-16 text".into()])));
         }
-        assert!(decode(b"\xFF\xFE1").is_err() && decode(b"1,\xFF\n").is_err());
+        let other = vec!["letters in another encoding than UTF-8".into()];
+        assert_eq!(decode(b"Entr\xE9e,1\n"), Ok(("Entr\u{FFFD}e,1\n".into(), other)));
+        assert!(decode(b"\xFF\xFE1").is_err() && decode(b"1,\xFF\x01\n").is_err());
     }
 
     #[test]

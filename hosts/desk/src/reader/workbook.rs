@@ -20,6 +20,10 @@ const DEEPEST: usize = 100;
 
 type Archive<'a> = ZipArchive<Cursor<&'a [u8]>>;
 
+/// What a cell is said to hold whose stored value is no number of a cue.
+pub const SHOWN_OTHERWISE: &str = "shown as a percentage, date or time";
+pub const NO_VALUE: &str = "a formula without a stored value";
+
 /// A workbook of either kind.
 enum Book<'a> {
     Ods(Archive<'a>),
@@ -131,7 +135,7 @@ fn damaged(file: &str, error: &quick_xml::Error) -> Unread {
         quick_xml::Error::Io(error) if error.kind() == ErrorKind::OutOfMemory => {
             broken(format!("{file} in the workbook, which unpacks to more than {MOST_UNPACKED} bytes"))
         }
-        _ => broken(format!("{file} in the workbook, which is damaged")),
+        _ => broken(format!("{file} in the workbook, which is damaged or has a password")),
     }
 }
 

@@ -1,7 +1,7 @@
 //! The cells of an .xlsx file: a file for each sheet, and one for the texts that cells share.
 
 use super::grid::{Cell, Grid, MOST_KEPT};
-use super::workbook::{attribute, broken, characters, chosen, each_event};
+use super::workbook::{attribute, broken, characters, chosen, each_event, NO_VALUE, SHOWN_OTHERWISE};
 use super::Unread;
 use crate::words::count;
 use quick_xml::events::{BytesStart, Event};
@@ -117,6 +117,9 @@ struct Reading {
     is_plain: Vec<bool>,
     shows_number: bool,
     text: String,
+    /// Whether the cell has a formula, and whether it has a value.
+    is_formula: bool,
+    has_value: bool,
     formulas: usize,
     /// The cells whose text is shared, by its number.
     shared: HashMap<usize, Vec<(usize, usize)>>,
@@ -162,8 +165,10 @@ impl Reading {
                 let format = attribute(start, "s").and_then(|place| place.parse::<usize>().ok()).unwrap_or(0);
                 self.shows_number = self.is_plain.get(format).copied().unwrap_or(true);
                 self.text.clear();
+                (self.is_formula, self.has_value) = (false, false);
             }
-            b"f" => self.formulas += 1,
+            b"f" => self.is_formula = true,
+            b"v" | b"is" => self.has_value = true,
             _ => (),
         }
     }
@@ -171,7 +176,9 @@ impl Reading {
     fn close_cell(&mut self) {
         let text = std::mem::take(&mut self.text);
         let (row, column) = (self.row, self.column);
+        self.formulas += usize::from(self.is_formula && self.has_value);
         let cell = match self.kind.as_str() {
+            _ if self.is_formula && !self.has_value => Cell::new(NO_VALUE),
             "s" if row < MOST_KEPT && column < MOST_KEPT => match text.parse() {
                 Ok(number) => {
                     self.shared.entry(number).or_default().push((row, column));
@@ -179,9 +186,7 @@ impl Reading {
                 }
                 Err(_) => Cell::new(&text),
             },
-            "" | "n" if !text.is_empty() && !self.shows_number => {
-                Cell::new(&format!("{text} shown as a percentage, date or time"))
-            }
+            "" | "n" if !text.is_empty() && !self.shows_number => Cell::new(&format!("{text} {SHOWN_OTHERWISE}")),
             "" | "n" => Cell { stored: !text.is_empty(), ..Cell::new(&text) },
             "b" => Cell::new(if text == "0" { "FALSE" } else { "TRUE" }),
             _ => Cell::new(&text),

@@ -47,9 +47,17 @@ pub fn page(answer: &Answer) -> String {
     let pictures = pictures(answer);
     if !pictures.is_empty() {
         let grids: String = pictures.iter().map(Picture::grid).collect();
-        body += "<p class=\"told\" id=\"told\" role=\"status\">Point at a cue, or tap it: its row, its column, the cells that lead to it and its \
-                 partner are marked.</p>\n";
-        body += &format!("<div class=\"grids\">{grids}</div>\n{}", script(answer));
+        let images = images(answer);
+        let marked = if images.is_empty() {
+            "its row, its column and the cells that lead to it"
+        } else {
+            "its row, its column, the cells that lead to it and its partner"
+        };
+        let _ = writeln!(
+            body,
+            "<p class=\"told\" id=\"told\" role=\"status\">Point at a cue, or tap it: {marked} are marked.</p>"
+        );
+        body += &format!("<div class=\"grids\">{grids}</div>\n{}", script(images, &pictures));
     }
     let says =
         if answer.says.is_empty() && answer.status == Status::Refused { "A sheet is refused." } else { &answer.says };
@@ -59,21 +67,16 @@ pub fn page(answer: &Answer) -> String {
 /// The tables of an answer about maps or parts.
 fn pictures(answer: &Answer) -> Vec<Picture<'_>> {
     let numbers: Vec<usize> = (1..=120).collect();
-    let titled = |sheet: &Sheet| {
-        let what = match (answer.command, sheet.role) {
-            (_, Role::Show) => "The show",
-            (_, Role::Rig) => "The rig",
-            _ => "The whole table",
-        };
-        format!("{what}: {}, {}", sheet.path, count(sheet.order.unwrap_or(0), "cue"))
-    };
+    let titled =
+        |sheet: &Sheet, what: &str| format!("{what}: {}, {}", sheet.path, count(sheet.order.unwrap_or(0), "cue"));
     let mut pictures = Vec::new();
     if matches!(answer.command, "classes" | "rigs") {
         return pictures;
     }
     if let Some(Found::Part { table, .. }) = &answer.result {
         let colours = numbers[..table.len()].to_vec();
-        pictures.push(Picture { title: "The part".into(), rows: table, names: &[], colours, own: false });
+        let title = "The part".into();
+        pictures.push(Picture { title, cue: "Cue ", rows: table, names: &[], colours, own: false });
     }
     for sheet in &answer.sheets {
         let Some(rows) = &sheet.table else { continue };
@@ -84,7 +87,12 @@ fn pictures(answer: &Answer) -> Vec<Picture<'_>> {
             (_, Role::Show) => (numbers[..rows.len()].to_vec(), false),
             _ => (vec![0; rows.len()], false),
         };
-        pictures.push(Picture { title: titled(sheet), rows, names: &sheet.names, colours, own });
+        let (what, cue) = match sheet.role {
+            Role::Show => ("The show", "Cue "),
+            Role::Rig => ("The rig", "The rig's cue "),
+            _ => ("The whole table", "The whole table's cue "),
+        };
+        pictures.push(Picture { title: titled(sheet, what), cue, rows, names: &sheet.names, colours, own });
     }
     pictures
 }
@@ -184,6 +192,8 @@ fn faulty(cells: &Cells, refusal: &Refusal) -> String {
 /// One table of a page, with the colour of each of its elements; 0 stands for none.
 struct Picture<'a> {
     title: String,
+    /// What its cues are called, before their numbers.
+    cue: &'static str,
     rows: &'a [Vec<u8>],
     names: &'a [String],
     colours: Vec<usize>,
@@ -295,17 +305,21 @@ fn partners(head: &str, map: &[u8], source: &Sheet, target: &Sheet) -> String {
     list + "</ol></section>\n"
 }
 
+/// What each cue of the first table becomes in the second; nothing where there is no map.
+fn images(answer: &Answer) -> &[u8] {
+    match &answer.result {
+        Some(Found::Map { images, .. }) => images,
+        Some(Found::Part { elements, .. }) => elements,
+        _ => &[],
+    }
+}
+
 /// What the page does where a cue is pointed at, with the map and the names that it needs.
-fn script(answer: &Answer) -> String {
-    let names = |place: usize| answer.sheets.get(place).map_or(&[][..], |sheet| &sheet.names);
-    let (images, names) = match &answer.result {
-        Some(Found::Map { images, .. }) => (&images[..], [names(0), names(1)]),
-        Some(Found::Part { elements, .. }) => (&elements[..], [&[], names(0)]),
-        _ => (&[][..], [names(0), names(1)]),
-    };
-    let second = if answer.command == "cut" { "The whole table's cue " } else { "The rig's cue " };
+fn script(images: &[u8], pictures: &[Picture]) -> String {
+    let names: Vec<_> = pictures.iter().map(|picture| picture.names).collect();
+    let cues: Vec<_> = pictures.iter().map(|picture| picture.cue).collect();
     let data =
-        serde_json::json!({ "images": images, "names": names, "second": second }).to_string().replace('<', "\\u003c");
+        serde_json::json!({ "images": images, "names": names, "cues": cues }).to_string().replace('<', "\\u003c");
     format!("<script type=\"application/json\" id=\"data\">{data}</script>\n<script>\n{SCRIPT}</script>\n")
 }
 
@@ -439,7 +453,7 @@ h2{break-after:avoid}
 ";
 
 const SCRIPT: &str = "\
-const {images,names,second}=JSON.parse(document.getElementById('data').textContent)
+const {images,names,cues}=JSON.parse(document.getElementById('data').textContent)
 const told=document.getElementById('told'),filter=document.getElementById('filter'),items=[...document.querySelectorAll('.partners li')]
 const place=cell=>{const table=cell.closest('table');return[cell.parentNode.rowIndex,cell.cellIndex&&cell.cellIndex+ +table.dataset.first-1]}
 const number=cell=>parseInt(cell.firstChild&&cell.firstChild.data)||0
@@ -471,7 +485,7 @@ function show(side,cue){
   const other=!images.length?0:side?images.indexOf(cue)+1:images[cue-1]
   mark(side,cue);mark(1-side,other)
   const count=((grids[side]||{same:{}}).same[cue]||[]).length
-  let text=(side?second:'Cue ')+label(side,cue)+': '+count+(count===1?' cell leads':' cells lead')+' to it'
+  let text=cues[side]+label(side,cue)+': '+count+(count===1?' cell leads':' cells lead')+' to it'
   if(images.length)text+=side?(other?'; the partner of '+label(0,other):'; no partner'):'; its partner is '+label(1,other)
   told.textContent=text+'.';told.classList.add('on')
 }

@@ -51,9 +51,12 @@ fn classes_records(answer: &Answer, classes: &[Class]) -> String {
     text
 }
 
+/// The first record of those of rigs.
+pub const RIGS_HEADING: &str = "rig,outcome,cues,places,mirrored,milliseconds\r\n";
+
 /// A heading, then a record for each rig: its path, what came of it, its cues, the places, whether it fits mirrored, the time.
 fn rigs_records(answer: &Answer, rigs: &[Rig]) -> String {
-    let mut text = String::from("rig,outcome,cues,places,mirrored,milliseconds\r\n");
+    let mut text = String::from(RIGS_HEADING);
     for rig in rigs {
         let sheet = &answer.sheets[rig.sheet - 1];
         let outcome = match rig.outcome {

@@ -1,6 +1,6 @@
 //! Every subcommand on the examples.
 
-use crate::run::{answer, folder, names, put, root, run, run_in, Outcome};
+use crate::run::{answer, failure, folder, names, put, root, run, run_in, Outcome};
 use std::fs;
 use std::path::PathBuf;
 
@@ -256,6 +256,35 @@ fn a_name_sheet_that_is_refused_stops_nothing() {
         assert_eq!(checked.status, 2);
         assert_eq!(run_in(&here, &["move", "--csv", "."]).status, 0);
     }
+}
+
+#[test]
+fn a_name_sheet_that_cannot_be_read_stops_nothing() {
+    let here = with_names("names-unread");
+    let map = "The show fits: its 2 cues go to 2 of the rig's 4.\n  1  ->  2 \"T2 half\"\n  2  ->  3 \"say \\now\"\n";
+    let to_do = "correct the name sheet; until then cues are shown by number";
+    let quote = format!(
+        "{map}./source.names.csv: refused (question 40).\n  where:     row 1, column 2 (B1)\n  there:     \"\"hold\"\n  expected:  a name \
+         without a quote mark at its front, or between two\n  to do:     {to_do}\n"
+    );
+    put(&here, "source.names.csv", "1,\"hold\r\n2,b\r\n");
+    assert_eq!(run_in(&here, &["move", "."]), answer(&quote, 0));
+    let letter = format!(
+        "./source.names.csv: mended on reading: letters in another encoding than UTF-8.\n{map}./source.names.csv: refused (question 40).\n  \
+         where:     row 1, column 2 (B1)\n  there:     \"\u{FFFD}\" in \"Entr\u{FFFD}e\"\n  expected:  names of plain ASCII letters, digits \
+         and signs, without accents\n  to do:     {to_do}\n"
+    );
+    put(&here, "source.names.csv", b"1,Entr\xE9e\r\n2,b\r\n");
+    assert_eq!(run_in(&here, &["move", "."]), answer(&letter, 0));
+    let long = format!(
+        "{map}./source.names.csv: refused.\n  where:     the whole file\n  there:     reading failed: the file is too long for a \
+         sheet\n  expected:  a file that can be read\n  to do:     check that this is the right file\n"
+    );
+    let file = fs::File::create(here.join("source.names.csv")).expect("files can be made");
+    file.set_len((1 << 24) + 1).expect("it may be long");
+    assert_eq!(run_in(&here, &["move", "."]), answer(&long, 0));
+    let failed = "tickdrizzle: source.names.csv: reading failed: the file is too long for a sheet\n";
+    assert_eq!(run_in(&here, &["check", "source.names.csv"]), failure(failed, 4));
 }
 
 #[test]

@@ -23,7 +23,9 @@ fn the_shorter_check() {
                    there:     cues from which 2 of 4 are linked; the first that is not is cue 1\n  \
                    expected:  cues from which all others are linked\n  \
                    to do:     add cues to the list; this finds one: tickdrizzle cues examples/found/target.csv\n";
-    assert_eq!(run(&["check", "examples/found/target.csv", "--cues", "3"]), answer(not_all, 2));
+    for cues in ["3", "3,3"] {
+        assert_eq!(run(&["check", "examples/found/target.csv", "--cues", cues]), answer(not_all, 2));
+    }
     let outside = "examples/found/target.csv: refused (question 50).\n  where:     --cues\n  \
                    there:     300, which the table does not have\n  expected:  cues of this table, 1 to 4\n  \
                    to do:     choose cues that the table has\n";

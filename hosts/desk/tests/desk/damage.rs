@@ -113,7 +113,7 @@ fn ends_in_an_answer_or_a_refusal() {
     let mut random = Random::new(number("TICKDRIZZLE_SEED").unwrap_or(1) as u64);
     let (mut accepted, mut refused, mut done) = (0, 0, 0);
     while done < files {
-        let here = folder("damage");
+        let here = folder(&format!("damage-{files}"));
         let mut written = Vec::new();
         while written.len() < BATCH.min(files - done) {
             for (ending, mut bytes) in originals(&mut random) {

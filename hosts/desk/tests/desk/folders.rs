@@ -81,6 +81,8 @@ fn classes_of_any_sheets() {
     put(&here, "a.names.csv", "1,a\r\n2,b\r\n");
     put(&here, "c.xlsx", xlsx(&[("One", &numbers(&[vec![1]]))]));
     put(&here, "answer.csv", "class,1,2,1\r\n");
+    put(&here, "partners.csv", run_in(&here, &["move", "a.csv", "a.csv", "--output", "-"]).output);
+    put(&here, "rigs.csv", run_in(&here, &["rigs", "a.csv", "a.csv", "--csv", "-q"]).output);
     put(&here, "a.mended.csv", "2,1\r\n1,2\r\n");
     put(&here, "readme.md", "x");
     let words =
@@ -88,7 +90,9 @@ fn classes_of_any_sheets() {
     assert_eq!(run_in(&here, &["classes", "--quiet", "."]), answer(words, 0));
     let loud = run_in(&here, &["classes", "."]).output;
     assert!(
-        loud.ends_with("Note: Left out: a.mended.csv, answer.csv (answers of this program and mended copies).\n"),
+        loud.ends_with(
+            "Note: Left out: a.mended.csv, answer.csv, partners.csv, rigs.csv (answers of this program and mended copies).\n"
+        ),
         "{loud}"
     );
 }

@@ -93,6 +93,9 @@ fn files_of_libreoffice() {
         let words = format!("{name}: a linking table of 4 cues.\n");
         assert_eq!(run_in(&here, &["check", name]), answer(&words, 0));
     }
+    let strict = "libreoffice.ods: refused (question 21).\n  where:     the whole file\n  there:     a workbook\n  expected:  digits, a comma \
+                  between cells, CR LF after each row\n  to do:     leave out --strict, or use tickdrizzle mend\n";
+    assert_eq!(run_in(&here, &["check", "--strict", "libreoffice.ods"]), answer(strict, 2));
     let mended = "libreoffice.ods: 4 rows of 4 cells.\n  a workbook; now CSV\nWritten: libreoffice.mended.csv\n";
     assert_eq!(run_in(&here, &["mend", "libreoffice.ods"]), answer(mended, 0));
     let table = fs::read(root().join("examples/found/target.csv")).expect("the example is there");
@@ -178,6 +181,67 @@ fn a_percentage_is_no_cue() {
     assert_eq!(run_in(&here, &["check", "book.xlsx"]), answer(words, 2));
 }
 
+/// An .ods file of one sheet with these cells in a row.
+fn row_of(cells: &str) -> Vec<u8> {
+    let content = format!(
+        "<office:document-content><office:body><office:spreadsheet><table:table table:name=\"One\"><table:table-row>{cells}\
+         </table:table-row></table:table></office:spreadsheet></office:body></office:document-content>"
+    );
+    archive(&[("content.xml", content.as_bytes())])
+}
+
+#[test]
+fn cells_that_show_something_else_than_their_number() {
+    let here = folder("ods-kinds");
+    let date = "<table:table-cell office:value-type=\"date\" office:date-value=\"2026-11-01\"><text:p>1</text:p></table:table-cell>";
+    put(&here, "date.ods", row_of(date));
+    let words = "date.ods: refused (question 21).\n  where:     row 1, column 1 (A1)\n  there:     \"1 shown as a percentage, date or \
+                 time\"\n  expected:  a whole number\n  to do:     correct the cell\n";
+    assert_eq!(run_in(&here, &["check", "date.ods"]), answer(words, 2));
+    let money = "<table:table-cell office:value-type=\"currency\" office:value=\"1\"><text:p>1.00 EUR</text:p></table:table-cell>";
+    put(&here, "money.ods", row_of(money));
+    assert_eq!(run_in(&here, &["check", "money.ods"]), answer("money.ods: a linking table of 1 cue.\n", 0));
+}
+
+#[test]
+fn formulas_without_a_stored_value() {
+    let here = folder("formulas");
+    put(&here, "none.ods", row_of("<table:table-cell table:formula=\"of:=1\"/>"));
+    let sheet = b"<worksheet><sheetData><row r=\"1\"><c r=\"A1\"><f>1</f></c></row></sheetData></worksheet>".as_slice();
+    let book = archive(&[
+        ("xl/workbook.xml", b"<workbook><sheets><sheet name=\"One\" r:id=\"a\"/></sheets></workbook>".as_slice()),
+        (
+            "xl/_rels/workbook.xml.rels",
+            b"<Relationships><Relationship Id=\"a\" Target=\"/xl/one.xml\"/></Relationships>",
+        ),
+        ("xl/one.xml", sheet),
+    ]);
+    put(&here, "none.xlsx", book);
+    for name in ["none.ods", "none.xlsx"] {
+        let words = format!(
+            "{name}: refused (question 21).\n  where:     row 1, column 1 (A1)\n  there:     \"a formula without a stored \
+             value\"\n  expected:  a whole number\n  to do:     correct the cell\n"
+        );
+        assert_eq!(run_in(&here, &["check", name]), answer(&words, 2));
+    }
+}
+
+#[test]
+fn letters_in_an_older_encoding() {
+    let here = folder("latin");
+    put(&here, "sheet.csv", b"Gr\xE4fin;b\r\n1;2\r\n2;1\r\n");
+    let words = "sheet.csv: mended on reading: letters in another encoding than UTF-8; semicolons between the cells; row 1 looks like a \
+                 heading: left out.\nsheet.csv: a linking table of 2 cues.\n";
+    assert_eq!(run_in(&here, &["check", "sheet.csv"]), answer(words, 0));
+    put(&here, "sheet.csv", b"1;2\xA0\r\n2;1\r\n");
+    let words = "sheet.csv: mended on reading: letters in another encoding than UTF-8; semicolons between the cells.\n\
+                 sheet.csv: refused (question 21).\n  where:     row 1, column 2 (B1)\n  there:     \"2\u{FFFD}\"\n  \
+                 expected:  a whole number\n  to do:     correct the cell\n";
+    assert_eq!(run_in(&here, &["check", "sheet.csv"]), answer(words, 2));
+    let strict = run_in(&here, &["check", "--strict", "sheet.csv"]).output;
+    assert!(strict.contains("where:     row 1, column 1 (A1)\n  there:     \";\"\n"), "{strict}");
+}
+
 #[test]
 fn names_in_a_workbook() {
     let here = folder("workbook-names");
@@ -201,9 +265,9 @@ fn files_that_are_no_spreadsheets() {
     put(&here, "old.xls", b"\xD0\xCF\x11\xE0\xA1\xB1\x1A\xE1");
     put(&here, "cut.ods", &ods(&[("One", &numbers(&[vec![1]]))])[..100]);
     put(&here, "other.zip", archive(&[("a.txt", b"1")]));
-    put(&here, "noise.csv", b"\x80\x81\x82");
+    put(&here, "noise.csv", b"\x80\x81\x01");
     for (name, there) in [
-        ("old.xls", "a file of an older Excel (.xls)"),
+        ("old.xls", "a file of an older Excel (.xls), or a workbook with a password"),
         ("cut.ods", "an archive with very many files, or cut short"),
         ("other.zip", "an archive without a spreadsheet"),
         ("noise.csv", "the byte 80 (hexadecimal), 0 bytes into the file"),
@@ -227,5 +291,12 @@ fn standard_input_is_one_sheet() {
     let moved = "The show fits: its 1 cue goes to 1 of the rig's 2.\n  1  ->  1\n";
     assert_eq!(piped(&["move", "--quiet", "-", "book.xlsx#Act 2"], "book.ods"), (moved.into(), Some(0)));
     assert_eq!(piped(&["mend", "-"], "book.ods"), ("1\r\n".into(), Some(0)));
-    assert_eq!(piped(&["move", "-", "-"], "book.ods"), (String::new(), Some(64)));
+    // What loads as it is goes on as it is.
+    put(&here, "one.csv", "1\r\n");
+    assert_eq!(piped(&["mend", "-"], "one.csv"), ("1\r\n".into(), Some(0)));
+    let dry = "-: loads as it is; nothing to mend.\n";
+    assert_eq!(piped(&["mend", "--dry-run", "-"], "one.csv"), (dry.into(), Some(0)));
+    for command in ["move", "check", "mend", "classes"] {
+        assert_eq!(piped(&[command, "-", "-"], "book.ods"), (String::new(), Some(64)));
+    }
 }

@@ -124,6 +124,7 @@ fn completions_for_each_shell() {
         for command in ["move", "check", "classes", "cut", "copies", "positions", "mend"] {
             assert!(outcome.output.contains(command), "{shell} {command}");
         }
+        assert!(!outcome.output.contains("search-rigs"), "{shell} offers what people do not give");
     }
     assert_eq!(run(&["completions", "tcsh"]).status, 64);
     let checked = program(&crate::run::root(), &["completions", "bash"]).output().expect("the program runs").stdout;
@@ -141,4 +142,32 @@ fn limits_are_told_in_the_help() {
     let both = run(&["move", "--limit", "1", "--timeout", "1s", "examples/found"]);
     assert_eq!((both.output.as_str(), both.status), ("", 64));
     assert_ne!(both, failure("", 64));
+    let wrong =
+        "error: Invalid value '1,5s' for '--timeout <TIME>': this is no time: give one such as 10s, 2m or 500ms\n\n\
+                 For more information try '--help'\n";
+    assert_eq!(run(&["move", "--timeout", "1,5s", "examples/found"]), failure(wrong, 64));
+}
+
+#[test]
+fn standard_output_takes_one_thing() {
+    let words = "standard output takes the answer as JSON, the page or the sheet, not two of them";
+    let found = ["move", "examples/found"];
+    let cut = ["cut", "examples/found", "--cues", "1"];
+    for arguments in [
+        &[&found[..], &["--html", "-", "--output", "-"]].concat(),
+        &[&cut[..], &["--html", "-", "--output", "-"]].concat(),
+    ] {
+        assert_eq!(run(arguments), failure(&format!("tickdrizzle: {words}\n"), 64));
+    }
+    for arguments in [
+        &[&found[..], &["--html", "-"]].concat(),
+        &[&found[..], &["--output", "-"]].concat(),
+        &[&cut[..], &["--output", "-"]].concat(),
+        &vec!["classes", "examples/classes", "--html", "-"],
+        &vec!["rigs", "examples/found", "examples/classes", "--html", "-"],
+        &vec!["mend", "-"],
+    ] {
+        let told = json(arguments, 64);
+        assert_eq!((&told["status"], &told["says"]), (&json!("usage"), &json!(words)), "{arguments:?}");
+    }
 }

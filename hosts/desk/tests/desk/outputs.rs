@@ -1,7 +1,9 @@
 //! What is written: never over an input, never over what a user made, and a page for every outcome.
 
 use crate::run::{answer, failure, folder, graph, names, program, put, run_in, Outcome};
+use std::ffi::OsStr;
 use std::fs;
+use std::os::unix::ffi::OsStrExt;
 use std::os::unix::fs::symlink;
 use std::path::{Path, PathBuf};
 use std::process::Stdio;
@@ -66,6 +68,47 @@ fn no_input_is_overwritten() {
     }
     assert_eq!((text(&here, "source.csv"), text(&here, "source.names.csv")), (SHOW.into(), "1,a\r\n2,b\r\n".into()));
     assert_eq!(names(&here), before);
+}
+
+#[test]
+fn folders_and_files_whose_names_are_no_text() {
+    let here = folder("bytes");
+    let hall = here.join(OsStr::from_bytes(b"hall \xE9"));
+    fs::create_dir(&hall).expect("folders can be made");
+    put(&hall, "source.csv", SHOW);
+    put(&hall, "target.csv", SHOW);
+    put(&hall, "source.names.csv", "1,a\r\n2,b\r\n");
+    let run = |arguments: &[&OsStr]| {
+        let done = program(&here, &[]).args(arguments).output().expect("the program runs");
+        let text = |bytes: &[u8]| String::from_utf8_lossy(bytes).into_owned();
+        (text(&done.stdout), text(&done.stderr), done.status.code())
+    };
+    let (moved, folder) = (OsStr::new("move"), hall.as_os_str());
+    let words = "The show fits: its 2 cues go to 2 of the rig's 2.\n  1 \"a\"  ->  1\n  2 \"b\"  ->  2\n";
+    assert_eq!(run(&[moved, folder]), (words.into(), String::new(), Some(0)));
+    let names = hall.join("source.names.csv");
+    let (_, errors, status) = run(&[moved, folder, "-o".as_ref(), names.as_os_str(), "--force".as_ref()]);
+    assert!(errors.contains("it is one of the sheets that are read"), "{errors}");
+    assert_eq!((status, text(&hall, "source.names.csv")), (Some(4), "1,a\r\n2,b\r\n".into()));
+}
+
+#[test]
+fn what_cannot_be_written_is_told_before_a_long_search() {
+    let here = folder("before-search");
+    put(&here, "source.csv", graph(20, 1));
+    put(&here, "target.csv", graph(118, 2));
+    put(&here, "mine.csv", "mine");
+    for option in ["--output", "--html"] {
+        assert_eq!(run_in(&here, &["move", ".", option, "target.csv"]), is_input("target.csv"));
+        assert_eq!(run_in(&here, &["move", ".", option, "mine.csv"]), is_there("mine.csv"));
+        let folder = failure("tickdrizzle: nowhere/x: writing failed: there is no such folder\n", 4);
+        assert_eq!(run_in(&here, &["move", ".", option, "nowhere/x"]), folder);
+    }
+    let one = failure("tickdrizzle: x: two outputs cannot go to one file\n", 64);
+    assert_eq!(run_in(&here, &["move", ".", "--output", "./x", "--html", "x"]), one);
+    let both = ["move", ".", "--html", "page.html", "--output", "mine.csv"];
+    assert_eq!(run_in(&here, &both), is_there("mine.csv"));
+    assert_eq!(names(&here), ["mine.csv", "source.csv", "target.csv"]);
 }
 
 #[test]
@@ -138,10 +181,39 @@ fn a_page_of_this_program_is_replaced_whatever_the_answer_is() {
     assert_eq!(refused.matches("class=\"fault\"").count(), 1);
     let wrong = page("2,1\r\n1,1\r\n", 2);
     assert_eq!(wrong.matches("class=\"fault\"").count(), 3, "{wrong}");
+    put(&here, "source.csv", SHOW);
+    assert_eq!(run_in(&here, &["move", ".", "--html", "page.html", "--pin", "3=1"]).status, 64);
+    let unpinned = text(&here, "page.html");
+    assert!(
+        unpinned.contains("<p>--pin &quot;3=1&quot;: there is no cue 3; the show has cues 1 to 2</p>"),
+        "{unpinned}"
+    );
     fs::remove_file(here.join("source.csv")).expect("it is there");
     assert_eq!(run_in(&here, &["move", ".", "--html", "page.html"]).status, 4);
     assert!(text(&here, "page.html").contains("there is no show"));
     assert_eq!(names(&here), ["page.html", "target.csv"]);
+}
+
+#[test]
+fn a_page_calls_each_cue_by_the_names_of_its_own_table() {
+    let here = hall("pages-names");
+    put(&here, "source.names.csv", "1,show one\r\n2,show two\r\n");
+    put(&here, "target.names.csv", "1,rig one\r\n2,rig two\r\n");
+    let said = |page: &str, data: &str, marked: &str| {
+        assert!(page.contains(&format!("id=\"data\">{data}</script>")), "{page}");
+        assert!(page.contains(&format!("Point at a cue, or tap it: {marked} are marked.</p>")), "{page}");
+    };
+    let both = "{\"cues\":[\"Cue \",\"The rig's cue \"],\"images\":[1,2],\"names\":[[\"show one\",\"show two\"],[\"rig one\",\"rig two\"]]}";
+    let page = run_in(&here, &["move", ".", "--html", "-"]).output;
+    said(&page, both, "its row, its column, the cells that lead to it and its partner");
+    put(&here, "source.csv", "1,2\r\n2,x\r\n");
+    let rig = "{\"cues\":[\"The rig's cue \"],\"images\":[],\"names\":[[\"rig one\",\"rig two\"]]}";
+    let page = run_in(&here, &["move", ".", "--html", "-"]).output;
+    said(&page, rig, "its row, its column and the cells that lead to it");
+    let part =
+        "{\"cues\":[\"Cue \",\"The whole table's cue \"],\"images\":[1],\"names\":[[],[\"rig one\",\"rig two\"]]}";
+    let page = run_in(&here, &["cut", "target.csv", "--cues", "1", "--html", "-"]).output;
+    said(&page, part, "its row, its column, the cells that lead to it and its partner");
 }
 
 #[test]

@@ -2,7 +2,7 @@
 
 use crate::plain::fits;
 use crate::random::{of_maps, sheet, Random};
-use crate::run::{folder, graph, put, run_in, Outcome};
+use crate::run::{failure, folder, graph, put, run_in, Outcome};
 use serde_json::Value;
 use std::fs;
 use std::path::PathBuf;
@@ -56,6 +56,8 @@ fn a_line_for_each_rig() {
         (Some("0 of 2 rigs take the show of 2 cues; 1 would, read column first."), 1)
     );
     assert_eq!(run_in(&here, &["rigs", "show.csv", "rigs/d.csv"]).status, 2);
+    let twice = "tickdrizzle: standard input (-) is one sheet; give the others as files\n";
+    assert_eq!(run_in(&here, &["rigs", "-", "-"]), failure(twice, 64));
 }
 
 #[test]
@@ -120,7 +122,7 @@ fn as_a_plain_search_says() {
 
 #[test]
 fn searches_that_take_too_long_take_nothing_from_later_ones() {
-    let here = folder("rigs-long");
+    let here = folder("rigs-later");
     put(&here, "show.csv", graph(50, 1));
     fs::create_dir(here.join("rigs")).expect("folders can be made");
     for rig in 1..=6 {

@@ -2,7 +2,7 @@
 
 use crate::plain::maps;
 use crate::random::{of_maps, sheet, Random};
-use crate::run::{answer, folder, program, put, root, run, run_in};
+use crate::run::{answer, failure, folder, program, put, root, run, run_in};
 use serde_json::{json, Value};
 use std::fs;
 use std::path::PathBuf;
@@ -27,6 +27,18 @@ fn the_next_way() {
     assert_eq!(run_in(&here, &["move", "--next=5", "second.csv", "three.csv"]), answer(last, 0));
     let none = "There is no such way: the show fits in 6 ways.\n";
     assert_eq!(run_in(&here, &["move", "--next=6", "second.csv", "three.csv"]), answer(none, 1));
+    // Read column first this rig takes the show too, but the show fits as it is.
+    let one = "There is no such way: the show fits in 1 way.\n";
+    assert_eq!(run(&["move", "--next", "examples/found"]), answer(one, 1));
+}
+
+#[test]
+fn a_number_of_ways_that_stands_apart() {
+    for option in ["--all", "--next"] {
+        let words = format!("tickdrizzle: 5: there is no such sheet; a number of ways goes behind =: {option}=5\n");
+        assert_eq!(run(&["move", "examples/found", option, "5"]), failure(&words, 64));
+        assert_eq!(run(&["move", option, "5", "examples/found"]), failure(&words, 64));
+    }
 }
 
 #[test]
@@ -107,8 +119,16 @@ fn partners_as_a_sheet() {
     let sheet = "Cue,Name,Partner,Partner's name\r\n1,hold,2,stay\r\n2,\"second link, up\",3,change places\r\n";
     assert_eq!(fs::read_to_string(here.join("partners.csv")).expect("it was written"), sheet);
     assert_eq!(run_in(&here, &["move", named, "--output", "-"]), answer(sheet, 0));
-    let none = run(&["move", "examples/none", "--output", "none.csv"]);
-    assert!(none.output.ends_with("Note: none.csv was not written: there are no partners.\n"));
+    for (example, status) in [("none", 1), ("refused", 2)] {
+        let example = root().join("examples").join(example);
+        let example = example.to_str().expect("the path is text");
+        let none = run_in(&here, &["move", example, "--output", "none.csv"]);
+        assert!(none.output.ends_with("Note: none.csv was not written: there are no partners.\n"), "{}", none.output);
+        let older = run_in(&here, &["move", example, "--output", "partners.csv"]);
+        let note = "Note: partners.csv was not written: there are no partners; what is there is older.\n";
+        assert!(older.output.ends_with(note), "{}", older.output);
+        assert_eq!((none.status, older.status), (status, status));
+    }
     put(&here, "mine.csv", "x");
     let kept = run_in(&here, &["move", named, "--output", "mine.csv"]);
     assert_eq!((kept.status, fs::read(here.join("mine.csv")).expect("it is there")), (4, b"x".to_vec()));
@@ -127,4 +147,12 @@ fn partners_to_print() {
     assert_eq!((heads, page.matches("<li><i></i>").count()), (2, 120));
     assert!(page.contains("<footer>Page 1 of 2</footer>") && page.contains("<footer>Page 2 of 2</footer>"));
     assert!(page.contains("<li><i></i><b>101</b> <span></span> → <b>101</b> <span></span>\n"));
+    assert!(page.contains("@page{size:A4;margin:10mm}") && !page.contains("<section class="));
+    // Two long names do not fit a row of an upright page.
+    for sheet in ["source.names.csv", "target.names.csv"] {
+        put(&here, sheet, format!("1,{}\r\n", "a name of twenty one"));
+    }
+    let page = run_in(&here, &["move", ".", "--html", "-", "--partners"]).output;
+    assert!(page.contains("@page{size:A4 landscape;margin:10mm}"), "{page}");
+    assert_eq!(page.matches("<section class=\"wide\">").count(), 2);
 }
