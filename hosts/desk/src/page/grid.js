@@ -8,6 +8,11 @@ const MOST_COLOURS = 12
 // A cell is copied rather than made, since there are up to 14,400 in a table.
 const CELL = element('td', { role: 'gridcell' })
 
+// Where the pointer is. What moves below one that rests is not pointed at.
+let pointer = ''
+const at = ({ clientX, clientY }) => `${clientX} ${clientY}`
+document.addEventListener('pointermove', event => { pointer = at(event) })
+
 const range = length => Array.from({ length }, (_, place) => place + 1)
 
 /**
@@ -154,7 +159,7 @@ export class Grid {
     const cellOf = event => event.target.closest('td,th')
     const tell = (handler, cell) => handler(this, cell ? this.cueOf(cell) : 0, cell)
     this.table.addEventListener('pointerover', event => {
-      if (event.pointerType !== 'touch') tell(this.handlers.onpoint, cellOf(event))
+      if (event.pointerType !== 'touch' && at(event) !== pointer) tell(this.handlers.onpoint, cellOf(event))
     })
     this.table.addEventListener('pointerleave', () => tell(this.handlers.onpoint, null))
     this.table.addEventListener('focusin', event => {
