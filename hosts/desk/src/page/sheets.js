@@ -137,6 +137,8 @@ export function correct(sheet, corrections) {
   next(() => {
     let latest = sheet
     while (!sheets().includes(latest) && successors.has(latest)) latest = successors.get(latest)
+    // Another sheet of the workbook is none of this one's.
+    if (latest.name !== sheet.name) return null
     return renew(latest, { cells: corrected(latest.cells, corrections), corrected: true })
   })
 }

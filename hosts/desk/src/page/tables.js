@@ -32,8 +32,6 @@ function gridOf(sheet) {
 
 const sideOf = grid => grid.sheet === pair[1] ? 1 : 0
 
-export const modeNow = () => mode
-
 /** Another way of choosing, or the usual one where it is the same. */
 export function setMode(next) {
   mode = mode === next ? 'look' : next
@@ -171,7 +169,7 @@ function drawBar() {
     button(text, () => { if (mode !== name) setMode(name) }, { 'aria-pressed': String(mode === name) })))
   const cell = held?.cell?.tagName === 'TD' ? held : null
   if (cell && gridOf(pair[cell.side])?.sheet.cells) {
-    bar.append(button('Correct this cell', () => gridOf(pair[cell.side]).edit(cell.cell), { class: 'edit' }))
+    bar.append(button('Correct this cell', () => gridOf(pair[cell.side]).edit(cell.cell)))
   }
   drawChosen()
 }
