@@ -101,7 +101,7 @@ export function choose(side, cue, cell) {
 }
 
 const handlers = {
-  onpoint: (grid, cue, cell) => point(sideOf(grid), cue, cell),
+  onpoint: (grid, cue, cell) => cell ? point(sideOf(grid), cue, cell) : lookAgain(),
   onfocus: (grid, cue, cell) => attend(sideOf(grid), cue, cell),
   onchoose: (grid, cue, cell) => choose(sideOf(grid), cue, cell),
   onedit(grid, correction) {
@@ -215,15 +215,13 @@ export function drawTables(answer) {
   place(shown.map(gridOf))
   if (isNew || answer !== painted) paint(answer)
   drawBar()
-  tellAgain()
+  lookAgain()
 }
 
-/** Tells again of what is looked at: more may be known of it. */
-function tellAgain() {
+/** Shows again what is looked at, of which more may be known: a cue that is held, the cell that has the focus, or nothing. */
+function lookAgain() {
   const grid = placed.find(other => other.table.contains(document.activeElement))
-  if (held) show(held)
-  else if (grid) show({ side: sideOf(grid), cue: grid.cueOf(grid.current), cell: grid.current })
-  else told('')
+  show(held ?? (grid ? { side: sideOf(grid), cue: grid.cueOf(grid.current), cell: grid.current } : { side: 0, cue: 0 }))
 }
 
 /** Puts grids on the page. Those that are there already stay; one that shows a sheet anew stands as the one before it. */
