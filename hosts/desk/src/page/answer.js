@@ -1,30 +1,34 @@
 // The answer: it fits, it does not and why, or it is not known yet; the partner list; and what the operator may choose.
 
-import { button, byId, count, element, fill, label } from './elements.js'
+import { announce, button, byId, count, element, fill, label, printed, save } from './elements.js'
+import { faults } from './faults.js'
 import { change, currentRig, state } from './state.js'
-import { choosePair, keepApart, modeNow, pin, release, show as showCue } from './tables.js'
+import { attend, choose, goTo, keepApart, pin, point, release } from './tables.js'
 
 const TIMES = [['10s', '10 seconds'], ['1m', '1 minute'], ['10m', '10 minutes']]
 
 const isPinned = (cue, partner) => state().pins.some(([one, other]) => one === cue && other === partner)
 
-/** What is said where there is no answer yet. */
-function waiting() {
-  const { show, rigs } = state()
-  const rig = currentRig()
-  if (!show && !rigs.length) return null
+/** What is missing before there can be an answer: a sheet, or a correction. */
+function drawMissing(section) {
+  const [show, rig] = [state().show, currentRig()]
   const bad = [show, rig].filter(sheet => sheet?.about.refusal)
-  if (bad.length) return [`${bad.map(sheet => sheet.name).join(' and ')} cannot be used yet: see below what is wrong and where.`, 'bad']
-  return [!show ? 'Now drop the show’s sheet.' : 'Now drop the rig’s sheet.', '']
+  // Where both are there the answer comes; where none is, that is plain.
+  if (!bad.length && Boolean(show) === Boolean(rig)) return fill(section)
+  const text = bad.length ? bad.map(sheet => `${sheet.name} cannot be used yet.`).join(' ') : `Now drop the ${show ? 'rig' : 'show'}’s sheet.`
+  announce('answer', text)
+  if (bad.length) section.classList.add('bad')
+  fill(section, bad.length ? bad.map(sheet => faults(sheet, place => goTo(sheet, place))) : element('p', { class: 'verdict' }, text))
 }
 
 /** A search that takes longer than a moment. The button stays the same while the seconds pass. */
 function drawBusy(section, seconds, stop) {
+  announce('answer', 'Looking for partners.')
   const clock = byId('clock')
   if (clock) clock.textContent = `${seconds} s`
   else fill(section,
-    element('p', { class: 'verdict busy', role: 'status' },
-      element('span', { class: 'spin', 'aria-hidden': 'true' }), 'Looking for partners … ', element('span', { id: 'clock', 'aria-hidden': 'true' }, `${seconds} s`)),
+    element('p', { class: 'verdict busy' },
+      element('span', { class: 'spin', 'aria-hidden': 'true' }), 'Looking for partners … ', element('span', { id: 'clock' }, `${seconds} s`)),
     element('div', { class: 'buttons' }, button('Stop', stop, { class: 'main', id: 'stop' })))
 }
 
@@ -74,9 +78,28 @@ function choices(model, actions) {
       isFound && button('Count the ways', actions.count),
       !pins.length && !not.length && button('Count the places', actions.copies),
       !isFound && button('Why not?', actions.why)),
-    element('label', { class: 'time' }, 'Give up after ',
-      element('select', { onchange: event => actions.setTime(event.target.value) },
-        TIMES.map(([value, text]) => element('option', { value, selected: value === model.time }, text)))))
+    model.reply.answer.status === 'stopped' && patience(model, actions))
+}
+
+/** How long a search may take. */
+export const patience = (model, actions) => element('label', { class: 'time' }, 'Give up after ',
+  element('select', { onchange: event => actions.setTime(event.target.value) },
+    TIMES.map(([value, text]) => element('option', { value, selected: value === model.time }, text))))
+
+/** A search that was stopped from the page. */
+function drawStopped(section, model, actions) {
+  const text = `Stopped after ${model.stopped} s. Whether the show fits is not known.`
+  announce('answer', text)
+  section.classList.add('stopped')
+  fill(section, element('p', { class: 'verdict' }, text),
+    element('div', { class: 'buttons' }, button('Search again', actions.again, { class: 'main' }), patience(model, actions)))
+}
+
+/** What is said of an answer. */
+function verdict({ status, says }, time) {
+  if (status !== 'stopped') return says
+  const [, words] = TIMES.find(([value]) => value === time)
+  return `Stopped: ${words} ${words.startsWith('1 ') ? 'is' : 'are'} not enough to tell whether the show fits.`
 }
 
 /** The verdict and what belongs to it. */
@@ -84,79 +107,83 @@ export function drawAnswer(model, actions) {
   const section = byId('answer')
   section.className = 'answer'
   if (model.busy >= 0) return drawBusy(section, model.busy, actions.stop)
-  if (model.stopped >= 0) {
-    section.classList.add('stopped')
-    return fill(section,
-      element('p', { class: 'verdict' }, `Stopped after ${model.stopped} s. Whether the show fits is not known.`),
-      element('div', { class: 'buttons' }, button('Search again', actions.again, { class: 'main' })))
-  }
-  if (!model.reply) {
-    const [text, kind] = waiting() ?? []
-    if (kind) section.classList.add(kind)
-    return fill(section, text && element('p', { class: 'verdict' }, text))
-  }
+  if (model.stopped >= 0) return drawStopped(section, model, actions)
+  if (!model.reply) return drawMissing(section)
   const { answer } = model.reply
-  const kind = { found: 'good', none: 'none', stopped: 'stopped' }[answer.status] ?? 'bad'
-  section.classList.add(kind)
-  const says = answer.status === 'stopped' ? `Stopped: ${TIMES.find(([value]) => value === model.time)[1]} are not enough to tell whether the show fits.` : answer.says
+  section.classList.add({ found: 'good', none: 'none', stopped: 'stopped' }[answer.status] ?? 'bad')
+  const says = verdict(answer, model.time)
+  announce('answer', model.note || says)
   fill(section,
     state().rigs.length > 1 && element('p', { class: 'about' }, currentRig().name),
-    element('p', { class: 'verdict', role: 'status' }, says.replace('1 minute are', '1 minute is')),
+    element('p', { class: 'verdict' }, says),
     reasons(model.reply),
     offered(answer, actions),
-    model.note && element('p', { class: 'note', role: 'status' }, model.note),
+    model.note && element('p', { class: 'note' }, model.note),
     chips(),
     choices(model, actions))
 }
 
 let drawn = null
 
+/** The cues that have partners, each with its partner: of all the show, or of the largest part that can be moved. */
+function pairsOf({ map, misfit } = {}) {
+  const { elements = [], images = [] } = misfit?.largest ?? {}
+  return map ? map.images.map((image, place) => [place + 1, image]) : elements.map((cue, place) => [cue, images[place]])
+}
+
+/** A line of the list: a cue, its partner, and, where all cues have one, what may be asked of the two. */
+function line([cue, partner], [names, others], isWhole) {
+  const pinned = isPinned(cue, partner)
+  const end = (side, number, name) => button([element('b', {}, `${number}`), name && element('span', {}, name)], () => choose(side, number), { class: 'cue', title: name || false })
+  return element('li', { onpointerenter: () => point(0, cue), onfocusin: () => attend(0, cue) },
+    element('i', { 'aria-hidden': 'true' }),
+    end(0, cue, names[cue - 1]), element('span', { class: 'to', role: 'img', 'aria-label': 'becomes' }, '→'), end(1, partner, others[partner - 1]),
+    isWhole && element('span', { class: 'acts' },
+      button('pin', () => pinned ? release(cue, partner) : pin(cue, partner),
+        { 'aria-pressed': String(pinned), 'aria-label': `Pin cue ${cue} to ${partner}`, title: 'Keep this partner' }),
+      button('not', () => keepApart(cue, partner), { 'aria-label': `Keep cue ${cue} from ${partner}`, title: 'Any other partner' })))
+}
+
+/** A field that hides the lines in which a number or a name does not stand. */
+function finder(pairs, lines) {
+  const find = text => {
+    const wanted = text.trim().toLowerCase()
+    lines.forEach((shown, place) => {
+      const numbers = pairs[place].map(String)
+      shown.hidden = /^[0-9]+$/.test(wanted) ? !numbers.includes(wanted) : !shown.textContent.toLowerCase().includes(wanted)
+    })
+  }
+  return element('label', { class: 'filter' }, element('span', {}, 'Find'),
+    element('input', { type: 'search', placeholder: 'number or name', oninput: event => find(event.target.value) }))
+}
+
 /** The list of partners, with a field to look for one; one that is there already stays. */
 export function drawPartners(reply, actions) {
   const { pins, not } = state()
   if (drawn?.reply === reply && drawn.pins === pins && drawn.not === not) return
   drawn = { reply, pins, not }
-  const { map, misfit } = reply?.answer.result ?? {}
-  const largest = misfit?.largest
-  const pairs = map ? map.images.map((image, place) => [place + 1, image])
-    : largest ? largest.elements.map((cue, place) => [cue, largest.images[place]]) : []
+  const { result, sheets, says } = reply?.answer ?? {}
+  const pairs = pairsOf(result ?? {})
   if (!pairs.length) return fill(byId('partners'))
-  const [names, others] = reply.answer.sheets.map(sheet => sheet.names)
-  const item = ([cue, partner]) => {
-    const pinned = isPinned(cue, partner)
-    const pick = side => () => {
-      if (modeNow() === 'pin' || modeNow() === 'apart') choosePair(side, side ? partner : cue)
-      else showCue(side, side ? partner : cue)
-    }
-    const end = (side, number, list) => button('', pick(side), { class: 'cue', title: list[number - 1] || false })
-    const [left, right] = [end(0, cue, names), end(1, partner, others)]
-    left.append(element('b', {}, `${cue}`), names[cue - 1] ? element('span', {}, names[cue - 1]) : '')
-    right.append(element('b', {}, `${partner}`), others[partner - 1] ? element('span', {}, others[partner - 1]) : '')
-    return element('li', { class: pinned ? 'pinned' : '', onpointerenter: () => showCue(0, cue), onfocusin: () => showCue(0, cue) },
-      element('i', { 'aria-hidden': 'true' }), left, element('span', { class: 'to', 'aria-label': 'becomes' }, '→'), right,
-      map && element('span', { class: 'acts' },
-        button('pin', () => pinned ? release(cue, partner) : pin(cue, partner),
-          { 'aria-pressed': String(pinned), 'aria-label': `Pin cue ${cue} to ${partner}`, title: 'Keep this partner' }),
-        button('not', () => keepApart(cue, partner), { 'aria-label': `Keep cue ${cue} from ${partner}`, title: 'Any other partner' })))
-  }
-  const items = pairs.map(item)
-  const filter = text => {
-    const wanted = text.trim().toLowerCase()
-    items.forEach((line, place) => {
-      const numbers = pairs[place].map(String)
-      line.hidden = /^[0-9]+$/.test(wanted) ? !numbers.includes(wanted) : !line.textContent.toLowerCase().includes(wanted)
-    })
-  }
-  const title = `${reply.answer.sheets[0].path} on ${reply.answer.sheets[1].path}`
+  const isWhole = Boolean(result.map)
+  const names = sheets.map(sheet => sheet.names)
+  const lines = pairs.map(pair => line(pair, names, isWhole))
   fill(byId('partners'),
-    element('header', { class: 'printed' }, element('h1', {}, `Partners: ${title}`), element('p', {}, new Date().toISOString().slice(0, 10)),
-      element('p', {}, reply.answer.says)),
+    element('header', { class: 'printed' }, element('h1', {}, `Partners: ${sheets[0].path} on ${sheets[1].path}`), element('p', {}, new Date().toISOString().slice(0, 10)),
+      element('p', {}, says)),
     element('div', { class: 'head' },
-      element('h2', {}, map ? 'Partners' : `Partners of ${count(pairs.length, 'cue')} that can be moved`),
-      element('label', { class: 'filter' }, element('span', {}, 'Find'), element('input', { type: 'search', placeholder: 'number or name', oninput: event => filter(event.target.value) })),
+      element('h2', {}, isWhole ? 'Partners' : `Partners of ${count(pairs.length, 'cue')} that can be moved`),
+      finder(pairs, lines),
       element('div', { class: 'buttons' },
-        button('Print', () => print(), { id: 'print' }),
-        map && button('Save as CSV', actions.savePartners, { id: 'save-csv' }),
-        map && button('Save as a page', actions.savePage))),
-    element('ol', { class: names.length || others.length ? 'partners named' : 'partners' }, items))
+        button('Print', () => printed('partners'), { id: 'print' }),
+        button('Save as CSV', isWhole ? actions.savePartners : () => save('partners.csv', partnerSheet(pairs, names)), { id: 'save-csv' }),
+        isWhole && button('Save as a page', actions.savePage))),
+    element('ol', { class: names.some(list => list.length) ? 'partners named' : 'partners' }, lines))
+}
+
+/** Partners of a part as a sheet, in the form in which the program writes those of a whole show. */
+function partnerSheet(pairs, [names, others]) {
+  const field = (text = '') => /[",]/.test(text) ? `"${text.replaceAll('"', '""')}"` : text
+  const rows = pairs.map(([cue, partner]) => `${cue},${field(names[cue - 1])},${partner},${field(others[partner - 1])}`)
+  return ['Cue,Name,Partner,Partner\'s name', ...rows, ''].join('\r\n')
 }

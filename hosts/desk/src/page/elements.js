@@ -30,6 +30,24 @@ export function fill(section, ...children) {
   again?.focus({ preventScroll: true })
 }
 
+const last = {}
+
+/** Tells screen readers what is said now of something, where that is new. */
+export function announce(about, text) {
+  if (last[about] === text) return
+  last[about] = text
+  const log = byId('said')
+  log.append(element('p', {}, text))
+  if (log.children.length > 3) log.firstChild.remove()
+}
+
+/** Prints one section and nothing else. */
+export function printed(section) {
+  document.body.dataset.printed = section
+  print()
+  delete document.body.dataset.printed
+}
+
 export const count = (number, thing) => `${number} ${thing}${number === 1 ? '' : 's'}`
 
 /** The column's letters in a spreadsheet: A for 1, AA for 27. */

@@ -8,14 +8,13 @@ const MOST_CHANGES = 6
 /** The faults of a refused sheet; `goTo` shows a cell. */
 export function faults(sheet, goTo) {
   const { refusal } = sheet.about
-  if (!refusal) return null
   const place = ([row, column]) => `${letters(column)}${row}`
   const line = fault => element('li', {},
     element('b', {}, fault.where), `: ${fault.there} `,
     sheet.cells && fault.cells.slice(0, 4).map(cell =>
       button(`Show ${place(cell)}`, () => goTo(cell), { class: 'small', 'aria-label': `Show cell ${place(cell)}` })))
   return element('div', { class: 'faults' },
-    element('p', { class: 'verdict bad' }, `${sheet.name} cannot be used yet`),
+    element('p', { class: 'verdict' }, `${sheet.name} cannot be used yet`),
     element('ul', {}, refusal.faults.map(line), refusal.more > 0 && element('li', {}, `and ${refusal.more} more`)),
     refusal.expected && element('p', {}, element('b', {}, 'Expected: '), refusal.expected),
     refusal.to_do && element('p', {}, element('b', {}, 'To do: '), refusal.to_do),
@@ -31,6 +30,6 @@ function repair(sheet, { repair: found }) {
     { class: found.changes.length === 1 ? 'main' : '' }))
   const more = found.changes.length - offers.length
   return element('div', { class: 'repair' },
-    element('p', {}, element('b', {}, 'Perhaps '), found.says, '.'),
+    element('p', {}, element('b', {}, 'Suggestion: '), found.says, '.'),
     element('p', { class: 'buttons' }, offers, more > 0 && element('span', { class: 'faint' }, `and ${more} more`)))
 }

@@ -5,7 +5,7 @@ import { byId, save } from './elements.js'
 import { drawMore, openMore } from './more.js'
 import { drawRigs } from './rigs.js'
 import { ask, stayPresent } from './server.js'
-import { acceptDrops, drawCards, filesOf, onWarning, take } from './sheets.js'
+import { acceptDrops, drawCards, filesOf, isUnsaved, onWarning, take } from './sheets.js'
 import { canRedo, canUndo, change, currentRig, fresh, onChange, redo, state, undo } from './state.js'
 import { drawTables, setMode } from './tables.js'
 
@@ -37,7 +37,7 @@ function moveArguments(more = []) {
 }
 
 /** Asks one thing at a time, which can be stopped; nothing where it was, or where another question came after it. */
-async function asking(args, files, options = {}) {
+async function asking(args, files) {
   search?.controller.abort()
   const mine = { controller: new AbortController(), begun: Date.now(), stopped: false }
   search = mine
@@ -49,7 +49,7 @@ async function asking(args, files, options = {}) {
     drawAnswer(model, actions)
   }, 200)
   try {
-    return await ask(args, files, { ...options, signal: mine.controller.signal })
+    return await ask(args, files, { signal: mine.controller.signal })
   } catch (error) {
     if (error.name !== 'AbortError') warn(error.message)
     else if (mine.stopped) model.stopped = Math.round((Date.now() - mine.begun) / 1000)
@@ -95,7 +95,7 @@ async function saveWritten(args, sheets) {
 }
 
 // What the replies belong to: they are asked anew where it has changed.
-let asked = { move: '', rigs: '', cut: '' }
+let asked = { sheets: '', move: '', rigs: '', cut: '' }
 const numbers = new WeakMap()
 let last = 0
 
@@ -116,9 +116,18 @@ async function lookForPartners() {
   if (wanted === asked.move) return
   asked.move = wanted
   beside.told?.abort()
-  Object.assign(model, { reply: null, note: '', told: null })
+  Object.assign(model, { note: '', told: null })
+  const pair = usable ? key([show, rig]) : ''
+  if (pair !== asked.sheets) model.reply = null
+  asked.sheets = pair
   if (!usable) return search?.controller.abort()
+  // An earlier answer about these sheets stays for a moment, so that the page does not jump.
+  const later = setTimeout(() => {
+    model.reply = null
+    draw()
+  }, MOMENT)
   const reply = await asking(moveArguments(), filesFor([show, rig]))
+  clearTimeout(later)
   if (asked.move !== wanted) return
   model.reply = reply
   draw()
@@ -324,5 +333,7 @@ byId('undo').addEventListener('click', undo)
 byId('redo').addEventListener('click', redo)
 byId('keys').addEventListener('click', () => byId('help').showModal())
 document.addEventListener('keydown', press)
+// The browser asks before it closes the page.
+addEventListener('beforeunload', event => { if (isUnsaved()) event.preventDefault() })
 stayPresent(isHere => warn(isHere ? '' : 'The program has ended. Start it again: tickdrizzle open'))
 refresh()

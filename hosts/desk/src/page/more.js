@@ -1,6 +1,7 @@
 // The part to tour, and what else the program tells of these sheets, in its own words.
 
-import { button, byId, count, element, fill, label } from './elements.js'
+import { patience } from './answer.js'
+import { announce, button, byId, count, element, fill, label } from './elements.js'
 import { change, currentRig, state } from './state.js'
 
 /** What stands in the fields. */
@@ -62,31 +63,34 @@ export const sameness = actions => [
   button('The same or mirrored?', () => actions.classes(['--mirror']), { title: 'A table and the one that is read column first count as the same' })]
 
 /** Questions about the show and the rig. */
-function aboutBoth(actions) {
+function aboutBoth(model, actions) {
   const { rigs, pins, not, preferNames } = state()
   const number = { type: 'number', min: 1, max: 65535 }
   return [
     group('All ways', field('most', 'At most ', number), button('List the ways', () => actions.list(typed.most))),
     !pins.length && !not.length && !preferNames && group('As the paper searches',
       field('trials', 'Trials ', { ...number, max: 4294967295 }), button('Search and count trials', () => actions.limited(typed.trials))),
-    rigs.length === 1 && group('Both tables', sameness(actions))]
+    rigs.length === 1 && group('Both tables', sameness(actions)),
+    group('All searches', patience(model, actions))]
 }
 
 /** What was told, or that it is being asked. */
 function answered(told, actions) {
   if (!told) return null
-  if (told.busy) return element('p', { class: 'buttons', role: 'status' }, 'Asking … ', button('Stop asking', actions.stopTelling))
-  return [element('pre', { role: 'status', tabindex: 0 }, told.text),
+  announce('told', told.busy ? 'Asking.' : told.text)
+  if (told.busy) return element('p', { class: 'buttons' }, 'Asking … ', button('Stop asking', actions.stopTelling))
+  return [element('pre', { tabindex: 0, role: 'region', 'aria-label': 'What was asked' }, told.text),
     told.page && element('p', { class: 'buttons' }, button('Save this as a page', () => actions.savePageOf(told.page)))]
 }
 
-export function drawMore({ cut, told }, actions) {
+export function drawMore(model, actions) {
+  const { cut, told } = model
   const [show, rig] = [state().show, currentRig()]
   const sheets = [['show', show], ['rig', rig]].filter(([, sheet]) => sheet?.about.table || sheet?.cells)
   const both = show?.about.table && rig?.about.table
   fill(byId('more'), part(cut, actions),
     sheets.length > 0 && element('details', { open: isOpen, ontoggle: event => { isOpen = event.target.open } },
       element('summary', {}, 'More about these sheets'),
-      element('div', { class: 'asked' }, sheets.map(([role, sheet]) => aboutSheet(role, sheet, actions)), both && aboutBoth(actions)),
+      element('div', { class: 'asked' }, sheets.map(([role, sheet]) => aboutSheet(role, sheet, actions)), both && aboutBoth(model, actions)),
       answered(told, actions)))
 }

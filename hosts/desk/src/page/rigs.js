@@ -1,9 +1,10 @@
 // Several rigs side by side: which of them take the show.
 
-import { button, byId, element, fill } from './elements.js'
+import { announce, button, byId, element, fill, printed } from './elements.js'
 import { sameness } from './more.js'
-import { change, fresh, state } from './state.js'
+import { chooseRig, state } from './state.js'
 
+// What stands in the table for each outcome.
 const MARKS = { fits: 'Fits', none: 'No', stopped: 'Not told', refused: 'Refused' }
 
 /** The rigs with what came of each, as the program words it. */
@@ -16,25 +17,30 @@ export function drawRigs({ rigs: reply, comparing }, actions) {
   const row = (rig, place) => {
     const sheet = reply.answer.sheets[rig.sheet - 1]
     const mirrored = rig.outcome === 'none' && rig.mirrored
-    const look = () => change({ ...fresh, rig: place, mirror: Boolean(mirrored) })
     return element('tr', { class: `${rig.outcome}${place === current ? ' chosen' : ''}${mirrored ? ' mirrored' : ''}` },
-      element('th', { scope: 'row' }, button(sheet.path, look, { class: 'link', 'aria-pressed': String(place === current) })),
+      element('th', { scope: 'row' }, button(sheet.path, () => chooseRig(place, Boolean(mirrored)), { class: 'link', 'aria-pressed': String(place === current) })),
       element('td', {}, element('span', { class: 'mark' }, mirrored ? 'Mirrored' : MARKS[rig.outcome])),
       element('td', {}, reply.rigs[place] ?? ''),
       element('td', { class: 'number' }, `${rig.milliseconds} ms`))
   }
+  announce('rigs', reply.answer.says)
   fill(byId('rigs'),
     element('div', { class: 'head' },
       element('h2', {}, reply.answer.says),
-      element('div', { class: 'buttons' }, button('Save as CSV', actions.saveRigs), button('Save as a page', actions.saveRigsPage), sameness(actions))),
+      element('div', { class: 'buttons' },
+        button('Print', () => printed('rigs')), button('Save as CSV', actions.saveRigs), button('Save as a page', actions.saveRigsPage), sameness(actions))),
     element('div', { class: 'scroll' }, element('table', { class: 'rigs' },
-      element('thead', {}, element('tr', {}, ['Rig', 'The show', 'In words', 'Time'].map(text => element('th', { scope: 'col' }, text)))),
+      element('thead', {}, element('tr', {}, ['Rig', 'The show', 'In words'].map(text => element('th', { scope: 'col' }, text)), element('th', { scope: 'col', class: 'number' }, 'Time'))),
       element('tbody', {}, found.map(row)))))
 }
 
-/** What is shown before the rigs are compared. */
+/** What is shown before the rigs are compared: that they are being compared, or that it was stopped. */
 function unknown(comparing, actions) {
-  const line = (text, does, act) => element('div', { class: 'head' }, element('h2', { role: 'status' }, text), button(does, act))
-  if (comparing === 'busy') return line('Comparing the rigs …', 'Stop comparing', actions.stopComparing)
-  return comparing === 'stopped' && line('Stopped: not all rigs were compared.', 'Compare again', actions.compareAgain)
+  const [text, does, act] = {
+    busy: ['Comparing the rigs …', 'Stop comparing', actions.stopComparing],
+    stopped: ['Stopped: not all rigs were compared.', 'Compare again', actions.compareAgain],
+  }[comparing] ?? []
+  if (!text) return null
+  announce('rigs', text)
+  return element('div', { class: 'head' }, element('h2', {}, text), button(does, act))
 }

@@ -1,11 +1,11 @@
 // Sheets: dropped or chosen, read by the program, corrected, saved as new files.
 //
-// A sheet has the name of its file, of a workbook's sheet with # and its title, its cells as they stand, perhaps a name sheet, and
-// `about`, what the program says of it. Like all that can be undone it is never changed but replaced.
+// A sheet has a name of its own, made of that of its file (`file`), of a workbook's sheet with # and its title, its cells as they stand,
+// perhaps a name sheet, and `about`, what the program says of it. Like all that can be undone it is never changed but replaced.
 
 import { byId, button, count, element, fill, save } from './elements.js'
 import { ask, Unanswered } from './server.js'
-import { change, currentRig, fresh, replaced, state } from './state.js'
+import { change, chooseRig, currentRig, fresh, replaced, state } from './state.js'
 
 const MOST_BYTES = 2 << 20
 const ENDINGS = '.csv,.ods,.xlsx,.tsv,.tab,.txt'
@@ -58,113 +58,129 @@ function base64Of(file) {
   })
 }
 
-/** Takes files that were dropped on a place, "show" or "rig"; name sheets go to the sheets that they belong to. */
-export async function take(list, place) {
+// One thing after another is done with sheets, so that each finds what came of the one before.
+let work = Promise.resolve()
+
+/** Does something with sheets once all before it is done, and tells why where it fails. */
+function next(step) {
+  work = work.then(step).catch(error => warn(error.message))
+}
+
+/** Takes files that were dropped on a place, "show" or "rig". */
+export function take(list, place) {
   const files = [...list].sort((one, other) => one.name.localeCompare(other.name, 'en', { numeric: true }))
-  const tables = []
-  let nameSheets = []
-  try {
-    for (const file of files) {
-      if (file.size > MOST_BYTES) throw new Unanswered(`${file.name} is too long for a sheet: more than 2 MB.`)
-      const sent = { name: file.name, base64: await base64Of(file) }
-      if (isNameSheet(file.name)) nameSheets.push(sent)
-      else tables.push(sent)
-    }
-    const taken = sheets().map(sheet => sheet.name)
-    const made = []
-    for (const sent of tables) {
-      const names = nameSheets.find(other => stem(stem(other.name)) === stem(sent.name)) ?? null
-      nameSheets = nameSheets.filter(other => other !== names)
-      const sheet = { name: freeName(sent.name, taken), title: '', base64: sent.base64, cells: null, names, corrected: false }
-      taken.push(sheet.name)
-      made.push(await read(sheet))
-    }
-    if (made.length) put(made, place)
-    for (const names of nameSheets) await giveNames(names, place)
-  } catch (error) {
-    warn(error.message)
+  next(() => takeAll(files, place))
+}
+
+/** Takes files in their order; those that are too long are told and left out. Name sheets go to the sheets that they belong to. */
+async function takeAll(files, place) {
+  const [tables, nameSheets] = [[], []]
+  for (const file of files.filter(({ size }) => size <= MOST_BYTES)) {
+    const sent = { name: file.name, base64: await base64Of(file) }
+    if (isNameSheet(file.name)) nameSheets.push(sent)
+    else tables.push(sent)
   }
+  const taken = sheets().map(sheet => sheet.name)
+  const made = []
+  for (const { name, base64 } of tables) {
+    const names = nameSheets.find(other => stem(stem(other.name)) === stem(name)) ?? null
+    if (names) nameSheets.splice(nameSheets.indexOf(names), 1)
+    const sheet = { name: freeName(name, taken), file: name, title: '', base64, cells: null, names, corrected: false }
+    taken.push(sheet.name)
+    made.push(await read(sheet))
+  }
+  if (made.length) put(made, place)
+  for (const names of nameSheets) await giveNames(names, place)
+  const long = files.filter(({ size }) => size > MOST_BYTES).map(({ name }) => name)
+  if (long.length) throw new Unanswered(`${long.join(', ')} ${long.length > 1 ? 'are' : 'is'} too long for a sheet: more than 2 MB.`)
 }
 
 /** The first of some sheets is the show where the place is the show's; all others are rigs. */
 function put(made, place) {
   const { show, rigs } = state()
   const forShow = place === 'show' || (place === 'any' && !show)
-  const [first, ...others] = forShow ? made : [null, ...made]
-  change({
-    ...fresh,
-    part: forShow ? [] : state().part,
-    show: forShow ? first : show,
-    rigs: [...rigs, ...others],
-    rig: others.length === 1 && !rigs.length ? 0 : Math.min(state().rig, Math.max(rigs.length + others.length - 1, 0)),
-  })
+  const [first, ...others] = forShow ? made : [show, ...made]
+  const isOther = first !== show || !rigs.length
+  change({ ...(isOther ? fresh : {}), ...(first !== show ? { part: [] } : {}), show: first, rigs: [...rigs, ...others] })
 }
 
-/** Gives names to the sheet that a name sheet is called after, or else to that of the place where it was dropped. */
+/** Gives names to the sheet that a name sheet is called after, first of those at the place where it was dropped, or else to the one there. */
 async function giveNames(names, place) {
-  const called = sheets().find(sheet => stem(sheet.name) === stem(stem(names.name)))
-  const sheet = called ?? (place === 'show' ? state().show : currentRig()) ?? sheets()[0]
+  const there = place === 'rig' ? state().rigs : [state().show].filter(Boolean)
+  const called = [...there, ...sheets()].find(sheet => stem(sheet.file) === stem(stem(names.name)))
+  const sheet = called ?? (place === 'rig' ? currentRig() : state().show) ?? sheets()[0]
   if (!sheet) throw new Unanswered(`${names.name} is a name sheet: drop its table first, or both at once.`)
   await renew(sheet, { names })
 }
 
+// What has come of a sheet, by the sheet.
+const successors = new WeakMap()
+
 /** Puts a sheet with other fields in the place of one, once the program has looked at it. */
 async function renew(sheet, fields, also = { way: 0 }) {
-  const next = await read({ ...sheet, ...fields })
-  if (sheets().includes(sheet)) change({ ...replaced(sheet, next), ...also })
+  const made = await read({ ...sheet, ...fields })
+  if (!sheets().includes(sheet)) return
+  successors.set(sheet, made)
+  change({ ...replaced(sheet, made), ...also })
 }
 
 /** Takes the sheet of this title from the same workbook. */
-async function chooseTitle(sheet, title) {
+function chooseTitle(sheet, title) {
   const taken = sheets().filter(other => other !== sheet).map(other => other.name)
   const name = freeName(fileOf(sheet), taken, title)
   const also = sheet === state().show ? { ...fresh, part: [] } : fresh
-  try {
-    await renew(sheet, { name, title, cells: null, corrected: false }, also)
-  } catch (error) {
-    warn(error.message)
-  }
+  next(() => renew(sheet, { name, title, cells: null, corrected: false }, also))
 }
 
-/** Corrects cells of a sheet: rows and columns as a spreadsheet counts them, from 1. */
-export async function correct(sheet, corrections) {
-  const { row, column, rows } = sheet.cells
-  const next = rows.map(cells => [...cells])
+/** Corrects cells of a sheet, or of what has come of it meanwhile: rows and columns as a spreadsheet counts them, from 1. */
+export function correct(sheet, corrections) {
+  next(() => {
+    let latest = sheet
+    while (!sheets().includes(latest) && successors.has(latest)) latest = successors.get(latest)
+    // Another sheet of the workbook is none of this one's.
+    if (latest.name !== sheet.name) return null
+    return renew(latest, { cells: corrected(latest.cells, corrections), corrected: true })
+  })
+}
+
+/** Cells with some of them corrected. */
+function corrected({ row, column, rows }, corrections) {
+  const changed = rows.map(cells => [...cells])
   for (const [at, across, text] of corrections) {
-    const cells = next[at - row] ??= []
+    const cells = changed[at - row] ??= []
     while (cells.length < across - column) cells.push('')
     cells[across - column] = text
   }
-  try {
-    await renew(sheet, { cells: { row, column, rows: next }, corrected: true })
-  } catch (error) {
-    warn(error.message)
-  }
+  return { row, column, rows: changed }
 }
 
-async function saveSheet(sheet) {
-  try {
-    const reply = await ask(['check', sheet.name], filesOf(sheet), { save: true })
-    const file = reply.files[0]
+// Corrected sheets that were saved.
+const saved = new WeakSet()
+
+function saveSheet(sheet) {
+  next(async () => {
+    const [file] = (await ask(['check', sheet.name], filesOf(sheet), { save: true })).files
     save(file.name, file.text)
-  } catch (error) {
-    warn(error.message)
-  }
+    saved.add(sheet)
+  })
 }
 
-/** A place to drop files, with a button for those who do not drop. */
-function chooser(place, text, more) {
-  const input = element('input', { type: 'file', accept: ENDINGS, multiple: true, class: 'unseen', id: `${place}-file`, tabindex: -1,
-    'aria-label': text, onchange: event => { take(event.target.files, place); event.target.value = '' } })
-  return [input, button(text, () => input.click(), { class: more ? 'quiet' : 'main' })]
+/** Whether a corrected sheet was not saved. */
+export const isUnsaved = () => sheets().some(sheet => sheet.corrected && !saved.has(sheet))
+
+/** A button that chooses files for a place, for those who do not drop them. */
+function chooser(place, text, attributes) {
+  const input = element('input', { type: 'file', accept: ENDINGS, multiple: true, hidden: true, id: `${place}-file`,
+    onchange: event => { take(event.target.files, place); event.target.value = '' } })
+  return [input, button(text, () => input.click(), attributes)]
 }
 
 function emptyCard(place) {
-  const what = place === 'show' ? 'the show’s sheet' : 'the rig’s sheet, or several rigs'
-  return [element('div', { class: 'empty' },
+  const [what, files] = place === 'show' ? ['the show’s sheet', 'a file for the show'] : ['the rig’s sheet, or several rigs,', 'files for the rigs']
+  return element('div', { class: 'empty' },
     element('p', { class: 'ask' }, `Drop ${what} here`),
-    chooser(place, 'Choose a file'),
-    element('p', { class: 'faint' }, '.ods, .xlsx, CSV or other text, and name sheets. At most 120 cues.'))]
+    chooser(place, 'Choose a file', { class: 'main', 'aria-label': `Choose ${files}` }),
+    element('p', { class: 'faint' }, '.ods, .xlsx, CSV or other text, and name sheets. At most 120 cues.'))
 }
 
 /** Which sheet of its workbook this is, where that has several. */
@@ -180,8 +196,7 @@ function sheetEntry(sheet, place, chosen) {
   const names = about.name_sheet?.refusal ? 'its name sheet is refused' : about.names.length ? 'with names' : ''
   const what = about.refusal ? 'cannot be used yet' : [count(about.order, 'cue'), names].filter(Boolean).join(', ')
   const several = place === 'rig' && state().rigs.length > 1
-  const choose = several && button(sheet.name, () => change({ ...fresh, rig: state().rigs.indexOf(sheet) }),
-    { class: 'name', 'aria-pressed': String(chosen) })
+  const choose = several && button(sheet.name, () => chooseRig(state().rigs.indexOf(sheet)), { class: 'name', 'aria-pressed': String(chosen) })
   const remove = () => place === 'show' ? change({ ...fresh, show: null, part: [] }) : removeRig(sheet)
   const notes = [...sheet.mended.map(text => `On reading: ${text}.`), ...(sheet.hints ?? [])]
   return element('li', { class: `sheet ${about.refusal ? 'bad' : 'good'}${several && chosen ? ' chosen' : ''}` },
@@ -198,20 +213,22 @@ function sheetEntry(sheet, place, chosen) {
       + `${about.name_sheet.refusal.faults[0].there}; expected ${about.name_sheet.refusal.expected}. Cues are shown by number.`))
 }
 
+/** Takes a rig away. Another one that is looked at stays so. */
 function removeRig(sheet) {
   const rigs = state().rigs.filter(rig => rig !== sheet)
-  change({ ...fresh, rigs, rig: Math.max(0, Math.min(state().rig, rigs.length - 1)) })
+  const still = rigs.indexOf(currentRig())
+  change(still >= 0 ? { rigs, rig: still } : { ...fresh, rigs, rig: Math.max(0, Math.min(state().rig, rigs.length - 1)) })
 }
 
 export function drawCards() {
   const { show, rigs } = state()
   fill(byId('show-body'), show
-    ? [element('ul', { class: 'entries' }, sheetEntry(show, 'show', true)), element('p', { class: 'add' }, chooser('show', 'Another show', true))]
+    ? [element('ul', { class: 'entries' }, sheetEntry(show, 'show', true)), element('p', { class: 'add' }, chooser('show', 'Another show', { class: 'quiet' }))]
     : emptyCard('show'))
   byId('rig-title').textContent = rigs.length > 1 ? `${rigs.length} rigs` : 'The rig'
   fill(byId('rig-body'), rigs.length
     ? [element('ul', { class: rigs.length > 6 ? 'entries many' : 'entries' }, rigs.map(rig => sheetEntry(rig, 'rig', rig === currentRig()))),
-      element('p', { class: 'add' }, chooser('rig', 'Add rigs', true))]
+      element('p', { class: 'add' }, chooser('rig', 'Add rigs', { class: 'quiet' }))]
     : emptyCard('rig'))
 }
 

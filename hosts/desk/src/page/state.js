@@ -56,6 +56,9 @@ export const fresh = { way: 0, pins: [], not: [] }
 
 export const currentRig = () => now.rigs[now.rig] ?? null
 
+/** Looks at the rig at this place, its table read row first or column first. */
+export const chooseRig = (rig, mirror = false) => change({ ...fresh, rig, mirror })
+
 /** Puts a changed sheet in the place of another. */
 export function replaced(sheet, other) {
   if (now.show === sheet) return { show: other }

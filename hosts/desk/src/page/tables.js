@@ -1,7 +1,6 @@
 // The tables that are looked at: cues are pointed at, pinned, kept apart, chosen for a part; cells are corrected.
 
 import { button, byId, count, element, fill, label } from './elements.js'
-import { faults } from './faults.js'
 import { Grid } from './grid.js'
 import { correct } from './sheets.js'
 import { change, currentRig, state } from './state.js'
@@ -13,23 +12,32 @@ const MODES = {
   part: ['Part to tour', 'Choose the cues of the show that tour.'],
 }
 
+// A cue that has no colour of its own and is marked as all such are.
+const NO_COLOUR = 13
+
 const grids = new WeakMap()
 let mode = 'look'
 let picked = [0, 0]
 let held = null
 let images = []
 let pair = [null, null]
+let placed = []
+let painted = null
 
-const gridOf = sheet => sheet && grids.get(sheet)
-const sideOf = grid => grid === gridOf(pair[1]) && grid !== gridOf(pair[0]) ? 1 : 0
+/** The grid of a sheet, which is drawn once. */
+function gridOf(sheet) {
+  if (sheet && !grids.has(sheet)) grids.set(sheet, new Grid(sheet, handlers))
+  return sheet && grids.get(sheet)
+}
 
-export const modeNow = () => mode
+const sideOf = grid => grid.sheet === pair[1] ? 1 : 0
 
 /** Another way of choosing, or the usual one where it is the same. */
 export function setMode(next) {
   mode = mode === next ? 'look' : next
   picked = [0, 0]
   drawBar()
+  told('')
 }
 
 function told(text) {
@@ -41,7 +49,7 @@ function told(text) {
 const partnerOf = (side, cue) => !images.length ? 0 : side ? images.indexOf(cue) + 1 : images[cue - 1] ?? 0
 
 /** Marks a cue and its partner, and tells of them. */
-export function show(side, cue, cell) {
+function show({ side, cue, cell }) {
   const [one, other] = [gridOf(pair[side]), gridOf(pair[1 - side])]
   one?.clear()
   other?.clear()
@@ -50,7 +58,7 @@ export function show(side, cue, cell) {
   one.mark(cue)
   if (partner && other) other.mark(partner)
   const names = place => pair[place]?.about.names
-  const lead = one.leadingTo(cue)
+  const lead = one.leadingTo(cue).length
   const where = cell ? `${one.describe(cell)} ` : ''
   const what = `${side ? 'The rig’s cue' : 'Cue'} ${label(names(side), cue)}: ${count(lead, 'cell')} ${lead === 1 ? 'leads' : 'lead'} to it`
   const how = !images.length ? '' : side
@@ -59,39 +67,60 @@ export function show(side, cue, cell) {
   told(`${where}${what}${how}.`)
 }
 
+/** Shows a cue that is pointed at, where none is held. */
+export function point(side, cue, cell) {
+  if (!held) show({ side, cue, cell })
+}
+
+/** Shows a cue that has the focus; none is held then. */
+export function attend(side, cue, cell) {
+  if (held) {
+    held = null
+    drawBar()
+  }
+  show({ side, cue, cell })
+}
+
+/** Holds a cue, which stays shown, with its partner in sight; one that is held already is let go. */
+function hold(side, cue, cell) {
+  const again = held && held.side === side && held.cue === cue && held.cell === cell
+  held = again || !cue ? null : { side, cue, cell }
+  show({ side, cue, cell })
+  const partner = partnerOf(side, cue)
+  if (held && !cell) gridOf(pair[side]).reveal(cue)
+  if (held && partner) gridOf(pair[1 - side]).reveal(partner)
+  drawBar()
+}
+
+/** A cue is chosen: it is held, or put into a pair or a part, as the way of choosing has it. */
+export function choose(side, cue, cell) {
+  if (mode === 'look' || !cue) hold(side, cue, cell)
+  else if (mode !== 'part') choosePair(side, cue)
+  else if (side === 0) choosePart(cue)
+  else told('Choose cues of the show: a part is cut out of it.')
+}
+
 const handlers = {
-  onpoint(grid, cue, cell) {
-    if (held && !cell) return show(held.side, held.cue, held.cell)
-    if (!held || cell === document.activeElement) show(sideOf(grid), cue, cell)
-  },
-  onchoose(grid, cue, cell) {
-    const side = sideOf(grid)
-    if (mode === 'look' || !cue) {
-      const again = held && held.side === side && held.cue === cue && held.cell === cell
-      held = again || !cue ? null : { side, cue, cell }
-      show(side, cue, cell)
-      drawBar()
-    } else if (mode === 'part') {
-      if (side === 0) choosePart(cue)
-      else told('Choose cues of the show: a part is cut out of it.')
-    } else {
-      choosePair(side, cue)
-    }
-  },
+  onpoint: (grid, cue, cell) => cell ? point(sideOf(grid), cue, cell) : lookAgain(),
+  onfocus: (grid, cue, cell) => attend(sideOf(grid), cue, cell),
+  onchoose: (grid, cue, cell) => choose(sideOf(grid), cue, cell),
   onedit(grid, correction) {
     held = null
     correct(grid.sheet, [correction])
   },
 }
 
+/** Shows a cell of a sheet, row and column as a spreadsheet counts them. */
+export const goTo = (sheet, place) => gridOf(sheet).goTo(place)
+
 /** Puts a cue into the part that is chosen, or takes it out. */
-export function choosePart(cue) {
+function choosePart(cue) {
   const { part } = state()
   change({ part: part.includes(cue) ? part.filter(other => other !== cue) : [...part, cue].sort((a, b) => a - b) })
 }
 
 /** One cue of a pair; with the second the pair is pinned or kept apart. */
-export function choosePair(side, cue) {
+function choosePair(side, cue) {
   picked[side] = cue
   const [one, other] = picked
   if (!one || !other) {
@@ -140,13 +169,12 @@ function drawBar() {
     button(text, () => { if (mode !== name) setMode(name) }, { 'aria-pressed': String(mode === name) })))
   const cell = held?.cell?.tagName === 'TD' ? held : null
   if (cell && gridOf(pair[cell.side])?.sheet.cells) {
-    bar.append(button('Correct this cell', () => gridOf(pair[cell.side]).edit(cell.cell), { class: 'edit' }))
+    bar.append(button('Correct this cell', () => gridOf(pair[cell.side]).edit(cell.cell)))
   }
   drawChosen()
-  if (!held) told('')
 }
 
-/** The colours of a table in which a map's images have the colours of what they are the images of. */
+/** The colours of a table in which the images of a map have the colours of the cues that become them. */
 function imagesIn(order, list) {
   const colours = Array(order).fill(0)
   list.forEach((image, place) => { colours[image - 1] = place + 1 })
@@ -155,6 +183,7 @@ function imagesIn(order, list) {
 
 /** Colours the tables by an answer: partners, or the part that has no place. */
 function paint(answer) {
+  painted = answer
   const { map, misfit } = answer?.result ?? {}
   const [show, rig] = pair.map(gridOf)
   images = map?.images ?? []
@@ -162,48 +191,50 @@ function paint(answer) {
   const reason = misfit?.smallest?.elements
   if (show?.isTable) {
     const order = show.height
-    const colours = map ? all(order) : reason ? all(order).map(cue => reason.includes(cue) ? 13 : 0) : []
+    const colours = map ? all(order) : reason ? all(order).map(cue => reason.includes(cue) ? NO_COLOUR : 0) : []
     show.paint(colours, false)
   }
   if (rig?.isTable) rig.paint(map ? imagesIn(rig.height, images) : [], true)
 }
 
-/** Draws both tables, as far as they are there, with what is wrong with them. */
+/** Draws both tables, as far as they are there. */
 export function drawTables(answer) {
-  const { show: one } = state()
-  const other = currentRig()
-  const shown = [one, other].filter(Boolean)
-  const isNew = pair[0] !== one || pair[1] !== other
-  pair = [one, other]
+  const next = [state().show, currentRig()]
+  const isNew = next.some((sheet, side) => sheet !== pair[side])
+  pair = next
   if (isNew) held = null
+  const shown = pair.filter(sheet => sheet?.cells || sheet?.about.table)
   if (!shown.length) return fill(byId('tables'))
-  if (isNew || !byId('modes')) place(shown)
-  paint(answer)
-  drawBar()
-}
-
-/** Puts the tables on the page; those that are there already stay as they are. */
-function place(shown) {
-  for (const sheet of shown) {
-    const role = sheet === pair[0] ? 'The show' : 'The rig'
-    if (!grids.has(sheet)) grids.set(sheet, new Grid(sheet, `${role}: ${sheet.name}`, handlers))
-  }
   if (!byId('modes')) {
     fill(byId('tables'),
       element('div', { class: 'bar' },
         element('div', { id: 'modes', class: 'modes', role: 'group', 'aria-label': 'What choosing a cue does' }),
         element('p', { id: 'told', class: 'told', role: 'status' })),
-      element('div', { class: 'sides' }))
+      element('div', { id: 'sides', class: 'sides' }))
   }
-  const sides = byId('tables').querySelector('.sides')
-  const there = new Map([...sides.children].map(side => [side.dataset.of, side]))
-  const side = sheet => {
-    const grid = gridOf(sheet)
-    return there.get(grid.id) ?? element('div', { class: 'side', 'data-of': grid.id },
-      faults(sheet, cell => grid.goTo(cell)), (sheet.cells || sheet.about.table) && grid.element)
-  }
-  const next = shown.map(side)
+  place(shown.map(gridOf))
+  if (isNew || answer !== painted) paint(answer)
+  drawBar()
+  lookAgain()
+}
+
+/** Shows again what is looked at, of which more may be known: a cue that is held, the cell that has the focus, or nothing. */
+function lookAgain() {
+  const grid = placed.find(other => other.table.contains(document.activeElement))
+  show(held ?? (grid ? { side: sideOf(grid), cue: grid.cueOf(grid.current), cell: grid.current } : { side: 0, cue: 0 }))
+}
+
+/** Puts grids on the page. Those that are there already stay; one that shows a sheet anew stands as the one before it. */
+function place(next) {
+  const sides = byId('sides')
+  const stances = next.map(grid => placed.find(old => old !== grid && old.sheet.name === grid.sheet.name)?.stance)
+  placed.filter(old => !next.includes(old)).forEach(old => old.element.remove())
+  placed = next
   sides.classList.toggle('two', next.length > 1)
-  for (const old of [...sides.children]) if (!next.includes(old)) old.remove()
-  next.forEach((made, place) => { if (sides.children[place] !== made) sides.insertBefore(made, sides.children[place] ?? null) })
+  next.forEach((grid, at) => {
+    grid.call(`${sideOf(grid) ? 'The rig' : 'The show'}: ${grid.sheet.name}`)
+    if (sides.children[at] === grid.element) return
+    sides.insertBefore(grid.element, sides.children[at] ?? null)
+    if (stances[at]) grid.stand(stances[at])
+  })
 }

@@ -150,7 +150,7 @@ impl Connection {
         };
         let Some(length) = length else { return Err(Some(Reply::words(411, "The length of the body is missing."))) };
         if length > most {
-            return Err(Some(Reply::words(413, "This is too long.")));
+            return Err(Some(Reply::words(413, "This is too much at once: at most 16 MB can be sent.")));
         }
         let mut body = std::mem::take(&mut self.rest);
         body.truncate(length);
