@@ -37,7 +37,7 @@ if TYPE_CHECKING:
 __version__ = "1.0.0"
 
 __all__ = [
-    "GREATEST_DEGREE", "GREATEST_ORDER", "LONGEST_NAME", "LONGEST_TEXT", "MORE", "MOST_CELLS", "MOST_COPIES", "MOST_NAMES", "MOST_SCRATCH",
+    "ANSWERS", "GREATEST_DEGREE", "GREATEST_ORDER", "LONGEST_NAME", "LONGEST_TEXT", "MORE", "MOST_CELLS", "MOST_COPIES", "MOST_NAMES", "MOST_SCRATCH",
     "STACK", "IndexPeriod", "LimitedSearch", "More", "MapCheck", "MapOutcome", "Names", "Outcome", "Part", "Profile", "Question", "Refusal", "Side",
     "Table", "scratch_size",
 ]  # fmt: skip
