@@ -22,7 +22,7 @@ DESK := target/desk/release/tickdrizzle
 PROGRAMS := target/bin/recue target/bin/classes $(DESK)
 PAGES := $(notdir $(wildcard docs/man/*))
 EXAMPLES := app.c calls.c example.c
-OURS := share/doc/tickdrizzle/examples/c
+C_EXAMPLES := share/doc/tickdrizzle/examples/c
 
 all: library $(PROGRAMS)
 
@@ -58,13 +58,10 @@ FISH_COMPLETION = share/fish/vendor_completions.d/tickdrizzle.fish
 FILES = bin/tickdrizzle bin/tickdrizzle-recue bin/tickdrizzle-classes include/tickdrizzle.h \
 	$(foreach name,libtickdrizzle.a libtickdrizzle.so libtickdrizzle.so.$(MAJOR) $(SHARED) pkgconfig/tickdrizzle.pc,$(LIB)/$(name)) \
 	$(foreach page,$(PAGES),share/man/man$(subst .,,$(suffix $(page)))/$(page)) \
-	$(addprefix $(OURS)/,$(EXAMPLES)) $(BASH_COMPLETION) $(ZSH_COMPLETION) $(FISH_COMPLETION)
-FOLDERS = $(sort $(dir $(FILES)))
-# The folders that go where uninstalling empties them. Those that every system has in /usr and /usr/local stay.
-EMPTIED = $(if $(filter /usr /usr/local,$(patsubst %/,%,$(DESTDIR)$(PREFIX))),$(OURS),$(FOLDERS))
+	$(addprefix $(C_EXAMPLES)/,$(EXAMPLES)) $(BASH_COMPLETION) $(ZSH_COMPLETION) $(FISH_COMPLETION)
 
 install: all
-	install -d $(foreach folder,$(FOLDERS),$(HERE)/$(folder))
+	install -d $(foreach folder,$(sort $(dir $(FILES))),$(HERE)/$(folder))
 	install $(DESK) $(HERE)/bin/tickdrizzle
 	install target/bin/recue $(HERE)/bin/tickdrizzle-recue
 	install target/bin/classes $(HERE)/bin/tickdrizzle-classes
@@ -76,7 +73,7 @@ install: all
 		>$(HERE)/$(LIB)/pkgconfig/tickdrizzle.pc
 	chmod 644 $(HERE)/$(LIB)/pkgconfig/tickdrizzle.pc
 	for page in $(PAGES); do install -m 644 docs/man/$$page $(HERE)/share/man/man$${page##*.} || exit; done
-	install -m 644 $(addprefix hosts/c/,$(EXAMPLES)) $(HERE)/$(OURS)
+	install -m 644 $(addprefix hosts/c/,$(EXAMPLES)) $(HERE)/$(C_EXAMPLES)
 	$(DESK) completions bash >$(HERE)/$(BASH_COMPLETION)
 	$(DESK) completions zsh >$(HERE)/$(ZSH_COMPLETION)
 	$(DESK) completions fish >$(HERE)/$(FISH_COMPLETION)
@@ -84,7 +81,7 @@ install: all
 	[ -n "$(DESTDIR)" ] || [ "$$(id -u)" -ne 0 ] || ldconfig
 
 uninstall:
-	[ ! -d $(HERE) ] || { cd $(HERE) && rm -f $(FILES) && { rmdir -p $(EMPTIED) 2>/dev/null || true; }; }
+	hosts/package/remove $(HERE) $(FILES)
 	[ -n "$(DESTDIR)" ] || [ "$$(id -u)" -ne 0 ] || ldconfig
 
 dist: all
