@@ -1,4 +1,4 @@
-# Installs the library for C, C++ and Rust, the programs, their manual pages and completions under PREFIX:
+# Installs the library for C, C++ and Rust with examples, the programs, their manual pages and completions under PREFIX:
 #
 #   make install PREFIX=/usr/local     (DESTDIR is put in front; LIB=lib/x86_64-linux-gnu names another folder of libraries)
 #   make uninstall PREFIX=/usr/local   takes all of it away
@@ -21,7 +21,8 @@ ARCHIVE := target/staticlib/libexports.a
 DESK := target/desk/release/tickdrizzle
 PROGRAMS := target/bin/recue target/bin/classes $(DESK)
 PAGES := $(notdir $(wildcard docs/man/*))
-COMPLETIONS := bash-completion/completions/tickdrizzle $(ZSH)/_tickdrizzle fish/vendor_completions.d/tickdrizzle.fish
+EXAMPLES := app.c calls.c example.c
+C_EXAMPLES := share/doc/tickdrizzle/examples/c
 
 all: library $(PROGRAMS)
 
@@ -51,9 +52,13 @@ target/lib/$(SHARED): $(ARCHIVE)
 
 # Below DESTDIR and PREFIX, which may have spaces.
 HERE = "$(DESTDIR)$(PREFIX)"
+BASH_COMPLETION = share/bash-completion/completions/tickdrizzle
+ZSH_COMPLETION = share/$(ZSH)/_tickdrizzle
+FISH_COMPLETION = share/fish/vendor_completions.d/tickdrizzle.fish
 FILES = bin/tickdrizzle bin/tickdrizzle-recue bin/tickdrizzle-classes include/tickdrizzle.h \
 	$(foreach name,libtickdrizzle.a libtickdrizzle.so libtickdrizzle.so.$(MAJOR) $(SHARED) pkgconfig/tickdrizzle.pc,$(LIB)/$(name)) \
-	$(foreach page,$(PAGES),share/man/man$(subst .,,$(suffix $(page)))/$(page))
+	$(foreach page,$(PAGES),share/man/man$(subst .,,$(suffix $(page)))/$(page)) \
+	$(addprefix $(C_EXAMPLES)/,$(EXAMPLES)) $(BASH_COMPLETION) $(ZSH_COMPLETION) $(FISH_COMPLETION)
 
 install: all
 	install -d $(foreach folder,$(sort $(dir $(FILES))),$(HERE)/$(folder))
@@ -68,11 +73,15 @@ install: all
 		>$(HERE)/$(LIB)/pkgconfig/tickdrizzle.pc
 	chmod 644 $(HERE)/$(LIB)/pkgconfig/tickdrizzle.pc
 	for page in $(PAGES); do install -m 644 docs/man/$$page $(HERE)/share/man/man$${page##*.} || exit; done
-	hosts/package/completions $(DESK) $(HERE)/share $(COMPLETIONS)
+	install -m 644 $(addprefix hosts/c/,$(EXAMPLES)) $(HERE)/$(C_EXAMPLES)
+	$(DESK) completions bash >$(HERE)/$(BASH_COMPLETION)
+	$(DESK) completions zsh >$(HERE)/$(ZSH_COMPLETION)
+	$(DESK) completions fish >$(HERE)/$(FISH_COMPLETION)
+	cd $(HERE) && chmod 644 $(BASH_COMPLETION) $(ZSH_COMPLETION) $(FISH_COMPLETION)
 	[ -n "$(DESTDIR)" ] || [ "$$(id -u)" -ne 0 ] || ldconfig
 
 uninstall:
-	[ ! -d $(HERE) ] || { cd $(HERE) && rm -f $(FILES) $(addprefix share/,$(COMPLETIONS)); }
+	hosts/package/remove $(HERE) $(FILES)
 	[ -n "$(DESTDIR)" ] || [ "$$(id -u)" -ne 0 ] || ldconfig
 
 dist: all

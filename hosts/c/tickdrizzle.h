@@ -1,8 +1,9 @@
 /*
  * Multiplication tables of finite semigroups, from C: checks, invariants, generators, embeddings, isomorphisms,
  * CSV text, least degrees, name sheets.
- * The functions are proved, for every input, in crates/exports; tickdrizzle(3) and docs/HOSTS.md tell how to link them. Below
- * them stands a second form of each, tickdrizzle_table_... and tickdrizzle_names_..., with structs and enums; hosts/c/calls.c calls each once.
+ * The functions are proved, for every input; tickdrizzle(3) tells how to link them. Below them stands a second form of each,
+ * tickdrizzle_table_... and tickdrizzle_names_..., with structs and enums. Among the examples, which are installed in
+ * share/doc/tickdrizzle/examples/c, calls.c calls each once.
  *
  * A table of order n is n * n bytes, row after row, each 1 to n: the cell in row i, column j is the product i.j.
  * A map is one byte for each source element, its image. Elements count from 1, and byte 0 stands for no element.

@@ -3,21 +3,24 @@
 
 A line is the call's name and its arguments, r and the bytes that are read, w and those that may be written, n and a number; bytes are hexadecimal. The
 answer is the sixteen numbers and every buffer that may be written. Each call is made a second time by `Table` or `Names` where they can make it, and
-what these say is held to the numbers and the bytes; a difference is told on standard error, and the status at the end is then 1.
+what these say is held to the numbers and the bytes. A difference is told on standard error, and so is a call that they never made; the status at the end
+is then 1.
 """
 
 import sys
 import traceback
-from itertools import accumulate, islice
+from itertools import accumulate
 from pathlib import Path
 
 sys.path.insert(0, str(Path(__file__).resolve().parent.parent))
 
 import tickdrizzle
-from tickdrizzle import MORE, Names, Outcome, Refusal, Side, Table
+from tickdrizzle import MORE, Names, Refusal, Side, Table
 
 # Questions about buffers, which Table and Names make themselves.
 BUFFERS = {6, 9, 27, 28, 61, 62, 70, 80}
+# The maps of a walk up to which a later one is looked for.
+MOST_MAPS = 50
 KINDS = {"embedding": Table.embeddings, "isomorphism": Table.isomorphisms, "reversed_isomorphism": Table.reversed_isomorphisms}
 WITHIN = {
     "embedding": Table.embedding_within,
@@ -115,15 +118,18 @@ def of_two_tables(name, arguments):
         said = WITHIN[kind[: -len("_within")]](source, target, more[2])
         return [int(said.outcome), *([] if said.trials is None else [said.trials])], [bytes(said.map or ())]
     found = among(source, target, *pairs) if pairs else KINDS[kind](source, target)
-    maps = [bytes(images) for images in islice(found, 2)]
-    if asked == "first":
-        after = after_the_first(kind, arguments[:4] + pairs, maps)
-        if after != maps[1:]:
-            raise AssertionError(f"the second map is {maps[1:]}, but the next call says {after}")
-        return [int(bool(maps))], [maps[0] if maps else b""]
-    if any(more[0]):
-        raise OtherQuestions
-    return [int(bool(maps))], [maps[0] if maps else b""]
+    images = earliest(found, more[0] if asked == "next" else None)
+    return [int(images is not None)], [images or b""]
+
+
+def earliest(maps, after):
+    """The first map of a walk, or the first that is later than a list, unless too many come before it."""
+    for passed, images in enumerate(map(bytes, maps)):
+        if after is None or images > after:
+            return images
+        if passed == MOST_MAPS:
+            raise OtherQuestions
+    return None
 
 
 def among(source, target, pairs):
@@ -138,30 +144,20 @@ def among(source, target, pairs):
     return source.embeddings_among(target, allowed)
 
 
-def after_the_first(kind, read, maps):
-    """What the next call finds after the first map."""
-    if not maps:
-        return []
-    images = bytearray(maps[0])
-    scratch = bytearray(tickdrizzle.scratch_size(read[1], read[3]))
-    found = tickdrizzle._call(f"next_{kind}", *read, images, scratch)[2]
-    return [bytes(images)] if found == Outcome.FOUND else []
-
-
 def agrees(name, arguments, answer, buffers):
-    """Whether Table or Names say the same, where they can be asked."""
+    """Whether Table or Names say the same; None where they cannot be asked."""
     try:
         values, fronts = second_time(name, arguments)
         said = [0, 0, *values]
     except OtherQuestions:
-        return True
+        return None
     except Refusal as refusal:
         said, fronts = [refusal.number, refusal.side or 0, *refusal.place], []
     except Exception:
         traceback.print_exc()
         return False
     if answer[0] in BUFFERS:
-        return True
+        return None
     return said + [0] * (16 - len(said)) == list(answer) and all(
         bytes(buffer[: len(front)]) == front for front, buffer in zip(fronts, buffers)
     )
@@ -173,7 +169,7 @@ def argument(word):
 
 
 def main():
-    differences = 0
+    differences, never_made = 0, set(tickdrizzle._CALLS)
     for line in sys.stdin:
         name, *words = line.split()
         arguments = [argument(word) for word in words]
@@ -181,10 +177,15 @@ def main():
         answer = tickdrizzle._call(name, *arguments)
         buffers = [lent for lent in arguments if isinstance(lent, bytearray)]
         print(*answer, *(f"w{buffer.hex()}" for buffer in buffers), flush=True)
-        if not agrees(name, before, answer, buffers):
+        agreed = agrees(name, before, answer, buffers)
+        if agreed is not None:
+            never_made.discard(name)
+        if agreed is False:
             differences += 1
             print(f"Table or Names differ: {line.strip()}\n  the call says {answer}", file=sys.stderr)
-    return 1 if differences else 0
+    if never_made:
+        print(f"Table and Names never made: {', '.join(sorted(never_made))}", file=sys.stderr)
+    return 1 if differences or never_made else 0
 
 
 if __name__ == "__main__":

@@ -81,6 +81,8 @@ class Reading(unittest.TestCase):
         array = numpy.array(Table.transformations(2))
         self.assertEqual((array.shape, array.dtype), ((4, 4), numpy.dtype("uint8")))
         self.assertEqual(array[2].tolist(), [1, 3, 2, 4])
+        with self.assertRaises(ValueError):
+            Table(SWAP).__array__(copy=False)
 
     def test_files(self):
         with tempfile.TemporaryDirectory() as folder:

@@ -37,7 +37,7 @@ if TYPE_CHECKING:
 __version__ = "1.0.0"
 
 __all__ = [
-    "GREATEST_DEGREE", "GREATEST_ORDER", "LONGEST_NAME", "LONGEST_TEXT", "MORE", "MOST_CELLS", "MOST_COPIES", "MOST_NAMES", "MOST_SCRATCH",
+    "ANSWERS", "GREATEST_DEGREE", "GREATEST_ORDER", "LONGEST_NAME", "LONGEST_TEXT", "MORE", "MOST_CELLS", "MOST_COPIES", "MOST_NAMES", "MOST_SCRATCH",
     "STACK", "IndexPeriod", "LimitedSearch", "More", "MapCheck", "MapOutcome", "Names", "Outcome", "Part", "Profile", "Question", "Refusal", "Side",
     "Table", "scratch_size",
 ]  # fmt: skip
@@ -510,9 +510,11 @@ class Table:
         return self._cells[(i - 1) * self._order + (j - 1)]
 
     def __array__(self, dtype: Any = None, copy: bool | None = None) -> numpy.ndarray[Any, Any]:
-        """The rows as a numpy array: `numpy.array(table)`."""
+        """The rows as a numpy array, which is always a copy: `numpy.array(table)`."""
         import numpy
 
+        if copy is False:
+            raise ValueError("the array of a table is a copy")
         return numpy.array(self.rows, dtype=dtype or numpy.uint8)
 
     def __eq__(self, other: object) -> bool:
@@ -576,7 +578,11 @@ class Table:
         return tuple(tuple(positions[start : start + degree]) for start in range(0, self._order * degree, degree))
 
     def degree(self) -> int | None:
-        """The least degree, 1 to 3, whose table of transformations holds an embedding of this table; None where there is none."""
+        """The least degree, 1 to 3, whose table of transformations holds an embedding of this table; None where there is none.
+
+        >>> Table([[1, 2], [2, 1]]).degree(), Table([[1] * 4] * 4).degree()
+        (2, None)
+        """
         positions = self.positions()
         return None if positions is None else len(positions[0])
 
@@ -591,7 +597,12 @@ class Table:
         return MORE if outcome else number
 
     def embeddings(self, target: Table) -> Iterator[tuple[int, ...]]:
-        """Every embedding of this table in the target, earliest first."""
+        """Every embedding of this table in the target, earliest first.
+
+        >>> right = Table([[1, 2], [1, 2]])
+        >>> list(right.embeddings(Table.transformations(2)))
+        [(1, 4), (4, 1)]
+        """
         return self._maps(target, "embedding")
 
     def embeddings_among(self, target: Table, allowed: Callable[[int, int], bool]) -> Iterator[tuple[int, ...]]:
@@ -639,11 +650,21 @@ class Table:
         return self._within(target, "embedding", limit)
 
     def isomorphism_within(self, target: Table, limit: SupportsIndex) -> LimitedSearch:
-        """The earliest isomorphism of this table onto the target within so many trials."""
+        """The earliest isomorphism of this table onto the target within so many trials.
+
+        >>> left, right = Table([[1, 1], [2, 2]]), Table([[1, 2], [1, 2]])
+        >>> left.isomorphism_within(right, 100)
+        LimitedSearch(outcome=<Outcome.NONE: 0>, trials=0, map=None)
+        """
         return self._within(target, "isomorphism", limit)
 
     def reversed_isomorphism_within(self, target: Table, limit: SupportsIndex) -> LimitedSearch:
-        """The earliest reversed isomorphism of this table onto the target within so many trials."""
+        """The earliest reversed isomorphism of this table onto the target within so many trials.
+
+        >>> left, right = Table([[1, 1], [2, 2]]), Table([[1, 2], [1, 2]])
+        >>> left.reversed_isomorphism_within(right, 2)
+        LimitedSearch(outcome=<Outcome.FOUND: 1>, trials=2, map=(1, 2))
+        """
         return self._within(target, "reversed_isomorphism", limit)
 
     def _lent(self, target: Table) -> tuple[bytes, int, bytes, int]:

@@ -59,7 +59,6 @@ pub const MOST_NAMES: usize = 120;
 pub const LONGEST_NAME: usize = 40;
 /// The greatest degree of a table of transformations.
 pub const GREATEST_DEGREE: usize = 3;
-
 /// The greatest number of copies that is counted.
 pub const MOST_COPIES: usize = 65_535;
 /// Stack bytes that are enough for any call, as measured.
@@ -79,6 +78,11 @@ fn answered<T>(call: impl FnOnce(&mut Answer), decode: impl FnOnce(&Answer) -> T
         Some(refusal) => Err(refusal),
         None => Ok(decode(&answer)),
     }
+}
+
+/// What a call says of a [`Table`] or [`Names`], which were accepted before, with buffers that are long enough.
+fn not_refused<T>(said: Result<T, Refusal>) -> T {
+    said.expect("what was accepted is not refused")
 }
 
 /// Asks whether the cells are a table of this order.

@@ -1,6 +1,6 @@
 //! The names of elements, as a name sheet has them.
 
-use crate::{load_names, save_names, Refusal, LONGEST_NAME, MOST_NAMES};
+use crate::{load_names, not_refused, save_names, Refusal, LONGEST_NAME, MOST_NAMES};
 
 /// The bytes of the longest sheet: each record has a number of at most three digits, a comma, a name whose every byte is a
 /// doubled quote mark, two quote marks around it, and CR LF.
@@ -53,7 +53,7 @@ impl Names {
     /// The sheet of the names: exactly those with a comma or a quote mark are quoted.
     #[must_use]
     pub fn text(&self) -> Vec<u8> {
-        sheet(&self.names).expect("accepted names have a sheet")
+        not_refused(sheet(&self.names))
     }
 
     /// The name of an element, counted from 1, if it has one.

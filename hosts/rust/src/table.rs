@@ -4,8 +4,9 @@ use crate::{
     check_generated, check_map, check_table, copies, first_embedding, first_embedding_among, first_embedding_within,
     first_isomorphism, first_isomorphism_within, first_reversed_isomorphism, first_reversed_isomorphism_within,
     index_period, least_degree, load, next_embedding, next_embedding_among, next_isomorphism,
-    next_reversed_isomorphism, profile, save, scratch_size, subsemigroup, transformations, Copies, IndexPeriod,
-    LimitedSearch, MapCheck, Profile, Refusal, Search, GREATEST_DEGREE, GREATEST_ORDER, LONGEST_TEXT, MOST_CELLS,
+    next_reversed_isomorphism, not_refused, profile, save, scratch_size, subsemigroup, transformations, Copies,
+    IndexPeriod, LimitedSearch, MapCheck, Profile, Refusal, Search, GREATEST_DEGREE, GREATEST_ORDER, LONGEST_TEXT,
+    MOST_CELLS,
 };
 
 /// The cells and the order of an accepted table.
@@ -104,7 +105,7 @@ impl Table {
     #[must_use]
     pub fn text(&self) -> Vec<u8> {
         let mut text = vec![0; LONGEST_TEXT];
-        let length = save(&self.cells, self.order, &mut text).expect("an accepted table has a text");
+        let length = not_refused(save(&self.cells, self.order, &mut text));
         text.truncate(length);
         text
     }
@@ -157,7 +158,7 @@ impl Table {
     #[must_use]
     pub fn positions(&self) -> Option<Vec<Vec<u8>>> {
         let mut positions = vec![0; self.order * GREATEST_DEGREE];
-        let degree = least_degree(&self.cells, self.order, &mut positions).expect(ACCEPTED)?;
+        let degree = not_refused(least_degree(&self.cells, self.order, &mut positions))?;
         Some(positions.chunks(degree).take(self.order).map(<[u8]>::to_vec).collect())
     }
 
@@ -165,8 +166,7 @@ impl Table {
     #[must_use]
     pub fn copies(&self, target: &Table) -> Copies {
         let mut scratch = vec![0; scratch_size(self.order, target.order)];
-        let counted = copies(&self.cells, self.order, &target.cells, target.order, &mut scratch);
-        counted.expect(ACCEPTED)
+        not_refused(copies(&self.cells, self.order, &target.cells, target.order, &mut scratch))
     }
 
     /// Every embedding of this table in the target, earliest first.
@@ -232,13 +232,10 @@ impl Table {
     fn within(&self, target: &Table, limit: u32, search: LimitedSearching) -> (LimitedSearch, Option<Vec<u8>>) {
         let (mut map, mut scratch) = (vec![0; self.order], vec![0; scratch_size(self.order, target.order)]);
         let said = search(&self.cells, self.order, &target.cells, target.order, &mut map, &mut scratch, limit);
-        let said = said.expect(ACCEPTED);
+        let said = not_refused(said);
         (said, matches!(said, LimitedSearch::Found { .. }).then_some(map))
     }
 }
-
-/// Why no call on tables is refused where its buffers are long enough.
-const ACCEPTED: &str = "accepted tables are not refused";
 
 type LimitedSearching = fn(&[u8], usize, &[u8], usize, &mut [u8], &mut [u8], u32) -> Result<LimitedSearch, Refusal>;
 
@@ -295,7 +292,7 @@ impl Iterator for Maps<'_> {
                 step(searches)(&source.cells, source.order, &target.cells, target.order, pairs, map, scratch)
             }
         };
-        self.ended = said.expect(ACCEPTED) == Search::None;
+        self.ended = not_refused(said) == Search::None;
         (!self.ended).then(|| self.map.clone())
     }
 }

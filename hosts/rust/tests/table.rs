@@ -14,7 +14,12 @@ fn swap() -> Table {
 
 /// Each product is its first factor.
 fn left() -> Table {
-    table(&[1, 1, 2, 2], 2)
+    left_of_order(2)
+}
+
+fn left_of_order(order: u8) -> Table {
+    let cells: Vec<u8> = (1..=order).flat_map(|i| vec![i; order.into()]).collect();
+    table(&cells, order.into())
 }
 
 /// Each product is its second factor.
@@ -81,6 +86,14 @@ fn parts_copies_and_degrees() {
     assert_eq!((swap().degree(), table(&[1], 1).degree()), (Some(2), Some(1)));
     // No three points carry four elements whose products are all the first.
     assert_eq!(table(&[1; 16], 4).degree(), None);
+}
+
+/// Any three elements are a copy.
+#[test]
+fn copies_are_counted_up_to_65_535() {
+    let three = left_of_order(3);
+    assert_eq!(three.copies(&left_of_order(74)), Copies::Number(74 * 73 * 72 / 6));
+    assert_eq!(three.copies(&left_of_order(75)), Copies::More);
 }
 
 #[test]

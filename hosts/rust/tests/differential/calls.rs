@@ -6,7 +6,7 @@ use crate::sheets;
 use std::fmt;
 use std::ops::{Deref, DerefMut};
 use tickdrizzle::abi::{self, Answer};
-use tickdrizzle::{Copies, LimitedSearch, MapCheck, Question, Refusal, Search, Side};
+use tickdrizzle::{Copies, IndexPeriod, LimitedSearch, MapCheck, Profile, Question, Refusal, Search, Side};
 
 /// Random bytes before a lent buffer and after it, which no call may touch.
 const GUARD: usize = 16;
@@ -252,13 +252,11 @@ impl Call {
             Call::CheckTable { table } => encoded(tickdrizzle::check_table(&table.cells, table.order), |()| vec![]),
             Call::IndexPeriod { table, element } => {
                 let answer = tickdrizzle::index_period(&table.cells, table.order, *element);
-                encoded(answer, |answer| vec![answer.index, answer.period, answer.idempotent])
+                encoded(answer, powers_values)
             }
             Call::Profile { table, element } => {
                 let answer = tickdrizzle::profile(&table.cells, table.order, *element);
-                encoded(answer, |p| {
-                    vec![p.index, p.period, p.idempotent, p.frequency, p.diagonal, p.row, p.column, p.commuting]
-                })
+                encoded(answer, profile_values)
             }
             Call::CheckMap { source, target, map } => {
                 let answer = tickdrizzle::check_map(&source.cells, source.order, &target.cells, target.order, map);
@@ -319,10 +317,7 @@ impl Call {
             }
             Call::Copies { source, target, scratch } => {
                 let answer = tickdrizzle::copies(&source.cells, source.order, &target.cells, target.order, scratch);
-                encoded(answer, |answer| match answer {
-                    Copies::Number(number) => vec![0, number],
-                    Copies::More => vec![1],
-                })
+                encoded(answer, copies_values)
             }
         }
     }
@@ -365,7 +360,7 @@ impl Call {
 }
 
 /// The numbers of what the wrapper says.
-fn encoded<T>(says: Result<T, Refusal>, values: impl FnOnce(T) -> Vec<usize>) -> Answer {
+pub fn encoded<T>(says: Result<T, Refusal>, values: impl FnOnce(T) -> Vec<usize>) -> Answer {
     let (number, side, values) = match says {
         Ok(says) => (0, 0, values(says)),
         Err(Refusal { side, question }) => {
@@ -392,7 +387,15 @@ fn question_values(question: Question) -> Vec<usize> {
     }
 }
 
-fn limited_values(search: LimitedSearch) -> Vec<usize> {
+pub fn powers_values(powers: IndexPeriod) -> Vec<usize> {
+    vec![powers.index, powers.period, powers.idempotent]
+}
+
+pub fn profile_values(p: Profile) -> Vec<usize> {
+    vec![p.index, p.period, p.idempotent, p.frequency, p.diagonal, p.row, p.column, p.commuting]
+}
+
+pub fn limited_values(search: LimitedSearch) -> Vec<usize> {
     match search {
         LimitedSearch::None { trials } => vec![0, trials as usize],
         LimitedSearch::Found { trials } => vec![1, trials as usize],
@@ -400,7 +403,14 @@ fn limited_values(search: LimitedSearch) -> Vec<usize> {
     }
 }
 
-fn check_values(check: MapCheck) -> Vec<usize> {
+pub fn copies_values(copies: Copies) -> Vec<usize> {
+    match copies {
+        Copies::Number(number) => vec![0, number],
+        Copies::More => vec![1],
+    }
+}
+
+pub fn check_values(check: MapCheck) -> Vec<usize> {
     match check {
         MapCheck::Holds => vec![0],
         MapCheck::Outside { element } => vec![1, element],

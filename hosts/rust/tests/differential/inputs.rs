@@ -138,7 +138,6 @@ pub fn map(random: &mut Random, source_order: usize, target_order: usize) -> Len
     Lent::new(random, &content)
 }
 
-/// The elements of a table in any order; for no elements a 0.
 /// Pairs for two orders, of a length around the one that is asked for: all marked, any, all but a few, or some elements with one
 /// image each; the unused bits are random.
 pub fn pairs(random: &mut Random, source_order: usize, target_order: usize) -> Lent {
@@ -160,6 +159,7 @@ pub fn pairs(random: &mut Random, source_order: usize, target_order: usize) -> L
     pairs
 }
 
+/// The elements of a table in any order; those of order 1 where there is no element.
 fn permutation(random: &mut Random, order: usize) -> Vec<u8> {
     let mut elements: Vec<u8> = (1..=order.max(1) as u8).collect();
     random.shuffle(&mut elements);

@@ -11,8 +11,9 @@ mod random;
 mod reference;
 mod sheets;
 mod tally;
+mod types;
 
-use calls::{Call, Lent, LentTable};
+use calls::{Argument, Call, Lent, LentTable};
 use families::Semigroup;
 use inputs::Input;
 use python::Python;
@@ -20,7 +21,7 @@ use random::Random;
 use reference::{Ask, Kind, Pair, Table, KINDS};
 use std::process::ExitCode;
 use std::time::{SystemTime, UNIX_EPOCH};
-use tally::Tally;
+use tally::{Tally, Way};
 use tickdrizzle::abi::Answer;
 use tickdrizzle::scratch_size;
 
@@ -43,18 +44,18 @@ fn main() -> ExitCode {
     let mut comparison = Comparison { random: Random::new(seed), tally: Tally::default(), python: Python::start() };
     comparison.small_tables();
     comparison.scratch_lengths();
+    comparison.all_transformations();
     comparison.small_sheets();
     comparison.written_sheets();
     let enough = comparison.tally.calls + calls;
     while comparison.tally.calls < enough {
         comparison.some_calls();
     }
-    comparison.tally.print();
-    if let Some(python) = comparison.python {
-        comparison.tally.differences += u64::from(!python.end());
-    }
+    let ways = comparison.ways();
+    let python_agrees = comparison.python.take().is_none_or(Python::end);
+    let complete = comparison.tally.print(&ways);
     println!("seed {seed}");
-    ExitCode::from(u8::from(comparison.tally.differences > 0))
+    ExitCode::from(u8::from(!python_agrees || !complete || comparison.tally.differences > 0))
 }
 
 /// The calls and the seed; nothing where an argument is no number or there are more.
@@ -84,23 +85,63 @@ impl Comparison {
         let before = call.clone();
         let expected = call.by_reference();
         let mut other = before.clone();
-        let answer = match &mut self.python {
-            Some(python) if self.random.one_in(python::ONE_IN) => python.make(&mut other),
-            _ if self.random.one_in(2) => other.by_archive(&mut self.random),
+        let way = self.way(before.function());
+        let answer = match (way, &mut self.python) {
+            (Way::Python, Some(python)) => python.make(&mut other),
+            (Way::Archive, _) => other.by_archive(&mut self.random),
             _ => other.by_wrapper(),
         };
         self.tally.count(&before, family, &expected);
+        self.tally.count_way(way, before.function());
         if answer != expected || other != *call {
             self.tally.differences += 1;
-            println!("difference in {}\n  lent: {before:?}", before.function());
+            println!("difference in {} by {way:?}\n  lent: {before:?}", before.function());
             println!("  library says {answer:?} and leaves {other:?}\n  expected     {expected:?} and {call:?}");
+        }
+        if !self.tally.is_made(Way::Types, before.function()) || self.random.one_in(2) {
+            self.compare_types(&before, &expected, call);
         }
         expected
     }
 
+    /// Makes a call a second time by `Table` or `Names`, where they can make it, and compares what they say with the expected
+    /// answer, and what they hand back with the front of each buffer after the call.
+    fn compare_types(&mut self, before: &Call, expected: &Answer, after: &mut Call) {
+        let Some((answer, fronts)) = types::made(before, expected) else { return };
+        self.tally.count_way(Way::Types, before.function());
+        let written = after.arguments().into_iter().filter_map(|argument| match argument {
+            Argument::Written(bytes) => Some(bytes),
+            _ => None,
+        });
+        if answer != *expected || !written.zip(&fronts).all(|(bytes, front)| bytes.starts_with(front)) {
+            self.tally.differences += 1;
+            println!("difference in {} by Types\n  lent: {before:?}", before.function());
+            println!("  they say {answer:?} and hand back {fronts:?}\n  expected {expected:?} and {after:?}");
+        }
+    }
+
+    /// The ways in which calls are made here.
+    fn ways(&self) -> Vec<Way> {
+        let ways = [Way::Archive, Way::Wrapper, Way::Types, Way::Python];
+        ways.into_iter().filter(|way| *way != Way::Python || self.python.is_some()).collect()
+    }
+
+    /// A way to make a call of a function: one that it was not made by yet, or any.
+    fn way(&mut self, function: &'static str) -> Way {
+        let mut others = self.ways().into_iter().filter(|way| *way != Way::Types);
+        if let Some(way) = others.find(|way| !self.tally.is_made(*way, function)) {
+            return way;
+        }
+        match self.random.below(2 * python::ONE_IN) {
+            0..=1 if self.python.is_some() => Way::Python,
+            number if number % 2 == 0 => Way::Archive,
+            _ => Way::Wrapper,
+        }
+    }
+
     /// Every table of order 1 to 3, with every short list as its generators. Of the accepted ones every element, what every
-    /// short list generates, the first and the next map of each kind between every two of them, with the candidates, and the
-    /// least degree. What every short list generates in mat5, and its least degree.
+    /// short list generates, the least degree, the text, and between every two of them the first and the next map of each kind,
+    /// with the candidates, and a map check. What every short list generates in mat5, and its least degree.
     fn small_tables(&mut self) {
         let all = (1..=3)
             .flat_map(|order| reference::lists(order * order, order).into_iter().map(move |cells| (cells, order)));
@@ -120,6 +161,7 @@ impl Comparison {
             }
             self.short_parts(source, SMALL);
             self.least_degrees(source, SMALL);
+            self.small_text(source);
             for target in &accepted {
                 self.small_maps(source, target);
                 self.small_among(source, target);
@@ -184,8 +226,34 @@ impl Comparison {
         }
     }
 
-    /// The first map of each kind, and the one after a list.
+    /// The text of a table, saved and loaded, with a buffer a byte too short, exactly long enough, and longer.
+    fn small_text(&mut self, table: &LentTable) {
+        let saved = reference::text_of(&table.cells, table.order);
+        for length in lengths(saved.len()) {
+            let text = Lent::random(&mut self.random, length);
+            self.compare(&mut Call::Save { table: table.clone(), text }, SMALL);
+        }
+        for length in lengths(table.cells.len()) {
+            let text = Lent::new(&mut self.random, saved.as_bytes());
+            let cells = Lent::random(&mut self.random, length);
+            self.compare(&mut Call::Load { text, cells }, SMALL);
+        }
+    }
+
+    /// The tables of all transformations, and the degrees beside them, with buffers around the lengths that are asked for.
+    fn all_transformations(&mut self) {
+        for degree in [0, 1, 2, 3, 4, usize::MAX] {
+            for length in [1, 16, 729].into_iter().flat_map(lengths) {
+                let cells = Lent::random(&mut self.random, length);
+                self.compare(&mut Call::Transformations { degree, cells }, "transformations");
+            }
+        }
+    }
+
+    /// The first map of each kind, and the one after a list; a check of any list.
     fn small_maps(&mut self, source: &LentTable, target: &LentTable) {
+        let map = inputs::map(&mut self.random, source.order, target.order);
+        self.compare(&mut Call::CheckMap { source: source.clone(), target: target.clone(), map }, SMALL);
         for kind in KINDS {
             for ask in [Ask::First, Ask::Next] {
                 let list: Vec<u8> = (0..source.order).map(|_| self.random.below(target.order + 1) as u8).collect();
@@ -285,9 +353,8 @@ impl Comparison {
             11..=13 => self.lists(),
             14..=15 => self.map_check(),
             16..=21 => self.searches(),
-            22 => self.walk(),
-            23 if self.random.one_in(8) => self.isomorphism_walk(),
-            23 => self.walk(),
+            22 if self.random.one_in(8) => self.isomorphism_walk(),
+            22..=23 => self.walk(),
             24..=26 => self.transformations(),
             27..=33 => self.load(),
             34..=39 => self.save(),

@@ -66,7 +66,7 @@ impl Comparison {
         }
     }
 
-    /// Each written sheet loads as the names that it was written from.
+    /// Each written sheet loads as the names that it was written from, and these are saved.
     pub fn written_sheets(&mut self) {
         let names: Vec<Vec<u8>> = WRITTEN.iter().map(|name| name.as_bytes().to_vec()).collect();
         for sheet in SHEETS {
@@ -89,6 +89,9 @@ impl Comparison {
             self.tally.differences += 1;
             println!("a written sheet is not loaded as its names: {answer:?}");
         }
+        let (names, lengths) = (Lent::new(&mut self.random, &names), Lent::new(&mut self.random, &lengths));
+        let text = Lent::random(&mut self.random, sheets::sheet_of(expected).len());
+        self.compare(&mut Call::SaveNames { names, lengths, text }, "written sheet");
     }
 
     /// A random sheet, with buffers around the lengths that are asked for.

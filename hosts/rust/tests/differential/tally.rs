@@ -16,9 +16,20 @@ enum Outcome {
     Refused(u64),
 }
 
+/// A way to make a call: by the archive's sixteen numbers, by the functions that take slices, by `Table` and `Names`, by the Python
+/// package.
+#[derive(Clone, Copy, Debug, PartialEq, Eq, PartialOrd, Ord)]
+pub enum Way {
+    Archive,
+    Wrapper,
+    Types,
+    Python,
+}
+
 #[derive(Default)]
 pub struct Tally {
     counts: BTreeMap<(&'static str, &'static str, Outcome), u64>,
+    ways: BTreeMap<(Way, &'static str), u64>,
     pub calls: u64,
     pub walks: u64,
     pub differences: u64,
@@ -39,29 +50,62 @@ impl Tally {
         self.calls += 1;
     }
 
+    pub fn count_way(&mut self, way: Way, function: &'static str) {
+        *self.ways.entry((way, function)).or_default() += 1;
+    }
+
+    /// Whether a call of the function was made in this way.
+    pub fn is_made(&self, way: Way, function: &'static str) -> bool {
+        self.ways.contains_key(&(way, function))
+    }
+
     fn sum(&self, of: impl Fn(&str, &str, Outcome) -> bool) -> u64 {
         let counted = self.counts.iter().filter(|((function, family, outcome), _)| of(function, family, *outcome));
         counted.map(|(_, count)| count).sum()
     }
 
-    pub fn print(&self) {
+    /// Prints the counts; whether every function was called in each of these ways.
+    pub fn print(&self, ways: &[Way]) -> bool {
         self.print_outcomes();
         println!();
         self.print_families();
+        println!();
+        self.print_ways(ways);
         println!("\n{} calls, {} walks, {} differences", self.calls, self.walks, self.differences);
+        ways.iter().all(|way| FUNCTIONS.iter().all(|name| self.is_made(*way, name)))
+    }
+
+    /// A row for each function: the calls made in each way.
+    fn print_ways(&self, ways: &[Way]) {
+        print!("{:<34}", "made by");
+        for way in ways {
+            print!("{:>9}", format!("{way:?}"));
+        }
+        println!();
+        for name in FUNCTIONS {
+            print!("{name:<34}");
+            for way in ways {
+                print!("{:>9}", self.ways.get(&(*way, name)).unwrap_or(&0));
+            }
+            println!();
+        }
     }
 
     /// A row for each function: calls, answered or found, none, stopped, refused by each question.
     fn print_outcomes(&self) {
         print!("{:<34}{:>8} {:>8} {:>7} {:>7}", "function", "calls", "answered", "none", "stopped");
-        QUESTIONS.iter().for_each(|question| print!("{question:>7}"));
+        for question in QUESTIONS {
+            print!("{question:>7}");
+        }
         println!();
         for name in FUNCTIONS {
             let calls = self.sum(|function, _, _| function == name);
             let count = |wanted| self.sum(|function, _, outcome| function == name && outcome == wanted);
             print!("{name:<34}{calls:>8} {:>8}", count(Outcome::Answered));
             print!(" {:>7} {:>7}", count(Outcome::Nothing), count(Outcome::Stopped));
-            QUESTIONS.iter().for_each(|&question| print!("{:>7}", count(Outcome::Refused(question))));
+            for question in QUESTIONS {
+                print!("{:>7}", count(Outcome::Refused(question)));
+            }
             println!();
         }
     }
@@ -70,7 +114,9 @@ impl Tally {
     fn print_families(&self) {
         let families: BTreeSet<&str> = self.counts.keys().map(|(_, family, _)| *family).collect();
         print!("{:<19}", "family");
-        FUNCTIONS.iter().for_each(|name| print!("  {name}"));
+        for name in FUNCTIONS {
+            print!("  {name}");
+        }
         println!();
         for wanted in families {
             print!("{wanted:<19}");
