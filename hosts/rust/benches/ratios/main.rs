@@ -8,6 +8,7 @@ mod pinned;
 mod plain;
 mod real;
 mod tables;
+mod twins;
 
 use families::{
     brandt, elementary_group, form_group, generated, part, rees, shuffled, three_nilpotent, two_squares, Numbers,
@@ -42,6 +43,7 @@ fn main() {
     time_reversed();
     time_copies();
     time_families();
+    twins::time();
     real::time();
 }
 
@@ -183,37 +185,33 @@ struct Searches {
     plain: PlainSearch,
 }
 
-/// A row for a search from one table to another, named with its trials, which the search with a limit counts, and that
-/// search's time beside it.
+/// Two rows for a search from one table to another: without a limit, named with its trials, which the search with a limit
+/// counts; and within just these trials. Plain Rust beside both makes the paper's search.
 fn time_search(searches: &Searches, name: &str, source: &Table, target: &Table) {
     let (m, n) = (source.order, target.order);
     let lent = plain::Lent { source: &source.cells, source_order: m, target: &target.cells, target_order: n };
     let (mut map, mut scratch) = (vec![0; m], vec![0; tickdrizzle::scratch_size(m, n)]);
     let (mut other_map, mut other_scratch) = (map.clone(), scratch.clone());
-    let mut within =
-        |limit| (searches.limited)(&source.cells, m, &target.cells, n, &mut other_map, &mut other_scratch, limit);
-    let trials = match within(u32::MAX).expect("the tables are accepted") {
-        tickdrizzle::LimitedSearch::Found { trials } | tickdrizzle::LimitedSearch::None { trials } => trials,
+    let mut within = |limit| {
+        let answer = (searches.limited)(black_box(&source.cells), m, &target.cells, n, &mut map, &mut scratch, limit);
+        (answer.expect("the tables are accepted"), map.clone())
+    };
+    let mut beside = || {
+        let search = (searches.plain)(black_box(&lent), &mut other_map, &mut other_scratch);
+        (search.expect("the tables are accepted"), other_map.clone())
+    };
+    let (said, trials) = match within(u32::MAX).0 {
+        tickdrizzle::LimitedSearch::Found { trials } => (tickdrizzle::Search::Found, trials),
+        tickdrizzle::LimitedSearch::None { trials } => (tickdrizzle::Search::None, trials),
         tickdrizzle::LimitedSearch::Stopped => panic!("{name} needs more trials than any limit"),
     };
-    let calls = calls_of_a_sample(&mut || within(black_box(trials)));
-    let limited = (0..FEWEST_SAMPLES).map(|_| sample(calls, &mut || within(black_box(trials)))).min();
-    let limited = limited.map_or(0.0, |least| least.as_secs_f64() * 1e6 / f64::from(calls));
-    let proved = row(
-        &format!("{}, {name}: {trials} trials", searches.name),
-        || {
-            let search = (searches.proved)(black_box(&source.cells), m, &target.cells, n, &mut map, &mut scratch);
-            (search, map.clone())
-        },
-        || {
-            let search = (searches.plain)(black_box(&lent), &mut other_map, &mut other_scratch);
-            (search, other_map.clone())
-        },
-    );
-    println!(
-        "| {:<82} | {limited:>10.2} |           |       |",
-        format!("  within {trials} trials: {:.2} of it", limited / proved)
-    );
+    let name = format!("{}, {name}: {trials} trials", searches.name);
+    row(&format!("{name}, within these"), || (said, within(black_box(trials)).1), &mut beside);
+    let proved = || {
+        let search = (searches.proved)(black_box(&source.cells), m, &target.cells, n, &mut map, &mut scratch);
+        (search.expect("the tables are accepted"), map.clone())
+    };
+    row(&name, proved, &mut beside);
 }
 
 /// A table of an example of the repository.
@@ -476,6 +474,11 @@ fn isomorphic(name: &str, source: &Table, target: &Table, families: &mut Familie
     family_row(&format!("first_isomorphism, {name}"), true, &source, &target);
 }
 
+/// A time in milliseconds, as it is printed.
+fn millis(time: Duration) -> String {
+    format!("{:.2}", time.as_secs_f64() * 1e3)
+}
+
 /// A row: the least of some calls of the library, and the paper's search with a limit.
 fn family_row(name: &str, isomorphisms: bool, source: &Table, target: &Table) {
     let (m, n) = (source.order, target.order);
@@ -488,7 +491,6 @@ fn family_row(name: &str, isomorphisms: bool, source: &Table, target: &Table) {
     let (mut other_map, mut other_scratch) = (vec![0; m], vec![0; m * n]);
     let start = Instant::now();
     let settled = plain::settled(isomorphisms, MOST_TRIALS, &lent, &mut other_map, &mut other_scratch);
-    let millis = |time: Duration| format!("{:.2}", time.as_secs_f64() * 1e3);
     let beside = if settled { millis(start.elapsed()) } else { "stopped".to_owned() };
     let said = if answer == Some(tickdrizzle::Search::Found) { "found" } else { "none" };
     assert!(!settled || said == "none" || map == other_map, "{name}");

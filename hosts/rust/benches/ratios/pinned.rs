@@ -3,7 +3,7 @@
 
 use crate::families::{names, renamed, Numbers};
 use crate::tables::Table;
-use crate::{sample, Family};
+use crate::{millis, sample, Family};
 use std::hint::black_box;
 use std::time::Duration;
 use tickdrizzle::Search;
@@ -23,7 +23,6 @@ pub fn time(families: &[Family]) {
     println!("|:{:-<60}-|----------:|----------:|--------------:|-------------:|", "");
     let mut numbers = Numbers::new(2);
     for Family { name, source, target } in families {
-        let millis = |time: Duration| format!("{:.2}", time.as_secs_f64() * 1e3);
         let (first, all) = unpinned(source, target);
         let ratio = all.as_secs_f64() / first.as_secs_f64();
         let longest = longest(source, target, &mut numbers).map(|time| time.map_or_else(String::new, millis));
