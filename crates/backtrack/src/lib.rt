@@ -7,7 +7,7 @@ ghost use mathlib.Core.List.{[], _∷_, _++_};
 ghost use mathlib.Core.Option.{none};
 ghost use Prim.Native.Nat.{ℕ, _+_, _-_, _≤_, _<_};
 ghost use lib.Dec.{eqb, leb};
-ghost use lib.ListN.{length, getD, take, replicate};
+ghost use lib.ListN.{length, getD, take, set, replicate};
 ghost use Rattle.semigroups.specs.Lists.{member};
 ghost use Rattle.semigroups.specs.Tables.{largestOrder, Product, product, Element, Filled};
 ghost use Rattle.semigroups.specs.Scratch.{scratchSize, marked};
@@ -69,7 +69,7 @@ fn open(used: &[u8; PLACES], scratch: &[u8], n: usize, i: usize, low: usize, x: 
 
 impl Partial {
     // Returns the map with nothing placed.
-    fn new() -> Self
+    pub fn new() -> Self
         ensures empty { λ r. ⌜ r .len ≡ 0 ⌝ }
         ensures holds { λ r. ⌜ ((s : Product) (n : ℕ) (t : Product) → Holds s n t r) ⌝ }
     {
@@ -83,12 +83,12 @@ impl Partial {
     }
 
     // Returns the map with x as the image of the next element; the constraints do not change.
-    fn place(self, n: usize, x: usize) -> Self
+    pub fn place(self, n: usize, x: usize) -> Self
         requires { ⌜ Placing n (self .image) (self .used) (self .len) ⌝ }
         requires { ⌜ Element n x × (n ≤ largestOrder) × (self .len < largestOrder) × (member x (prefix self) ≡ false) ⌝ }
         ensures placing { λ r. ⌜ Placing n (r .image) (r .used) (r .len) ⌝ }
         ensures more { λ r. ⌜ (prefix r ≡ prefix self ++ x ∷ []) × (take (self .len) (r .image) ≡ prefix self) × (r .len ≡ self .len + 1) ⌝ }
-        ensures constraints { λ r. ⌜ (r .forced ≡ self .forced) × (r .owner ≡ self .owner) ⌝ }
+        ensures rest { λ r. ⌜ (r .forced ≡ self .forced) × (r .owner ≡ self .owner) × (r .image ≡ set (self .image) (self .len) x) ⌝ }
     {
         let at = self.len;
         let mut p = self;
@@ -100,7 +100,7 @@ impl Partial {
 
     // Tests the newest element: returns whether the list placed passes, given that it passes without that element, and the map. If the list passes, the pairs of
     // that element are noted in the constraints; if it does not, the map is handed back as it was.
-    fn test(self, source: &[u8], m: usize, target: &[u8], n: usize) -> Tested
+    pub fn test(self, source: &[u8], m: usize, target: &[u8], n: usize) -> Tested
         requires { ⌜ Filled m (now source) × Filled n (now target) ⌝ }
         requires { ⌜ Placing n (self .image) (self .used) (self .len) × Element m (self .len) ⌝ }
         requires { ⌜ Tracks (product m (now source)) (product n (now target)) (take (self .len - 1) (self .image)) (self .len - 1) 0 (self .forced) (self .owner) × (passes (product m (now source)) (product n (now target)) (take (self .len - 1) (self .image)) ≡ true) ⌝ }

@@ -4,6 +4,8 @@ pub mod Counting
 pub mod Raising
 pub mod Bounds
 pub mod Going
+pub mod Trying
+pub mod Sending
 pub mod Existence
 pub mod Spending
 pub mod Fixing

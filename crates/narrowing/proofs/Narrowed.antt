@@ -187,7 +187,7 @@ module _ (m : ℕ) (s : Product) (n : ℕ) (t : Product) (closed : Closed m s) (
   kept a b ha hb = sym (F .homomorphism .keeps-product a b ha hb)
 
   -- The images of two elements look like them.
-  same-pattern : (l c : ℕ) → Element m l → Element m c → pattern (at f l) (at f c) (t (at f l) (at f c)) (t (at f c) (at f l)) ≡ pattern l c (s l c) (s c l)
+  pub same-pattern : (l c : ℕ) → Element m l → Element m c → pattern (at f l) (at f c) (t (at f l) (at f c)) (t (at f c) (at f l)) ≡ pattern l c (s l c) (s c l)
   unfolding pattern
   same-pattern l c hl hc =
       let lc = closed l c hl hc in
