@@ -227,7 +227,7 @@ fn extend(
                 return no_map(true, 0);
             }
             left = paid.left;
-            // A look by reference, of constant time, spares most images that do not fit the copies of the map. The test decides.
+            // Looking by reference first, in constant time, avoids copying the map for most images that do not fit. The test decides.
             let image = &p.image;
             let used = &p.used;
             let forced = &p.forced;

@@ -31,7 +31,7 @@ use Rattle.sheets.proofs.Passing.{load-names-pass, save-names-pass, load-keeps,
 use Rattle.calls.specs.Limited.{firstWork, limitedCall}
 use Rattle.calls.specs.Calls.{Called, marksOf}
 use Rattle.calls.specs.Among.{amongQuestions, amongRefusal, answerAmong, callAmong, marksAmong}
-use Rattle.search.specs.AmongLaws.{leftInLeft}
+use Rattle.search.specs.AmongExamples.{leftInLeft}
 use Rattle.search.proofs.Limits.{limits-theorem}
 use Rattle.search.proofs.Among.{among-passes}
 use Rattle.search.proofs.AmongLaws.{among-laws}

@@ -20,7 +20,8 @@ use Rattle.semigroups.proofs.Lists.{pairs-at}
 use Rattle.calls.specs.Calls.{Lent, Called, call}
 use Rattle.calls.specs.Allowed.{allows, allowed}
 use Rattle.calls.specs.Among.{amongRefusal, refusalAmong, callAmong}
-use Rattle.search.specs.AmongLaws.{PassesAmong, WantedAmong, AllMarked, OnlyOf, SamePairs, leftInLeft, AmongExamples}
+use Rattle.search.specs.AmongLaws.{PassesAmong, WantedAmong, AllMarked, OnlyOf, SamePairs}
+use Rattle.search.specs.AmongExamples.{leftInLeft, AmongExamples}
 use Rattle.search.proofs.Among.{among-passes}
 use Rattle.search.proofs.AmongLaws.{among-laws}
 

@@ -3,7 +3,7 @@
 use mathlib.Core.Path.{_≡_}
 use mathlib.Core.Bool.{true}
 use mathlib.Core.Logic.{_⊎_, _↔_}
-use mathlib.Core.List.{List, [], _∷_}
+use mathlib.Core.List.{List}
 use mathlib.Core.Option.{some}
 use Prim.Native.Nat.{ℕ, _≤_}
 use lib.ListN.{length}
@@ -12,12 +12,10 @@ use Rattle.semigroups.specs.ListsLaws.{Earliest}
 use Rattle.semigroups.specs.Tables.{product, Element}
 use Rattle.semigroups.specs.Scratch.{scratchSize, marked}
 use Rattle.semigroups.specs.Questions.{Refusal}
-use Rattle.semigroups.specs.QuestionsLaws.{no}
 use Rattle.semigroups.specs.Calls.{refused, gives}
 use Rattle.semigroups.specs.MapsLaws.{Embedding}
-use Rattle.semigroups.specs.Maps.{embeddings, Ask, first, next, found, nothing}
-use Rattle.semigroups.specs.Cases.{left}
-use Rattle.calls.specs.Calls.{Lent, lend, called, call}
+use Rattle.semigroups.specs.Maps.{embeddings, Ask, found, nothing}
+use Rattle.calls.specs.Calls.{Lent, call}
 use Rattle.search.specs.WantedLaws.{Passes, Wanted}
 use Rattle.calls.specs.Among.{refusalAmong, callAmong}
 
@@ -76,19 +74,3 @@ pub record AmongLaws : Type 0 where
   -- Only which pairs are marked matters: no later byte and no unused bit does.
   pub same-pairs : (ask : Ask) (one other : List ℕ) (l : Lent) → scratchSize (l .m) (l .n) ≤ length one → scratchSize (l .m) (l .n) ≤ length other → SamePairs one other l
       → callAmong ask one l ≡ callAmong ask other l
-
--- ---- examples
-
--- A call with the table left as source and target, and these bytes in the map buffer.
-abbrev pub leftInLeft : List ℕ → Lent
-leftInLeft bytes = lend (left .cells) 2 (left .cells) 2 bytes (0 ∷ 7 ∷ [])
-
--- Calls with pairs that allow only the exchange; with other unused bits and a later byte; after the exchange; with pairs that allow nothing; and with no byte
--- of pairs.
-abbrev pub AmongExamples : Type 0
-AmongExamples =
-    (callAmong first (6 ∷ []) (leftInLeft (0 ∷ 0 ∷ [])) ≡ called (gives found) (2 ∷ 1 ∷ []) (6 ∷ 7 ∷ []))
-    × (callAmong (next (1 ∷ 2 ∷ [])) (246 ∷ 9 ∷ []) (leftInLeft (1 ∷ 2 ∷ [])) ≡ called (gives found) (2 ∷ 1 ∷ []) (6 ∷ 7 ∷ []))
-    × (callAmong (next (2 ∷ 1 ∷ [])) (6 ∷ []) (leftInLeft (2 ∷ 1 ∷ [])) ≡ called (gives nothing) (2 ∷ 1 ∷ []) (6 ∷ 7 ∷ []))
-    × (callAmong first (3 ∷ []) (leftInLeft (0 ∷ 0 ∷ [])) ≡ called (gives nothing) (0 ∷ 0 ∷ []) (3 ∷ 7 ∷ []))
-    × (callAmong first [] (leftInLeft (0 ∷ 0 ∷ [])) ≡ called (refused (no 70 [])) (0 ∷ 0 ∷ []) (0 ∷ 7 ∷ []))

@@ -1,6 +1,7 @@
 pub mod Answers
 pub mod WantedLaws
 pub mod AmongLaws
+pub mod AmongExamples
 pub mod InnerAmong
 pub mod InnerMasks
 pub mod InnerSearching

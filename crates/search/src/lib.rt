@@ -36,6 +36,7 @@ use tables::Refusal;
 use tables::Side;
 use tables::limits::CELLS;
 
+// The kinds of maps.
 pub enum Kind {
     Embeddings,
     Isomorphisms,
@@ -51,7 +52,7 @@ pub enum SearchFault {
 }
 
 impl SearchFault {
-    // Returns its number, side and values.
+    // Returns the refusal by this fault: its number, side and values.
     pub fn refusal(self) -> Refusal
         ensures answer { λ r. ⌜ r ≡ refusalNumbers (searchFaultRefusal self) ⌝ }
     {
@@ -71,7 +72,7 @@ pub enum SearchAnswer {
     Refused(SearchFault),
 }
 
-// What a search with a limit answers: found or nothing, with the number of trials; or stopped, because it needs more trials than the limit.
+// What a search with a limit answers: found or none, with the number of trials; or stopped, because it needs more trials than the limit.
 pub enum LimitedAnswer {
     Found(u32),
     Nothing(u32),
@@ -294,6 +295,7 @@ pub fn find(
 
 // ---- the questions
 
+// Whether every question passed, or the earliest that failed.
 enum Questions {
     Passed,
     Failed(SearchFault),
@@ -316,7 +318,7 @@ fn ask(source: &[u8], m: usize, target: &[u8], n: usize, images: usize, marks: u
     Questions::Passed
 }
 
-// Asks the questions, then searches for the first map, or with `next` for the next one, and writes it to `map`. Returns found, or nothing, or the earliest
+// Asks the questions, then searches for the first map, or with `next` for the next one, and writes it to `map`. Returns found, none, or the earliest
 // question that fails.
 pub fn search(
     kind: Kind,
@@ -340,7 +342,7 @@ pub fn search(
     SearchAnswer::Nothing
 }
 
-// Writes the earliest map of the kind to `map`. Answers found, or nothing, or the earliest question that fails.
+// Writes the earliest map of the kind to `map`. Answers found, none, or the earliest question that fails.
 pub fn first(
     kind: Kind,
     source: &[u8],
@@ -355,7 +357,7 @@ pub fn first(
     search(kind, false, source, m, target, n, map, scratch)
 }
 
-// Writes the earliest map of the kind that is later than the bytes of `map` over them. Answers found, or nothing, or the earliest question that fails.
+// Writes the earliest map of the kind that is later than the bytes of `map` over them. Answers found, none, or the earliest question that fails.
 pub fn next(
     kind: Kind,
     source: &[u8],
@@ -370,7 +372,7 @@ pub fn next(
     search(kind, true, source, m, target, n, map, scratch)
 }
 
-// Writes the earliest map of the kind to `map` if the search needs at most `limit` trials. Answers found or nothing, with the number of trials; or stopped;
+// Writes the earliest map of the kind to `map` if the search needs at most `limit` trials. Answers found or none, with the number of trials; or stopped;
 // or the earliest question that fails.
 pub fn first_within(
     kind: Kind,
@@ -529,7 +531,7 @@ fn ask_among(
     Questions::Passed
 }
 
-// Asks the questions, then searches for the first allowed embedding, or with `next` for the next one, and writes it to `map`. Returns found, or nothing, or
+// Asks the questions, then searches for the first allowed embedding, or with `next` for the next one, and writes it to `map`. Returns found, none, or
 // the earliest question that fails.
 fn search_among(
     next: bool,
@@ -553,7 +555,7 @@ fn search_among(
     SearchAnswer::Found
 }
 
-// Writes the earliest embedding that the pairs allow to `map`. Answers found, or nothing, or the earliest question that fails.
+// Writes the earliest embedding that the pairs allow to `map`. Answers found, none, or the earliest question that fails.
 pub fn first_among(
     source: &[u8],
     m: usize,
@@ -568,7 +570,7 @@ pub fn first_among(
     search_among(false, source, m, target, n, pairs, map, scratch)
 }
 
-// Writes the earliest embedding that the pairs allow and that is later than the bytes of `map` over them. Answers found, or nothing, or the earliest question
+// Writes the earliest embedding that the pairs allow and that is later than the bytes of `map` over them. Answers found, none, or the earliest question
 // that fails.
 pub fn next_among(
     source: &[u8],
