@@ -12,5 +12,4 @@ pub mod Fixing
 pub mod Answering
 pub mod Exchanges
 pub mod Absence
-pub mod Rearranging
 pub mod Onto

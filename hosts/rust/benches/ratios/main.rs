@@ -342,8 +342,8 @@ fn time_texts() {
     assert_eq!(cells, other);
 }
 
-/// The longest that a count of copies may take.
-const COPIES_BAR: Duration = Duration::from_secs(5);
+/// The longest that a count of copies may take: "more" is said no later.
+const COPIES_BAR: Duration = Duration::from_millis(500);
 
 /// Counts of copies, by the library alone: plain counting of all embeddings would not end. Each is held to the bar.
 fn time_copies() {
@@ -355,11 +355,23 @@ fn time_copies() {
         Table { order, cells }
     };
     count_copies("null table, 60 in 120", &null(60), &null(120), Copies::More);
-    count_copies("null table, 60 onto itself", &null(60), &null(60), Copies::Number(1));
+    count_copies("null table, 119 in 120", &null(119), &null(120), Copies::Number(119));
+    count_copies("null table, 120 onto itself", &null(120), &null(120), Copies::Number(1));
+    count_copies("null table, 120 in a chain of 120", &null(120), &chain(120), Copies::Number(0));
     count_copies("null table, 59 in 60", &null(59), &null(60), Copies::Number(59));
+    count_copies("left zeros, 60 in 120", &left_zero(60), &left_zero(120), Copies::More);
+    count_copies("left zeros, 120 onto itself", &left_zero(120), &left_zero(120), Copies::Number(1));
     count_copies("left zeros, 5 in 20", &left_zero(5), &left_zero(20), Copies::Number(15_504));
+    count_copies("chain, 60 in 120", &chain(60), &chain(120), Copies::More);
+    count_copies("chain, 98 in 100", &chain(98), &chain(100), Copies::Number(4950));
     count_copies("chain, 10 in 20", &chain(10), &chain(20), Copies::More);
     count_copies("chain, 5 in 20", &chain(5), &chain(20), Copies::Number(15_504));
+    count_copies(
+        "rectangular band, 5 by 6 in 10 by 12",
+        &rectangular_band(5, 6),
+        &rectangular_band(10, 12),
+        Copies::More,
+    );
     count_copies("Z2 x Z2 in Z2 to the fifth", &two_group(2), &two_group(5), Copies::Number(155));
     count_copies("degree 2 in degree 3", &degree_2, &transformations(), Copies::Number(12));
 }
