@@ -83,19 +83,15 @@ impl<'a> Searcher<'a> {
         Searcher { show, process: None }
     }
 
-    /// What is told of a rig within this time. Where no process can be started, as in one that answers for a page, a thread searches.
+    /// What is told of a rig within this time. Where no process can be started, as in one that answers for a page, or it was ended from outside, a thread
+    /// searches.
     pub fn search(&mut self, rig: &Table, limit: Duration) -> Vec<Told> {
-        if self.process.is_none() {
-            self.process = Process::start(self.show).ok();
-        }
-        let Some(process) = &mut self.process else {
+        let mut process = self.process.take().or_else(|| Process::start(self.show).ok());
+        let Some(Ok((told, done))) = process.as_mut().map(|process| process.search(rig, limit)) else {
             let lent = (self.show.clone(), rig.clone());
             return told_within(Some(limit), move |tell| search(&lent.0, &lent.1, tell)).0;
         };
-        let (told, done) = process.search(rig, limit).expect("the process that searches goes on");
-        if !done {
-            self.process = None;
-        }
+        self.process = process.filter(|_| done);
         told
     }
 }

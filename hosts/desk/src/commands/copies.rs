@@ -9,10 +9,7 @@ use crate::progress::Progress;
 use crate::sheet::open;
 use crate::status::{Failure, Status};
 use crate::words::count;
-use tickdrizzle::{Copies, Table};
-
-/// The library counts so far.
-pub const MOST_COPIES: usize = 65_535;
+use tickdrizzle::{Copies, Table, MOST_COPIES};
 
 pub fn run(arguments: &CopiesArguments, work: &mut Work) -> Result<(), Failure> {
     let mut tables = Vec::new();

@@ -1,7 +1,6 @@
 //! Embeddings of the show's table in the rig's, among partners that the operator may choose: the earliest, the next ones, all, or how
 //! many.
 
-use super::copies::MOST_COPIES;
 use super::{why, Work};
 use crate::answer::{Chosen, Found, Offer, Pair, Role};
 use crate::arguments::MoveArguments;
@@ -19,7 +18,7 @@ use crate::words::{count, listed, path_shown};
 use std::cell::OnceCell;
 use std::path::PathBuf;
 use std::time::{Duration, Instant};
-use tickdrizzle::{Copies, LimitedSearch, Maps, Table};
+use tickdrizzle::{Copies, LimitedSearch, Maps, Table, MOST_COPIES};
 
 /// How long a hint may take.
 const HINT_TIME: Duration = Duration::from_secs(1);

@@ -1,7 +1,7 @@
 //! Which rigs take a show: each is read and searched by itself, on all cores.
 
 use super::classes::in_folder;
-use super::{copies, Work};
+use super::Work;
 use crate::answer::{Found, Rig, RigOutcome, Role, Sheet};
 use crate::arguments::RigsArguments;
 use crate::building;
@@ -16,7 +16,7 @@ use std::sync::atomic::{AtomicUsize, Ordering};
 use std::sync::Mutex;
 use std::thread;
 use std::time::{Duration, Instant};
-use tickdrizzle::Table;
+use tickdrizzle::{Table, MOST_COPIES};
 
 /// How long the searches on one rig may take where no time is given.
 const PATIENCE: Duration = Duration::from_secs(10);
@@ -118,7 +118,7 @@ fn search(searcher: &mut Searcher, source: &Source, strict: bool, limit: Duratio
             match told {
                 Told::Fits(fits) => rig.outcome = if fits { RigOutcome::Fits } else { RigOutcome::None },
                 Told::Copies(number) => rig.copies = Some(number),
-                Told::MoreCopies => (rig.copies, rig.more) = (Some(copies::MOST_COPIES), true),
+                Told::MoreCopies => (rig.copies, rig.more) = (Some(MOST_COPIES), true),
                 Told::Mirrored(fits) => rig.mirrored = Some(fits),
             }
         }
