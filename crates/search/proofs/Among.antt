@@ -3,27 +3,25 @@ use mathlib.Core.Path.{_≡_, refl, sym, ap, ap₂, _∙_}
 use mathlib.Core.Bool.{Bool}
 use mathlib.Core.Logic.{_↔_}
 use mathlib.Core.List.{List, [], _∷_}
-use mathlib.Core.Option.{Option, none, some, orElse, Option·getD}
+use mathlib.Core.Option.{Option, none, some, orElse}
 use Prim.Native.Nat.{ℕ, _≤_, _<_}
 use borrow.Author.Tests.{lt-leb}
 use lib.Dec.{leb}
 use lib.ListN.{length}
 use Rattle.semigroups.specs.Lists.{firstOf}
-use Rattle.semigroups.specs.Tables.{product, Accepted}
+use Rattle.semigroups.specs.Tables.{Accepted}
 use Rattle.semigroups.specs.Scratch.{scratchSize}
 use Rattle.semigroups.specs.Questions.{Question, ask, Refusal, searchQuestions, searchRefusal}
 use Rattle.semigroups.specs.QuestionsLaws.{no}
 use Rattle.semigroups.specs.PassingLaws.{SearchPasses}
 use Rattle.semigroups.specs.Calls.{refused, gives}
-use Rattle.semigroups.specs.InnerCalls.{scratchAfter}
-use Rattle.semigroups.specs.Maps.{Ask, sought}
+use Rattle.semigroups.specs.Maps.{Ask}
 use Rattle.semigroups.proofs.Questions.{failed-before, passed-before}
 use Rattle.semigroups.proofs.Passing.{search-passes, room-asked, joined}
-use Rattle.search.specs.Answers.{soughtIf}
+use Rattle.kinds.specs.Answers.{soughtIf}
 use Rattle.calls.specs.Calls.{Lent, called}
-use Rattle.calls.specs.Allowed.{allowedCandidate}
 use Rattle.calls.specs.Among.{amongRefusal, refusalAmong, answerAmong, callAmong}
-use Rattle.search.specs.InnerAmong.{leavingAmong, answeredAmong}
+use Rattle.kinds.specs.InnerAmong.{leavingAmong, answeredAmong}
 use Rattle.search.specs.AmongLaws.{PassesAmong}
 
 -- ---- the questions
@@ -73,15 +71,6 @@ module _ (ask : Ask) (pairs : List ℕ) (l : Lent) where
   pub not-refused-among : refusalAmong pairs l ≡ none → (o : Option (List ℕ)) → answerAmong ask pairs l ≡ o → callAmong ask pairs l ≡ leavingAmong pairs l none o
   unfolding callAmong
   not-refused-among e o f = ap₂ (leavingAmong pairs l) e f
-
-  -- From what is said, the map and the marks, by the embedding asked for.
-  pub as-answered-among : (r : Bool) {bytes scratch : List ℕ} (o : Option (List ℕ)) → answerAmong ask pairs l ≡ o → soughtIf r ≡ sought o → bytes ≡ Option·getD o (l .mapBytes)
-      → scratch ≡ scratchAfter (l .m) (l .n) (allowedCandidate (l .m) (product (l .m) (l .source)) (l .n) (product (l .n) (l .target)) pairs) (l .scratch)
-      → called (gives (soughtIf r)) bytes scratch ≡ answeredAmong ask pairs l
-  unfolding answeredAmong scratchAfter
-  as-answered-among r {bytes = bytes} {scratch = scratch} o e f g h =
-      let made : called (gives (soughtIf r)) bytes scratch ≡ leavingAmong pairs l none o = cc in
-      made ∙ ap (leavingAmong pairs l none) (sym e)
 
   -- A call that no question refuses, from whether there is an embedding.
   pub passing-among : refusalAmong pairs l ≡ none → {bytes scratch : List ℕ} (r x : Bool) → r ≡ x → called (gives (soughtIf r)) bytes scratch ≡ answeredAmong ask pairs l

@@ -1,0 +1,6 @@
+pub mod Works
+pub mod Turned
+pub mod Marked
+pub mod Searching
+pub mod Masks
+pub mod Allowed

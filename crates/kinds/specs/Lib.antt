@@ -1,0 +1,4 @@
+pub mod Answers
+pub mod InnerAmong
+pub mod InnerMasks
+pub mod InnerSearching
