@@ -2,10 +2,10 @@
 -- Assumes nothing.
 use Rattle.tables.specs.Answers.{noRefusal}
 use Rattle.tables.proofs.Refusals.{no-brief}
 use Rattle.words.proofs.Values.{refusal-said}
 use borrow.Author.Needs.{needs}
-use Rattle.exports.proofs.degree_words.Statement.{statement}
-use Rattle.exports.proofs.degree_words.Tie as tie
+use Rattle.words.proofs.degree_words.Statement.{statement}
+use Rattle.words.proofs.degree_words.Tie as tie
 
 enum-known-said : tie.Need-enum-known-said
 enum-known-said c = search needs
