@@ -2,5 +2,4 @@ pub mod Works
 pub mod Turned
 pub mod Marked
 pub mod Searching
-pub mod Masks
 pub mod Allowed

@@ -1,4 +1,3 @@
 pub mod Answers
 pub mod InnerAmong
-pub mod InnerMasks
 pub mod InnerSearching

@@ -1,26 +1,22 @@
 // Searches by kind between accepted tables, for callers that have asked the questions: the first map of a kind, or the next one after the bytes of the map
-// buffer, with or without a limit of trials; and the same for embeddings among given pairs. The candidates are marked in the scratch buffer first. A reversed
+// buffer, with or without a limit of trials; and the same for embeddings among given pairs. A reversed
 // isomorphism is searched for as an isomorphism onto the target with rows and columns exchanged.
 ghost use mathlib.Core.Path.{_≡_};
 ghost use mathlib.Core.Bool.{cond};
 ghost use Prim.Native.Nat.{_*_, _≤_};
 ghost use lib.ListN.{length, take};
 ghost use Rattle.semigroups.specs.InnerSearch.{plainKind};
-ghost use Rattle.semigroups.specs.Tables.{product, Filled, Accepted};
+ghost use Rattle.semigroups.specs.Tables.{Filled, Accepted};
 ghost use Rattle.semigroups.specs.TablesLaws.{turnedCells};
 ghost use Rattle.semigroups.specs.Scratch.{scratchSize};
 ghost use Rattle.semigroups.specs.Calls.{gives, overwritten};
-ghost use Rattle.semigroups.specs.InnerCalls.{scratchAfter};
-ghost use Rattle.semigroups.specs.Maps.{embeddings, reversed};
-ghost use Rattle.semigroups.specs.Candidates.{candidate};
+ghost use Rattle.semigroups.specs.Maps.{reversed};
 ghost use Rattle.backtrack.specs.InnerState.{bounded, foundIn, outcomeOf};
 ghost use Rattle.kinds.specs.Answers.{kindOf, soughtIf};
 ghost use Rattle.kinds.specs.InnerSearching.{answered, trialsIn, remainderUnder, searched, markedWork};
 ghost use Rattle.calls.specs.Kinds.{orderFits};
 ghost use Rattle.calls.specs.Calls.{lend, called};
-ghost use Rattle.calls.specs.Allowed.{allowedCandidate};
 ghost use Rattle.kinds.specs.InnerAmong.{answeredAmong};
-ghost use Rattle.kinds.specs.InnerMasks.{maskedBytes, clearsNothing};
 use backtrack::Outcome;
 use tables::limits::CELLS;
 
@@ -96,19 +92,6 @@ fn order_fits(onto: bool, m: usize, n: usize) -> bool
     m <= n
 }
 
-// Marks the candidates of embeddings in scratch, or with `onto` those of isomorphisms.
-fn mark(onto: bool, source: &[u8], m: usize, target: &[u8], n: usize, scratch: &mut [u8])
-    requires { ⌜ Accepted m (now source) × Accepted n (now target) ⌝ }
-    requires { ⌜ scratchSize m n ≤ length (now scratch) ⌝ }
-    ensures scratch { λ _. ⌜ now (scratch .exit) ≡ scratchAfter m n (candidate (plainKind onto) m (product m (now (source .entry))) n (product n (now (target .entry)))) (now (scratch .entry)) ⌝ }
-{
-    if onto {
-        candidates::fill_isomorphisms(source, m, target, n, scratch);
-    } else {
-        candidates::fill_embeddings(source, m, target, n, scratch);
-    }
-}
-
 // Marks the candidates in scratch and searches for embeddings, or with `onto` for isomorphisms. Returns the outcome.
 fn search_straight(
     onto: bool,
@@ -125,7 +108,7 @@ fn search_straight(
     requires { ⌜ (length (now map) ≡ m) × (scratchSize m n ≤ length (now scratch)) ⌝ }
     ensures call { λ r. ⌜ called (gives r) (now (map .exit)) (now (scratch .exit)) ≡ searched (plainKind onto) next limit (lend (now (source .entry)) m (now (target .entry)) n (now (map .entry)) (now (scratch .entry))) ⌝ }
 {
-    mark(onto, source, m, target, n, scratch);
+    marking::mark(onto, source, m, target, n, scratch);
     if !order_fits(onto, m, n) {
         return backtrack::no_map(false, allowance(limit));
     }
@@ -246,55 +229,6 @@ pub fn find(
 
 // ---- among given pairs
 
-// Clears each bit of the first `size` bytes of scratch that is not set in the pairs.
-fn keep_pairs(pairs: &[u8], size: usize, scratch: &mut [u8])
-    requires { ⌜ (size ≤ length (now pairs)) × (size ≤ length (now scratch)) ⌝ }
-    ensures scratch { λ _. ⌜ now (scratch .exit) ≡ overwritten (maskedBytes size (now (pairs .entry)) (now (scratch .entry))) (now (scratch .entry)) ⌝ }
-{
-    let mut place: usize = 0;
-    while place < size {
-        scratch[place] = scratch[place] & pairs[place];
-        place += 1;
-    }
-}
-
-// Returns whether every bit of the first `size` bytes of scratch is set in the pairs too.
-fn allows_all(pairs: &[u8], size: usize, scratch: &[u8]) -> bool
-    requires { ⌜ (size ≤ length (now pairs)) × (size ≤ length (now scratch)) ⌝ }
-    ensures answer { λ r. ⌜ r ≡ clearsNothing size (now (pairs .entry)) (now (scratch .entry)) ⌝ }
-{
-    let mut place: usize = 0;
-    while place < size {
-        let marks = scratch[place];
-        if marks & pairs[place] != marks {
-            return false;
-        }
-        place += 1;
-    }
-    true
-}
-
-// Marks the candidates of embeddings that the pairs allow in scratch. Returns whether the pairs allow every candidate.
-fn mark_among(
-    source: &[u8],
-    m: usize,
-    target: &[u8],
-    n: usize,
-    pairs: &[u8],
-    scratch: &mut [u8],
-) -> bool
-    requires { ⌜ Accepted m (now source) × Accepted n (now target) ⌝ }
-    requires { ⌜ (scratchSize m n ≤ length (now pairs)) × (scratchSize m n ≤ length (now scratch)) ⌝ }
-    ensures answer { λ r. ⌜ r ≡ clearsNothing (scratchSize m n) (now (pairs .entry)) (scratchAfter m n (candidate embeddings m (product m (now (source .entry))) n (product n (now (target .entry)))) (now (scratch .entry))) ⌝ }
-    ensures scratch { λ _. ⌜ now (scratch .exit) ≡ scratchAfter m n (allowedCandidate m (product m (now (source .entry))) n (product n (now (target .entry))) (now (pairs .entry))) (now (scratch .entry)) ⌝ }
-{
-    mark(false, source, m, target, n, scratch);
-    let size = candidates::scratch_size(m, n);
-    let all = allows_all(pairs, size, &*scratch);
-    keep_pairs(pairs, size, scratch);
-    all
-}
-
 // Searches the marks in scratch without a limit, as `find_marked` does. Unless they are `all` the candidates, elements with one mark narrow the others before
 // the search.
 fn find_allowed(
@@ -333,7 +267,7 @@ pub fn find_among(
     requires { ⌜ scratchSize m n ≤ length (now pairs) ⌝ }
     ensures call { λ r. ⌜ called (gives (soughtIf r)) (now (map .exit)) (now (scratch .exit)) ≡ answeredAmong (bounded next (now (map .entry))) (now (pairs .entry)) (lend (now (source .entry)) m (now (target .entry)) n (now (map .entry)) (now (scratch .entry))) ⌝ }
 {
-    let all = mark_among(source, m, target, n, pairs, scratch);
+    let all = marking::mark_among(source, m, target, n, pairs, scratch);
     if n < m {
         return false;
     }

@@ -33,7 +33,8 @@ use Rattle.kinds.specs.InnerAmong.{leavingAmong}
 use Rattle.search.specs.AmongLaws.{PassesAmong, Allows, WantedAmong, AllMarked, OnlyOf, Fewer, SamePairs, AmongLaws}
 use Rattle.search.proofs.Calls as calls
 use Rattle.kinds.proofs.Allowed.{allows-alike}
-use Rattle.search.proofs.Among.{search-refused, pairs-passed, among-passes, refused-among, not-refused-among}
+use Rattle.questions.proofs.Among.{search-refused, pairs-passed}
+use Rattle.search.proofs.Among.{among-passes, refused-among, not-refused-among}
 
 -- ---- the list of the allowed embeddings
 

@@ -1,5 +1,4 @@
 pub mod Calls
-pub mod Refusals
 pub mod Limited
 pub mod Limits
 pub mod Demand3

@@ -6,43 +6,17 @@
 // Pairs are bits, laid out as those of the scratch buffer are: bit (i - 1) * n + (j - 1) is set where i may go to j. An embedding is allowed if the bit of
 // each element with its image is set. No byte of the pairs changes.
 ghost use mathlib.Core.Path.{_≡_};
-ghost use Rattle.semigroups.specs.Questions.{searchRefusal};
 ghost use Rattle.semigroups.specs.Maps.{first, next};
 ghost use Rattle.backtrack.specs.InnerState.{bounded};
-ghost use Rattle.tables.specs.Answers.{refusalNumbers};
 ghost use Rattle.kinds.specs.Answers.{kindOf};
-ghost use Rattle.search.specs.Answers.{searchFaultRefusal, questionsRefusal, searchAnswerSays, limitedAnswerSays};
+ghost use Rattle.search.specs.Answers.{searchAnswerSays, limitedAnswerSays};
 ghost use Rattle.calls.specs.Calls.{lend, called, call};
 ghost use Rattle.calls.specs.Limited.{limitedCall};
-ghost use Rattle.calls.specs.Among.{amongRefusal, callAmong};
+ghost use Rattle.calls.specs.Among.{callAmong};
 use kinds::Kind;
 use kinds::Limit;
-use tables::Fault;
-use tables::PairVerdict;
-use tables::Refusal;
-use tables::Side;
-
-// The earliest failed question: one of the four about a table, with the side of that table; 5; 6; or 70, which only a search among given pairs asks.
-pub enum SearchFault {
-    Table(Side, Fault),
-    MapLength,
-    ScratchLength,
-    PairsLength,
-}
-
-impl SearchFault {
-    // Returns the refusal by this fault: its number, side and values.
-    pub fn refusal(self) -> Refusal
-        ensures answer { λ r. ⌜ r ≡ refusalNumbers (searchFaultRefusal self) ⌝ }
-    {
-        match self {
-            SearchFault::Table(side, fault) => fault.refusal().naming(side),
-            SearchFault::MapLength => Refusal::by(5, 0),
-            SearchFault::ScratchLength => Refusal::by(6, 0),
-            SearchFault::PairsLength => Refusal::by(70, 0),
-        }
-    }
-}
+use questions::Questions;
+use questions::SearchFault;
 
 // What a search answers.
 pub enum SearchAnswer {
@@ -59,31 +33,6 @@ pub enum LimitedAnswer {
     Refused(SearchFault),
 }
 
-// ---- the questions
-
-// Whether every question passed, or the earliest that failed.
-enum Questions {
-    Passed,
-    Failed(SearchFault),
-}
-
-// Asks the questions about the two tables and about the lengths of the two buffers. Returns the first that fails.
-fn ask(source: &[u8], m: usize, target: &[u8], n: usize, images: usize, marks: usize) -> Questions
-    ensures answer { λ r. ⌜ questionsRefusal r ≡ searchRefusal m (now (source .entry)) n (now (target .entry)) images marks ⌝ }
-{
-    let verdict = tables::check_pair(source, m, target, n);
-    if let PairVerdict::Refused(side, fault) = verdict {
-        return Questions::Failed(SearchFault::Table(side, fault));
-    }
-    if images != m {
-        return Questions::Failed(SearchFault::MapLength);
-    }
-    if marks < candidates::scratch_size(m, n) {
-        return Questions::Failed(SearchFault::ScratchLength);
-    }
-    Questions::Passed
-}
-
 // Asks the questions, then searches for the first map, or with `next` for the next one, and writes it to `map`. Returns found, none, or the earliest
 // question that fails.
 pub fn search(
@@ -98,7 +47,7 @@ pub fn search(
 ) -> SearchAnswer
     ensures call { λ r. ⌜ called (searchAnswerSays r) (now (map .exit)) (now (scratch .exit)) ≡ call (kindOf kind) (bounded next (now (map .entry))) (lend (now (source .entry)) m (now (target .entry)) n (now (map .entry)) (now (scratch .entry))) ⌝ }
 {
-    let asked = ask(source, m, target, n, map.len(), scratch.len());
+    let asked = questions::ask(source, m, target, n, map.len(), scratch.len());
     if let Questions::Failed(fault) = asked {
         return SearchAnswer::Refused(fault);
     }
@@ -152,7 +101,7 @@ pub fn first_within(
 ) -> LimitedAnswer
     ensures call { λ r. ⌜ called (limitedAnswerSays r) (now (map .exit)) (now (scratch .exit)) ≡ limitedCall (kindOf kind) limit (lend (now (source .entry)) m (now (target .entry)) n (now (map .entry)) (now (scratch .entry))) ⌝ }
 {
-    let asked = ask(source, m, target, n, map.len(), scratch.len());
+    let asked = questions::ask(source, m, target, n, map.len(), scratch.len());
     if let Questions::Failed(fault) = asked {
         return LimitedAnswer::Refused(fault);
     }
@@ -179,28 +128,6 @@ pub fn first_within(
 
 // ---- among given pairs
 
-// Asks the questions of a search, then the one about the length of the pairs. Returns the first that fails.
-fn ask_among(
-    source: &[u8],
-    m: usize,
-    target: &[u8],
-    n: usize,
-    images: usize,
-    marks: usize,
-    room: usize,
-) -> Questions
-    ensures answer { λ r. ⌜ questionsRefusal r ≡ amongRefusal m (now (source .entry)) n (now (target .entry)) images marks room ⌝ }
-{
-    let asked = ask(source, m, target, n, images, marks);
-    if let Questions::Failed(fault) = asked {
-        return Questions::Failed(fault);
-    }
-    if room < candidates::scratch_size(m, n) {
-        return Questions::Failed(SearchFault::PairsLength);
-    }
-    Questions::Passed
-}
-
 // Asks the questions, then searches for the first allowed embedding, or with `next` for the next one, and writes it to `map`. Returns found, none, or
 // the earliest question that fails.
 fn search_among(
@@ -215,7 +142,7 @@ fn search_among(
 ) -> SearchAnswer
     ensures call { λ r. ⌜ called (searchAnswerSays r) (now (map .exit)) (now (scratch .exit)) ≡ callAmong (bounded next (now (map .entry))) (now (pairs .entry)) (lend (now (source .entry)) m (now (target .entry)) n (now (map .entry)) (now (scratch .entry))) ⌝ }
 {
-    let asked = ask_among(source, m, target, n, map.len(), scratch.len(), pairs.len());
+    let asked = questions::ask_among(source, m, target, n, map.len(), scratch.len(), pairs.len());
     if let Questions::Failed(fault) = asked {
         return SearchAnswer::Refused(fault);
     }

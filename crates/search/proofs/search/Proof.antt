@@ -2,7 +2,7 @@
 use mathlib.Core.Path.{_≡_, sym, ap, _∙_}
 use mathlib.Core.Option.{none}
 use Rattle.kinds.specs.Answers.{kindOf}
-use Rattle.search.specs.Answers.{questionsRefusal}
+use Rattle.questions.specs.Answers.{questionsRefusal}
 use Rattle.calls.specs.Calls.{Lent, lend, refusalOf}
 use Rattle.search.proofs.Calls.{stands, refused-unchanged, passing}
 use borrow.Author.Needs.{needs}

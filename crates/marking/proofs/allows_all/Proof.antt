@@ -3,10 +3,10 @@ use mathlib.Core.Path.{_≡_, sym, _∙_}
 use Prim.Native.Nat.{_-_, _≤_}
 use native.Mathlib.Omega.{arith}
 use borrow.Author.Tests.{eq-eqb, ne-eqb}
-use Rattle.kinds.specs.InnerMasks.{clearsNothing}
-use Rattle.kinds.proofs.Masks.{Rest, clears-begin, clears-on, clears-one, clears-end}
-use Rattle.kinds.proofs.allows_all.Statement.{statement}
-use Rattle.kinds.proofs.allows_all.Tie as tie
+use Rattle.marking.specs.InnerMasks.{clearsNothing}
+use Rattle.marking.proofs.Masks.{Rest, clears-begin, clears-on, clears-one, clears-end}
+use Rattle.marking.proofs.allows_all.Statement.{statement}
+use Rattle.marking.proofs.allows_all.Tie as tie
 
 abbrev Inv-loop : tie.InvT-loop
 Inv-loop pairs size scratch place₀ place = (place ≤ size) × (clearsNothing size pairs scratch ≡ Rest size pairs scratch place)

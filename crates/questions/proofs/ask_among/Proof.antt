@@ -4,11 +4,11 @@ use mathlib.Core.Option.{none}
 use native.Mathlib.Omega.{arith}
 use Rattle.semigroups.specs.Questions.{searchRefusal}
 use Rattle.semigroups.proofs.Passing.{search-passes}
-use Rattle.search.specs.Answers.{questionsRefusal}
-use Rattle.search.proofs.Among.{search-refused, pairs-refused, pairs-passed}
+use Rattle.questions.specs.Answers.{questionsRefusal}
+use Rattle.questions.proofs.Among.{search-refused, pairs-refused, pairs-passed}
 use borrow.Author.Needs.{needs}
-use Rattle.search.proofs.ask_among.Statement.{statement}
-use Rattle.search.proofs.ask_among.Tie as tie
+use Rattle.questions.proofs.ask_among.Statement.{statement}
+use Rattle.questions.proofs.ask_among.Tie as tie
 
 -- The questions of a search have passed.
 module _ (c : tie.After-enum-told) where

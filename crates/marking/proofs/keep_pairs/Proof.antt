@@ -1,9 +1,9 @@
 -- `keep_pairs` meets its contract: the bytes before the place are masked, and the others are as they were. Assumes nothing.
 use Prim.Native.Nat.{_-_}
 use native.Mathlib.Omega.{arith}
-use Rattle.kinds.proofs.Masks.{Masking, mask-begin, mask-length, mask-next, mask-end}
-use Rattle.kinds.proofs.keep_pairs.Statement.{statement}
-use Rattle.kinds.proofs.keep_pairs.Tie as tie
+use Rattle.marking.proofs.Masks.{Masking, mask-begin, mask-length, mask-next, mask-end}
+use Rattle.marking.proofs.keep_pairs.Statement.{statement}
+use Rattle.marking.proofs.keep_pairs.Tie as tie
 
 abbrev Inv-loop : tie.InvT-loop
 Inv-loop pairs size scratch₀ place₀ scratch place = Masking size pairs scratch₀ place scratch

@@ -6,11 +6,11 @@ use Rattle.semigroups.specs.Tables.{product}
 use Rattle.semigroups.specs.Calls.{overwritten}
 use Rattle.semigroups.specs.Maps.{embeddings}
 use Rattle.semigroups.specs.Candidates.{candidate}
-use Rattle.kinds.specs.InnerMasks.{maskedBytes, clearsNothing}
-use Rattle.kinds.proofs.Masks.{masked-scratch}
+use Rattle.marking.specs.InnerMasks.{maskedBytes, clearsNothing}
+use Rattle.marking.proofs.Masks.{masked-scratch}
 use borrow.Author.Needs.{needs}
-use Rattle.kinds.proofs.mark_among.Statement.{statement}
-use Rattle.kinds.proofs.mark_among.Tie as tie
+use Rattle.marking.proofs.mark_among.Statement.{statement}
+use Rattle.marking.proofs.mark_among.Tie as tie
 
 mark-requires : tie.Need-mark-requires
 mark-requires c κs = search needs

@@ -20,7 +20,7 @@ use Rattle.semigroups.proofs.Packing.{bit-small}
 use Rattle.semigroups.proofs.Candidates.{byte-below, length-marks, are-marks, marks-exactly, marked-candidate}
 use Rattle.rows.specs.InnerRows as rows
 use Rattle.rows.proofs.Masks.{and-bit}
-use Rattle.kinds.specs.InnerMasks.{maskedBytes, clearsNothing}
+use Rattle.marking.specs.InnerMasks.{maskedBytes, clearsNothing}
 
 -- A bit of a masked byte is set where it is in both.
 and-bits : (a b r : ℕ) → eqb (bit (bitAnd a b) r) 1 ≡ (eqb (bit a r) 1 && eqb (bit b r) 1)

@@ -8,8 +8,8 @@ use Rattle.semigroups.specs.InnerSearch.{plainKind}
 use Rattle.semigroups.specs.Tables.{product}
 use Rattle.semigroups.specs.InnerCalls.{scratchAfter}
 use Rattle.semigroups.specs.Candidates.{candidate}
-use Rattle.kinds.proofs.mark.Statement.{statement}
-use Rattle.kinds.proofs.mark.Tie as tie
+use Rattle.marking.proofs.mark.Statement.{statement}
+use Rattle.marking.proofs.mark.Tie as tie
 
 -- Scratch with the marks of a kind.
 abbrev filled : tie.Start → Bool → List ℕ
