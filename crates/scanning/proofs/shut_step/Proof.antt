@@ -2,8 +2,8 @@
 use mathlib.Core.Path.{_∙_}
 use borrow.Author.Needs.{needs}
 use Rattle.sheets.proofs.Steps.{shut-quote, shut-other}
-use Rattle.names.proofs.shut_step.Statement.{statement}
-use Rattle.names.proofs.shut_step.Tie as tie
+use Rattle.scanning.proofs.shut_step.Statement.{statement}
+use Rattle.scanning.proofs.shut_step.Tie as tie
 
 returns : tie.Need-returns
 returns c = shut-quote _ _ (c .if1 .taken)

@@ -6,9 +6,9 @@ use native.Mathlib.Omega.{arith}
 use lib.ListN.{length}
 use Rattle.sheets.proofs.Scan.{Scanning, scan-first, scan-next, scan-dead, scan-sheet, scan-open}
 use Rattle.sheets.proofs.Places.{dead-same}
-use Rattle.names.specs.InnerReading.{stateOf}
-use Rattle.names.proofs.scan.Statement.{statement}
-use Rattle.names.proofs.scan.Tie as tie
+use Rattle.scanning.specs.InnerStates.{stateOf}
+use Rattle.scanning.proofs.scan.Statement.{statement}
+use Rattle.scanning.proofs.scan.Tie as tie
 
 abbrev Inv-loop : tie.InvT-loop
 Inv-loop text state₀ i₀ state i = Scanning text i (stateOf state)

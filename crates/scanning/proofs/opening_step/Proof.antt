@@ -3,8 +3,8 @@
 use mathlib.Core.Path.{_∙_}
 use borrow.Author.Needs.{needs}
 use Rattle.sheets.proofs.Steps.{opening-quote, opening-other}
-use Rattle.names.proofs.opening_step.Statement.{statement}
-use Rattle.names.proofs.opening_step.Tie as tie
+use Rattle.scanning.proofs.opening_step.Statement.{statement}
+use Rattle.scanning.proofs.opening_step.Tie as tie
 
 returns : tie.Need-returns
 returns c = opening-quote _ _ (c .if1 .taken)

@@ -3,8 +3,8 @@
 use mathlib.Core.Path.{sym, _∙_}
 use borrow.Author.Needs.{needs}
 use Rattle.sheets.proofs.Steps.{quoted-quote, quoted-byte, quoted-dead}
-use Rattle.names.proofs.quoted_step.Statement.{statement}
-use Rattle.names.proofs.quoted_step.Tie as tie
+use Rattle.scanning.proofs.quoted_step.Statement.{statement}
+use Rattle.scanning.proofs.quoted_step.Tie as tie
 
 returns : tie.Need-returns
 returns c = quoted-quote _ _ (c .if1 .taken)

@@ -1,8 +1,8 @@
 -- `after_field` takes the step after a field. Assumes nothing.
 use borrow.Author.Needs.{needs}
 use Rattle.sheets.proofs.Steps.{number-comma, number-other, name-cr, name-other}
-use Rattle.names.proofs.after_field.Statement.{statement}
-use Rattle.names.proofs.after_field.Tie as tie
+use Rattle.scanning.proofs.after_field.Statement.{statement}
+use Rattle.scanning.proofs.after_field.Tie as tie
 
 enum-told : tie.Need-enum-told
 enum-told c = search needs

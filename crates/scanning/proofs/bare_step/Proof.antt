@@ -2,8 +2,8 @@
 use mathlib.Core.Path.{sym, _∙_}
 use borrow.Author.Needs.{needs}
 use Rattle.sheets.proofs.Steps.{bare-data, bare-other}
-use Rattle.names.proofs.bare_step.Statement.{statement}
-use Rattle.names.proofs.bare_step.Tie as tie
+use Rattle.scanning.proofs.bare_step.Statement.{statement}
+use Rattle.scanning.proofs.bare_step.Tie as tie
 
 is-text-data-requires : tie.Need-is-text-data-requires
 is-text-data-requires c κs = search needs

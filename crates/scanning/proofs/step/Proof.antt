@@ -3,8 +3,8 @@
 use mathlib.Core.Path.{refl}
 use borrow.Author.Needs.{needs}
 use Rattle.sheets.specs.InnerAutomaton.{stateAfter}
-use Rattle.names.proofs.step.Statement.{statement}
-use Rattle.names.proofs.step.Tie as tie
+use Rattle.scanning.proofs.step.Statement.{statement}
+use Rattle.scanning.proofs.step.Tie as tie
 
 enum-known-state : tie.Need-enum-known-state
 enum-known-state c = search needs

@@ -3,8 +3,8 @@
 use mathlib.Core.Path.{_∙_}
 use borrow.Author.Needs.{needs}
 use Rattle.sheets.proofs.Steps.{data-quote, data-comma, data-other}
-use Rattle.names.proofs.is_text_data.Statement.{statement}
-use Rattle.names.proofs.is_text_data.Tie as tie
+use Rattle.scanning.proofs.is_text_data.Statement.{statement}
+use Rattle.scanning.proofs.is_text_data.Tie as tie
 
 is-printable-requires : tie.Need-is-printable-requires
 is-printable-requires c κs = search needs

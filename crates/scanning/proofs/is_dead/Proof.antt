@@ -3,8 +3,8 @@
 use mathlib.Core.Path.{refl}
 use borrow.Author.Needs.{needs}
 use Rattle.sheets.specs.InnerAutomaton.{isDead}
-use Rattle.names.proofs.is_dead.Statement.{statement}
-use Rattle.names.proofs.is_dead.Tie as tie
+use Rattle.scanning.proofs.is_dead.Statement.{statement}
+use Rattle.scanning.proofs.is_dead.Tie as tie
 
 enum-told : tie.Need-enum-told
 enum-told c = search needs

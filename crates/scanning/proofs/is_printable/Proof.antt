@@ -2,8 +2,8 @@
 -- Assumes nothing.
 use native.Mathlib.Omega.{arith}
 use Rattle.sheets.proofs.Steps.{printable-in, printable-low, printable-high}
-use Rattle.names.proofs.is_printable.Statement.{statement}
-use Rattle.names.proofs.is_printable.Tie as tie
+use Rattle.scanning.proofs.is_printable.Statement.{statement}
+use Rattle.scanning.proofs.is_printable.Tie as tie
 
 returns : tie.Need-returns
 returns c = printable-in _ (c .before .if1 .left) (let u = c .if2 .taken in omega arith)

@@ -3,8 +3,8 @@
 use mathlib.Core.Path.{refl}
 use borrow.Author.Needs.{needs}
 use Rattle.sheets.specs.InnerAutomaton.{accepting}
-use Rattle.names.proofs.is_name_part.Statement.{statement}
-use Rattle.names.proofs.is_name_part.Tie as tie
+use Rattle.scanning.proofs.is_name_part.Statement.{statement}
+use Rattle.scanning.proofs.is_name_part.Tie as tie
 
 enum-told : tie.Need-enum-told
 enum-told c = search needs

@@ -1,7 +1,7 @@
 -- `cr_step` takes the step after CR. Assumes nothing.
 use Rattle.sheets.proofs.Steps.{cr-lf, cr-other}
-use Rattle.names.proofs.cr_step.Statement.{statement}
-use Rattle.names.proofs.cr_step.Tie as tie
+use Rattle.scanning.proofs.cr_step.Statement.{statement}
+use Rattle.scanning.proofs.cr_step.Tie as tie
 
 returns : tie.Need-returns
 returns c = cr-lf _ (c .if1 .taken)

@@ -4,9 +4,9 @@ use mathlib.Core.Path.{refl, _∙_}
 use borrow.Author.Needs.{needs}
 use Rattle.sheets.specs.InnerAutomaton.{accepting}
 use Rattle.sheets.proofs.Steps.{opening-ends, shut-ends}
-use Rattle.names.specs.InnerReading.{partOf}
-use Rattle.names.proofs.may_end.Statement.{statement}
-use Rattle.names.proofs.may_end.Tie as tie
+use Rattle.scanning.specs.InnerStates.{partOf}
+use Rattle.scanning.proofs.may_end.Statement.{statement}
+use Rattle.scanning.proofs.may_end.Tie as tie
 
 enum-known-state : tie.Need-enum-known-state
 enum-known-state c = search needs
