@@ -5,8 +5,8 @@ use Rattle.semigroups.specs.Lists.{range, elements, at, sum, count, earlier, li
 use Rattle.semigroups.specs.Tables.{grid}
 use Rattle.semigroups.specs.Maps.{after}
 use Rattle.semigroups.specs.Transformations.{transformations, transformationOrder, transformation, numberOf, transformationProduct, transformationCells}
-use Rattle.transformations.proofs.stored.degree_1.Statement.{statement}
-use Rattle.transformations.proofs.stored.degree_1.Tie as tie
+use Rattle.stored.proofs.degree_1.Statement.{statement}
+use Rattle.stored.proofs.degree_1.Tie as tie
 
 returns : tie.Need-returns
 unfolding range elements at sum count earlier lists grid after transformations transformationOrder transformation numberOf transformationProduct transformationCells flatMap
