@@ -1,4 +1,1 @@
-pub mod InnerLone
-pub mod InnerRows
 pub mod InnerState
-pub mod InnerTwins
