@@ -1,0 +1,2 @@
+pub mod InnerAmong
+pub mod InnerNext
