@@ -7,7 +7,7 @@ use lib.Dec.{eqb, leb}
 use lib.ListN.{length, getD}
 use Rattle.semigroups.specs.Lists.{elements, at, all, count}
 use Rattle.semigroups.specs.Tables.{Product}
-use Rattle.narrowing.specs.InnerRows.{pattern}
+use Rattle.propagation.specs.InnerRows.{pattern}
 
 -- Whether c and b form pattern k.
 abbrev pub forms : Product → ℕ → ℕ → ℕ → Bool

@@ -1,9 +1,10 @@
 -- What the contracts of the search with rows say of its state, a partial map with rows. Assumes nothing.
 use mathlib.Core.Path.{_≡_}
-use mathlib.Core.Bool.{Bool, true}
+use mathlib.Core.Bool.{Bool, true, _&&_, cond}
 use mathlib.Core.Option.{Option}
 use mathlib.Core.List.{List}
 use Prim.Native.Nat.{ℕ, _-_, _≤_, _<_}
+use lib.Dec.{leb}
 use lib.ListN.{length, take, drop, replicate}
 use Rattle.semigroups.specs.Lists.{at}
 use Rattle.semigroups.specs.Tables.{Product, Element}
@@ -13,7 +14,7 @@ use Rattle.semigroups.specs.Trials.{passes}
 use Rattle.semigroups.specs.InnerSearch.{Placed}
 use Rattle.backtrack.specs.InnerState.{bounded}
 use Rattle.rows.specs.InnerRows.{has, Only}
-use Rattle.narrowing.specs.InnerRows.{Begins, Images}
+use Rattle.propagation.specs.InnerRows.{Begins, Images}
 use Rattle.narrowing.specs.InnerTwins.{rises, earliestRising}
 use Rattle.narrowing.specs.declared.Partial.{Partial}
 
@@ -24,6 +25,14 @@ placedList p = take (p .len) (p .image)
 -- Whether a target element is left for a source element in the rows of a partial map.
 abbrev pub rowsIn : Partial → ℕ → ℕ → Bool
 rowsIn p = has (p .rows)
+
+-- Each of the first m rows has exactly those of its elements that are at most n and pass; the rows above m are as they were.
+abbrev pub KeepsExactly : ℕ → ℕ → (ℕ → ℕ → Bool) → (ℕ → ℕ → Bool) → (ℕ → ℕ → Bool) → Type 0
+KeepsExactly m n p old new = (c y : ℕ) → Element 120 c → Element 120 y → new c y ≡ (old c y && cond (leb c m) (leb y n && p c y) true)
+
+-- There is no image yet.
+abbrev pub Blank : List ℕ → Type 0
+Blank image = image ≡ replicate 120 0
 
 -- What a call must return.
 abbrev pub Due : Product → ℕ → Product → ℕ → List ℕ → List ℕ → (ℕ → ℕ → Bool) → Bool → Partial → Option (List ℕ)

@@ -1,4 +1,2 @@
-pub mod InnerLone
-pub mod InnerRows
 pub mod InnerState
 pub mod InnerTwins

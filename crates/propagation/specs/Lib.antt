@@ -1,0 +1,2 @@
+pub mod InnerLone
+pub mod InnerRows
