@@ -28,9 +28,9 @@ use judging::said::same_said;
 use judging::tally::Tally;
 use judging::tally::counted;
 use judging::tally::start;
+use kinds::Kind;
 use plain::Said;
 use plain::failed;
-use search::Kind;
 use tables::Numbered;
 
 // Order 120 is accepted, 121 is refused. Returns the tally.

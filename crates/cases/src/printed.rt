@@ -2,7 +2,7 @@
 // one can.
 ghost use mathlib.Core.Path.{_≡_};
 ghost use Prim.Native.Nat.{_≤_};
-ghost use Rattle.search.specs.Answers.{kindOf};
+ghost use Rattle.kinds.specs.Answers.{kindOf};
 ghost use Rattle.judging.specs.InnerTally.{empty, agreed};
 ghost use Rattle.cases.specs.InnerPrinted.{toldTally};
 use crate::limits::same_bytes;
@@ -13,7 +13,7 @@ use comparisons::said::said_number;
 use judging::tally::Tally;
 use judging::tally::counted;
 use judging::tally::start;
-use search::Kind;
+use kinds::Kind;
 
 // Makes one call on a map buffer of m bytes, the start of `before`, and compares what it answers and the map buffer afterwards with `said` and `after`.
 // Returns the tally.

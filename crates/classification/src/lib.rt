@@ -17,11 +17,11 @@ ghost use Rattle.classification.specs.Held.{noteFrom, notesFrom, notesIn
 ghost use Rattle.classification.specs.InnerHeld.{totalText};
 use files::failed_question;
 use files::load_then_check;
+use kinds::Kind;
 use lines::put_break;
 use lines::put_field;
 use lines::put_fields;
 use lines::put_record;
-use search::Kind;
 use tables::Numbered;
 use tables::limits::CELLS;
 use tables::limits::ORDER;
@@ -64,7 +64,7 @@ fn isomorphic(source: &[u8], m: usize, target: &[u8], n: usize) -> bool
 {
     let mut map = [0u8; ORDER];
     let mut scratch = [0u8; SCRATCH];
-    search::find(
+    kinds::find(
         Kind::Isomorphisms,
         false,
         source,

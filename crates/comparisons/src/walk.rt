@@ -7,15 +7,15 @@ ghost use lib.Dec.{eqb};
 ghost use lib.ListN.{length, drop};
 ghost use Rattle.semigroups.specs.InnerSearch.{plainKind};
 ghost use Rattle.semigroups.specs.Tables.{Accepted};
-ghost use Rattle.search.specs.Answers.{kindOf as searchKindOf};
+ghost use Rattle.kinds.specs.Answers.{kindOf as searchKindOf};
 ghost use Rattle.comparisons.specs.InnerSaid.{saidNumber};
 ghost use Rattle.judging.specs.InnerTally.{agreed};
 ghost use Rattle.comparisons.specs.InnerWalking.{walkCall, walkCalls};
 use crate::said::said_number;
 use judging::tally::Tally;
 use judging::tally::counted;
+use kinds::Kind;
 use plain::next_map;
-use search::Kind;
 use search::search;
 
 // Returns the kind of maps: isomorphisms or embeddings.

@@ -1,3 +1,4 @@
 pub mod Constraints
 pub mod Placing
 pub mod Noting
+pub mod Images

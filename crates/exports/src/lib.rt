@@ -19,22 +19,19 @@ ghost use Rattle.csv.specs.Calls.{loadAnswer, cellsAfter, saveAnswer, textAfter
 ghost use Rattle.numbers.specs.Numbers.{questionWords, answerWords, indexPeriodValues, profileValues, checkedValues, soughtValues, limitedValues, numberValues, degreeValues, copiesValues};
 ghost use Rattle.numbers.specs.Returned.{wordsOf};
 ghost use Rattle.planning.specs.Calls.{degreeSays, positionsAfter};
-ghost use Rattle.planning.specs.Answers.{degreeAnswerSays};
 ghost use Rattle.sheets.specs.Readings.{Reading};
 ghost use Rattle.sheets.specs.Calls.{loadNamesAnswer, namesAfter, lengthsAfter, saveNamesAnswer, sheetAfter};
-use planning::DegreeAnswer;
-use search::Kind;
+use kinds::Kind;
 use words::copies_words;
+use words::degree_words;
 use words::generators_words;
 use words::index_period_words;
 use words::limited_words;
 use words::map_words;
 use words::numbered_words;
 use words::profile_words;
-use words::refusal_words;
 use words::search_words;
 use words::verdict_words;
-use words::words;
 
 // ---- tables and elements
 
@@ -380,17 +377,6 @@ pub extern "C" fn tickdrizzle_first_reversed_isomorphism_within(
 }
 
 // ---- the fewest rest positions
-
-// Returns the sixteen numbers of an answer about the least degree.
-fn degree_words(said: DegreeAnswer) -> [u64; 16]
-    ensures answer { λ r. ⌜ r ≡ answerWords degreeValues (degreeAnswerSays said) ⌝ }
-{
-    match said {
-        DegreeAnswer::Degree(degree) => words(0, 0, &[degree]),
-        DegreeAnswer::Nothing => words(0, 0, &[0]),
-        DegreeAnswer::Refused(no) => refusal_words(no.refusal()),
-    }
-}
 
 // Writes for each element in turn its landing positions under the first embedding in the table of the least degree that holds one, to the start of
 // `positions`. Value: that degree, or 0 for none of 1 to 3.

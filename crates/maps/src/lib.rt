@@ -17,8 +17,6 @@ ghost use Rattle.semigroups.specs.Calls.{gives};
 ghost use Rattle.maps.specs.Calls.{mapCheck};
 ghost use Rattle.maps.specs.Answers.{mapAnswerSays, pairOption};
 
-pub mod exchanges;
-
 // What the map check answers.
 pub enum MapAnswer {
     // One of questions 1 to 4 about a table fails, or question 5.

@@ -1,7 +1,7 @@
 -- The results of the functions that read and judge. They serve the proofs; no contract of an entry point cites them. Assumes nothing.
 use mathlib.Core.Path.{_≡_}
 use mathlib.Core.List.{List, flatten}
-use mathlib.Core.Option.{Option, none, some}
+use mathlib.Core.Option.{none, some}
 use Prim.Native.Nat.{ℕ, _≤_}
 use lib.ListN.{length, take}
 use Rattle.semigroups.specs.Tables.{largestOrder}
@@ -12,37 +12,9 @@ use Rattle.sheets.specs.Readings.{rowsNames}
 use Rattle.sheets.specs.Names.{namesText, namesAt}
 use Rattle.sheets.specs.Questions.{rowsQuestions, namesQuestions}
 use Rattle.sheets.specs.InnerAutomaton as automaton
-use Rattle.names.specs.declared.Part.{Part}
-use Rattle.names.specs.declared.Part.the-variants.{Number, Name}
-use Rattle.names.specs.declared.State.{State}
-use Rattle.names.specs.declared.State.the-variants.{Opening, Bare, Quoted, Shut, Cr, Line, Dead}
-use Rattle.names.specs.declared.Form.{Form}
-use Rattle.names.specs.declared.Form.the-variants.{Sheet, Offends}
 use Rattle.names.specs.declared.Value.{Value}
 use Rattle.names.specs.declared.Judged.{Judged}
 use Rattle.names.specs.declared.Judged.the-variants.{Passed, Failed}
-
--- ---- the automaton
-
--- The field of a record that a value of the code stands for.
-abbrev pub partOf : Part → automaton.Column
-partOf Number = automaton.number-part
-partOf Name = automaton.name-part
-
--- The state that a value of the code stands for.
-abbrev pub stateOf : State → automaton.State
-stateOf (Opening n) = automaton.opening (partOf n)
-stateOf (Bare n) = automaton.bare (partOf n)
-stateOf (Quoted n) = automaton.quoted (partOf n)
-stateOf (Shut n) = automaton.shut (partOf n)
-stateOf Cr = automaton.cr
-stateOf Line = automaton.line
-stateOf Dead = automaton.dead
-
--- The place of a text's first fault, or none.
-abbrev pub formPlace : Form → Option ℕ
-formPlace Sheet = none
-formPlace (Offends k) = some k
 
 -- ---- a field
 

@@ -20,8 +20,8 @@ use Rattle.semigroups.proofs.ListOrder.{earlier-skip, earlier-head, earlier-abo
 use Rattle.semigroups.proofs.Completions.{extensions, findExtension, find-entry, firstFrom, first-start, first-skip, first-hit, first-end}
 use Rattle.backtrack.specs.InnerState.{bounded}
 use Rattle.backtrack.proofs.Steps.{lowest, bound-itself}
-use Rattle.narrowing.specs.InnerTwins.{rises, isRising}
-use Rattle.narrowing.proofs.Rising.{no-rising, whole-rising}
+use Rattle.twins.specs.InnerTwins.{rises, isRising}
+use Rattle.twins.proofs.Rising.{no-rising, whole-rising}
 
 module _ (m : ℕ) (s : Product) (n : ℕ) (t : Product) (start relation : ℕ → ℕ → Bool) where
   abbrev want : Ask → List ℕ → Bool

@@ -15,7 +15,7 @@ use Rattle.semigroups.specs.InnerSearch.{Placed}
 use Rattle.backtrack.specs.InnerState.{bounded}
 use Rattle.rows.specs.InnerRows.{has, Only}
 use Rattle.propagation.specs.InnerRows.{Begins, Images}
-use Rattle.narrowing.specs.InnerTwins.{rises, earliestRising}
+use Rattle.twins.specs.InnerTwins.{rises, earliestRising}
 use Rattle.narrowing.specs.declared.Partial.{Partial}
 
 -- The list placed so far.

@@ -14,11 +14,11 @@ ghost use Rattle.output.specs.Program.{answerRecords, recueOutput};
 ghost use Rattle.output.specs.InnerLength.{longestOutput};
 use files::failed_question;
 use files::load_then_check;
+use kinds::Kind;
 use lines::put_break;
 use lines::put_field;
 use lines::put_number;
 use lines::put_record;
-use search::Kind;
 use tables::Numbered;
 use tables::limits::CELLS;
 use tables::limits::ORDER;
@@ -83,7 +83,7 @@ fn put_answer(out: &mut [u8; OUTPUT], source: &[u8], m: usize, target: &[u8], n:
 {
     let mut map = [0u8; ORDER];
     let mut scratch = [0u8; SCRATCH];
-    let found = search::find(
+    let found = kinds::find(
         Kind::Embeddings,
         false,
         source,

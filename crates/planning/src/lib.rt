@@ -15,7 +15,7 @@ ghost use Rattle.planning.specs.Degrees.{firstAt, leastFit, leastDegree,
 ghost use Rattle.planning.specs.InnerDegrees.{leastEmbedding};
 ghost use Rattle.planning.specs.Answers.{degreeAnswerSays};
 ghost use Rattle.planning.specs.Calls.{degreeSays, positionsAfter};
-use search::Kind;
+use kinds::Kind;
 use tables::No;
 use tables::Numbered;
 use tables::Verdict;
@@ -71,7 +71,7 @@ fn fits(cells: &[u8], m: usize, degree: usize, image: &mut [u8]) -> bool
     };
     let size = n * n;
     let mut scratch = [0u8; 729];
-    search::find(
+    kinds::find(
         Kind::Embeddings,
         false,
         cells,

@@ -2,51 +2,23 @@
 use mathlib.Core.Path.{_≡_, refl, sym, ap, ap₂, _∙_}
 use mathlib.Core.Bool.{Bool}
 use mathlib.Core.Logic.{_↔_}
-use mathlib.Core.List.{List, [], _∷_}
-use mathlib.Core.Option.{Option, none, some, orElse, Option·getD}
-use Prim.Native.Nat.{ℕ, _≤_, _<_}
-use borrow.Author.Tests.{lt-leb}
-use lib.Dec.{leb}
+use mathlib.Core.List.{List}
+use mathlib.Core.Option.{Option, none, some}
+use Prim.Native.Nat.{ℕ, _≤_}
 use lib.ListN.{length}
-use Rattle.semigroups.specs.Lists.{firstOf}
-use Rattle.semigroups.specs.Tables.{product, Accepted}
+use Rattle.semigroups.specs.Tables.{Accepted}
 use Rattle.semigroups.specs.Scratch.{scratchSize}
-use Rattle.semigroups.specs.Questions.{Question, ask, Refusal, searchQuestions, searchRefusal}
-use Rattle.semigroups.specs.QuestionsLaws.{no}
-use Rattle.semigroups.specs.PassingLaws.{SearchPasses}
+use Rattle.semigroups.specs.Questions.{Refusal}
 use Rattle.semigroups.specs.Calls.{refused, gives}
-use Rattle.semigroups.specs.InnerCalls.{scratchAfter}
-use Rattle.semigroups.specs.Maps.{Ask, sought}
-use Rattle.semigroups.proofs.Questions.{failed-before, passed-before}
-use Rattle.semigroups.proofs.Passing.{search-passes, room-asked, joined}
-use Rattle.search.specs.Answers.{soughtIf}
+use Rattle.semigroups.specs.Maps.{Ask}
+use Rattle.kinds.specs.Answers.{soughtIf}
 use Rattle.calls.specs.Calls.{Lent, called}
-use Rattle.calls.specs.Allowed.{allowedCandidate}
-use Rattle.calls.specs.Among.{amongRefusal, refusalAmong, answerAmong, callAmong}
-use Rattle.search.specs.InnerAmong.{leavingAmong, answeredAmong}
+use Rattle.calls.specs.Among.{refusalAmong, answerAmong, callAmong}
+use Rattle.kinds.specs.InnerAmong.{leavingAmong, answeredAmong}
+use Rattle.questions.proofs.Among.{passes-both}
 use Rattle.search.specs.AmongLaws.{PassesAmong}
 
 -- ---- the questions
-
-module _ (m : ℕ) (source : List ℕ) (n : ℕ) (target : List ℕ) (k l p : ℕ) where
-  abbrev last : List Question
-  last = ask 70 (leb (scratchSize m n) p) ∷ []
-
-  pub search-refused : (r : Refusal) → searchRefusal m source n target k l ≡ some r → amongRefusal m source n target k l p ≡ some r
-  unfolding amongRefusal searchRefusal
-  search-refused r e = failed-before (searchQuestions m source n target k l) last e
-
-  pub pairs-refused : searchRefusal m source n target k l ≡ none → p < scratchSize m n → amongRefusal m source n target k l p ≡ some (no 70 [])
-  unfolding amongRefusal searchRefusal firstOf orElse
-  pairs-refused e h = passed-before (searchQuestions m source n target k l) last e ∙ rw (lt-leb (scratchSize m n) p h)
-
-  -- No question fails exactly if none of a search does and the pairs are long enough.
-  passes-both : (amongRefusal m source n target k l p ≡ none) ↔ (SearchPasses m source n target k l × (scratchSize m n ≤ p))
-  unfolding amongRefusal searchRefusal
-  passes-both = joined (searchQuestions m source n target k l) last (search-passes m source n target k l) (room-asked 70 (scratchSize m n) p)
-
-  pub pairs-passed : searchRefusal m source n target k l ≡ none → scratchSize m n ≤ p → amongRefusal m source n target k l p ≡ none
-  pairs-passed e h = passes-both .1 (search-passes m source n target k l .0 e, h)
 
 pub among-passes : (pairs : List ℕ) (l : Lent) → (refusalAmong pairs l ≡ none) ↔ PassesAmong pairs l
 among-passes pairs l =
@@ -73,15 +45,6 @@ module _ (ask : Ask) (pairs : List ℕ) (l : Lent) where
   pub not-refused-among : refusalAmong pairs l ≡ none → (o : Option (List ℕ)) → answerAmong ask pairs l ≡ o → callAmong ask pairs l ≡ leavingAmong pairs l none o
   unfolding callAmong
   not-refused-among e o f = ap₂ (leavingAmong pairs l) e f
-
-  -- From what is said, the map and the marks, by the embedding asked for.
-  pub as-answered-among : (r : Bool) {bytes scratch : List ℕ} (o : Option (List ℕ)) → answerAmong ask pairs l ≡ o → soughtIf r ≡ sought o → bytes ≡ Option·getD o (l .mapBytes)
-      → scratch ≡ scratchAfter (l .m) (l .n) (allowedCandidate (l .m) (product (l .m) (l .source)) (l .n) (product (l .n) (l .target)) pairs) (l .scratch)
-      → called (gives (soughtIf r)) bytes scratch ≡ answeredAmong ask pairs l
-  unfolding answeredAmong scratchAfter
-  as-answered-among r {bytes = bytes} {scratch = scratch} o e f g h =
-      let made : called (gives (soughtIf r)) bytes scratch ≡ leavingAmong pairs l none o = cc in
-      made ∙ ap (leavingAmong pairs l none) (sym e)
 
   -- A call that no question refuses, from whether there is an embedding.
   pub passing-among : refusalAmong pairs l ≡ none → {bytes scratch : List ℕ} (r x : Bool) → r ≡ x → called (gives (soughtIf r)) bytes scratch ≡ answeredAmong ask pairs l

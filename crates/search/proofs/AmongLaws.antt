@@ -29,11 +29,12 @@ use Rattle.calls.specs.Calls.{Lent, Called, called, refusalOf, answerOf, marksO
 use Rattle.search.specs.WantedLaws.{Wanted}
 use Rattle.calls.specs.Allowed.{allows, allowed}
 use Rattle.calls.specs.Among.{refusalAmong, answerAmong, marksAmong, callAmong}
-use Rattle.search.specs.InnerAmong.{leavingAmong}
+use Rattle.kinds.specs.InnerAmong.{leavingAmong}
 use Rattle.search.specs.AmongLaws.{PassesAmong, Allows, WantedAmong, AllMarked, OnlyOf, Fewer, SamePairs, AmongLaws}
 use Rattle.search.proofs.Calls as calls
-use Rattle.search.proofs.Allowed.{allows-alike}
-use Rattle.search.proofs.Among.{search-refused, pairs-passed, among-passes, refused-among, not-refused-among}
+use Rattle.kinds.proofs.Allowed.{allows-alike}
+use Rattle.questions.proofs.Among.{search-refused, pairs-passed}
+use Rattle.search.proofs.Among.{among-passes, refused-among, not-refused-among}
 
 -- ---- the list of the allowed embeddings
 

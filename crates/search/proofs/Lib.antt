@@ -1,14 +1,7 @@
 pub mod Calls
-pub mod Works
-pub mod Turned
-pub mod Marked
-pub mod Searching
-pub mod Refusals
 pub mod Limited
 pub mod Limits
 pub mod Demand3
-pub mod Masks
-pub mod Allowed
 pub mod Among
 pub mod AmongLaws
 pub mod AmongExamples

@@ -11,13 +11,13 @@ use Rattle.semigroups.specs.Trials.{Work, Limited, stopped, ended, limited, fou
 use Rattle.semigroups.proofs.Trials.{limited-ends, limited-stops}
 use Rattle.backtrack.specs.declared.Outcome.{Outcome}
 use Rattle.backtrack.specs.InnerState.{within, outcomeOf}
-use Rattle.search.specs.declared.Limit.the-variants.{Trials}
+use Rattle.kinds.specs.declared.Limit.the-variants.{Trials}
 use Rattle.calls.specs.Calls.{Lent, Called, called, refusalOf, leaving, marksOf}
 use Rattle.calls.specs.Limited.{firstWork, limitedCall}
-use Rattle.search.specs.InnerSearching.{searched, workOf}
-use Rattle.search.proofs.Marked.{endedUnless, limited-says}
-use Rattle.search.proofs.Searching.{given}
-use Rattle.search.proofs.Works.{first-work}
+use Rattle.kinds.specs.InnerSearching.{searched, workOf}
+use Rattle.kinds.proofs.Marked.{endedUnless, limited-says}
+use Rattle.kinds.proofs.Searching.{given}
+use Rattle.kinds.proofs.Works.{first-work}
 
 module _ (kind : Kind) (limit : ℕ) (l : Lent) where
   -- A refused call says its refusal, and not one lent byte is changed.

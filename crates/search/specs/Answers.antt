@@ -1,46 +1,12 @@
--- What the answers of a search mean (RULES 7 and 9.4): the answer, and for each refusal the number, the side and the values. Assumes nothing.
-use mathlib.Core.Bool.{Bool, true, false}
-use mathlib.Core.List.{[]}
-use mathlib.Core.Option.{Option, none, some}
+-- What the answers of a search mean (RULES 7 and 9.4). Assumes nothing.
 use Rattle.semigroups.specs.Maps as maps
-use Rattle.semigroups.specs.Questions.{Refusal}
-use Rattle.semigroups.specs.QuestionsLaws.{no, naming}
 use Rattle.semigroups.specs.Calls.{Answer, refused, gives}
 use Rattle.semigroups.specs.Trials.{Limited, stopped, ended}
-use Rattle.tables.specs.Answers.{faultRefusal, sideNumber}
-use Rattle.search.specs.declared.Kind.{Kind}
-use Rattle.search.specs.declared.Kind.the-variants.{Embeddings, Isomorphisms, Reversed}
-use Rattle.search.specs.declared.SearchFault.{SearchFault}
-use Rattle.search.specs.declared.SearchFault.the-variants.{Table, MapLength, ScratchLength, PairsLength}
-use Rattle.search.specs.declared.Questions.{Questions}
-use Rattle.search.specs.declared.Questions.the-variants as questions
+use Rattle.questions.specs.Answers.{searchFaultRefusal}
 use Rattle.search.specs.declared.SearchAnswer.{SearchAnswer}
 use Rattle.search.specs.declared.SearchAnswer.the-variants as answer
 use Rattle.search.specs.declared.LimitedAnswer.{LimitedAnswer}
 use Rattle.search.specs.declared.LimitedAnswer.the-variants as limited
-
--- The kind of maps that a value of the code stands for.
-abbrev pub kindOf : Kind → maps.Kind
-kindOf Embeddings = maps.embeddings
-kindOf Isomorphisms = maps.isomorphisms
-kindOf Reversed = maps.reversed
-
--- The refusal of each fault. Questions 1 to 4 name their side and carry the cell or the triple; 5, 6 and 70 name no side and carry nothing.
-abbrev pub searchFaultRefusal : SearchFault → Refusal
-searchFaultRefusal (Table side fault) = naming (sideNumber side) (faultRefusal fault)
-searchFaultRefusal MapLength = no 5 []
-searchFaultRefusal ScratchLength = no 6 []
-searchFaultRefusal PairsLength = no 70 []
-
--- The refusal, if the questions did not pass.
-abbrev pub questionsRefusal : Questions → Option Refusal
-questionsRefusal questions.Passed = none
-questionsRefusal (questions.Failed fault) = some (searchFaultRefusal fault)
-
--- Found for true, none for false.
-abbrev pub soughtIf : Bool → maps.Sought
-soughtIf true = maps.found
-soughtIf false = maps.nothing
 
 -- What an answer of the code says.
 abbrev pub searchAnswerSays : SearchAnswer → Answer maps.Sought

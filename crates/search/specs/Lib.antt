@@ -2,9 +2,6 @@ pub mod Answers
 pub mod WantedLaws
 pub mod AmongLaws
 pub mod AmongExamples
-pub mod InnerAmong
-pub mod InnerMasks
-pub mod InnerSearching
 pub mod LimitsExamples
 pub mod LimitsLaws
 pub mod WalksLaws

@@ -1,4 +1,4 @@
-// The tables of all transformations of one to three points, stored. An invalid degree or a buffer that is too small is refused, and the buffer then keeps its
+// The tables of all transformations of one to three points, written to a lent buffer. An invalid degree or a buffer that is too small is refused, and the buffer then keeps its
 // bytes.
 ghost use mathlib.Core.Path.{_≡_};
 ghost use lib.ListN.{length};
@@ -8,8 +8,6 @@ ghost use Rattle.transformations.specs.Calls.{transformationSays, transf
 ghost use Rattle.transformations.specs.InnerQuestions.{roomRefusal};
 use tables::No;
 use tables::Numbered;
-
-pub mod stored;
 
 // Writes a table of order n to the start of `cells` and answers its order; or answers 9 if there is no room for it.
 fn put(n: usize, table: &[u8], cells: &mut [u8]) -> Numbered

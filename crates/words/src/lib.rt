@@ -9,14 +9,16 @@ ghost use Rattle.maps.specs.Answers.{mapAnswerSays};
 ghost use Rattle.generated.specs.Answers.{generatorsVerdictRefusal};
 ghost use Rattle.copies.specs.Answers.{copiesAnswerSays};
 ghost use Rattle.search.specs.Answers.{searchAnswerSays, limitedAnswerSays};
+ghost use Rattle.planning.specs.Answers.{degreeAnswerSays};
 ghost use Rattle.numbers.specs.Words.{words};
 ghost use Rattle.words.specs.Answers.{numbersWords};
-ghost use Rattle.numbers.specs.Numbers.{questionWords, answerWords, indexPeriodValues, profileValues, checkedValues, soughtValues, limitedValues, numberValues, copiesValues};
+ghost use Rattle.numbers.specs.Numbers.{questionWords, answerWords, indexPeriodValues, profileValues, checkedValues, soughtValues, limitedValues, numberValues, degreeValues, copiesValues};
 use copies::CopiesAnswer;
 use generated::GeneratorsVerdict;
 use invariants::IndexPeriodAnswer;
 use invariants::ProfileAnswer;
 use maps::MapAnswer;
+use planning::DegreeAnswer;
 use search::LimitedAnswer;
 use search::SearchAnswer;
 use tables::Numbered;
@@ -24,7 +26,7 @@ use tables::Refusal;
 use tables::Verdict;
 
 // Returns the number, the side and the values, then zeros.
-pub fn words(number: usize, side: usize, values: &[usize]) -> [u64; 16]
+fn words(number: usize, side: usize, values: &[usize]) -> [u64; 16]
     requires few { ⌜ length (now values) ≤ 14 ⌝ }
     ensures answer { λ r. ⌜ r ≡ words number side (now (values .entry)) ⌝ }
 {
@@ -40,7 +42,7 @@ pub fn words(number: usize, side: usize, values: &[usize]) -> [u64; 16]
 }
 
 // Returns the sixteen numbers of a refusal.
-pub fn refusal_words(refusal: Refusal) -> [u64; 16]
+fn refusal_words(refusal: Refusal) -> [u64; 16]
     ensures answer { λ r. ⌜ r ≡ numbersWords refusal ⌝ }
 {
     let values = [refusal.first, refusal.second, refusal.third];
@@ -160,5 +162,16 @@ pub fn copies_words(said: CopiesAnswer) -> [u64; 16]
         CopiesAnswer::More => words(0, 0, &[1]),
         CopiesAnswer::Refused(side, fault) => refusal_words(fault.refusal().naming(side)),
         CopiesAnswer::ScratchLength => refusal_words(Refusal::by(6, 0)),
+    }
+}
+
+// Returns the sixteen numbers of an answer about the least degree.
+pub fn degree_words(said: DegreeAnswer) -> [u64; 16]
+    ensures answer { λ r. ⌜ r ≡ answerWords degreeValues (degreeAnswerSays said) ⌝ }
+{
+    match said {
+        DegreeAnswer::Degree(degree) => words(0, 0, &[degree]),
+        DegreeAnswer::Nothing => words(0, 0, &[0]),
+        DegreeAnswer::Refused(no) => refusal_words(no.refusal()),
     }
 }

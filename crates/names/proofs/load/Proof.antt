@@ -12,7 +12,8 @@ use Rattle.sheets.specs.InnerAutomaton.{accepts}
 use Rattle.sheets.proofs.Soundness.{accepted-passes}
 use Rattle.sheets.proofs.Scan.{scanned-sheet, scanned-offence}
 use Rattle.sheets.proofs.Loading.{bad-form, bad-record, names-short, lengths-short, loads}
-use Rattle.names.specs.InnerReading.{formPlace, Judges}
+use Rattle.scanning.specs.InnerStates.{formPlace}
+use Rattle.names.specs.InnerReading.{Judges}
 use Rattle.names.proofs.load.Statement.{statement}
 use Rattle.names.proofs.load.Tie as tie
 

@@ -13,7 +13,7 @@ use Rattle.semigroups.proofs.Tables.{product-element}
 use Rattle.backtrack.specs.declared.Outcome.{Outcome}
 use Rattle.backtrack.proofs.Steps.{lowest}
 use Rattle.narrowing.specs.InnerState.{Due}
-use Rattle.narrowing.specs.InnerTwins.{sharesLater}
+use Rattle.twins.specs.InnerTwins.{sharesLater}
 use Rattle.narrowing.proofs.Extending.{Rest, Turn, Verdict, dead, done-bound, done-found, begins, ends, row-marked, shut, onward, fail, found}
 use Rattle.narrowing.proofs.extend.Reads as extend
 use Rattle.narrowing.proofs.extend.Kinds as extend-kinds

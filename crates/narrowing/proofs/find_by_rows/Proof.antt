@@ -9,8 +9,8 @@ use Rattle.semigroups.proofs.Booleans.{clash}
 use Rattle.semigroups.proofs.Tables.{product-element}
 use Rattle.backtrack.specs.InnerState.{foundIn}
 use Rattle.rows.proofs.Room.{roomy-kept}
-use Rattle.narrowing.specs.InnerTwins.{sharesLater}
-use Rattle.narrowing.proofs.Rising.{shares-later}
+use Rattle.twins.specs.InnerTwins.{sharesLater}
+use Rattle.twins.proofs.Rising.{shares-later}
 use Rattle.narrowing.proofs.Extending.{start as begin, all-found, nowhere}
 use Rattle.narrowing.proofs.find_by_rows.Statement.{statement}
 use Rattle.narrowing.proofs.find_by_rows.Tie as tie

@@ -2,7 +2,8 @@
 use mathlib.Core.Path.{_≡_, refl, sym, ap, _∙_}
 use mathlib.Core.Bool.{true, false}
 use mathlib.Core.Option.{none}
-use Rattle.search.specs.Answers.{kindOf, questionsRefusal}
+use Rattle.kinds.specs.Answers.{kindOf}
+use Rattle.questions.specs.Answers.{questionsRefusal}
 use Rattle.calls.specs.Calls.{Lent, lend, refusalOf}
 use Rattle.search.proofs.Calls.{stands}
 use Rattle.search.proofs.Limited.{refused-unchanged, left-within, as-limited}

@@ -1,7 +1,8 @@
 -- `search` meets its contract: a failed question changes no byte; once every question has passed, the call finds the map asked for. Assumes nothing.
 use mathlib.Core.Path.{_≡_, sym, ap, _∙_}
 use mathlib.Core.Option.{none}
-use Rattle.search.specs.Answers.{kindOf, questionsRefusal}
+use Rattle.kinds.specs.Answers.{kindOf}
+use Rattle.questions.specs.Answers.{questionsRefusal}
 use Rattle.calls.specs.Calls.{Lent, lend, refusalOf}
 use Rattle.search.proofs.Calls.{stands, refused-unchanged, passing}
 use borrow.Author.Needs.{needs}

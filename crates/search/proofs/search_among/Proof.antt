@@ -5,7 +5,7 @@ use denote.Ref.{now}
 use borrow.Author.Tests.{not-true, not-false}
 use Rattle.calls.specs.Calls.{Lent, lend}
 use Rattle.calls.specs.Among.{refusalAmong}
-use Rattle.search.specs.Answers.{questionsRefusal}
+use Rattle.questions.specs.Answers.{questionsRefusal}
 use Rattle.search.proofs.Among.{stands-among, refused-among, passing-among}
 use borrow.Author.Needs.{needs}
 use Rattle.search.proofs.search_among.Statement.{statement}

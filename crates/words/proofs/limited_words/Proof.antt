@@ -1,6 +1,6 @@
 -- `limited_words` meets its contract: 1 for found and 0 for nothing, with the trials, 2 for stopped, or the failed question. Assumes nothing.
-use Rattle.search.specs.Answers.{searchFaultRefusal}
-use Rattle.search.proofs.Refusals.{search-fault-brief}
+use Rattle.questions.specs.Answers.{searchFaultRefusal}
+use Rattle.questions.proofs.Refusals.{search-fault-brief}
 use Rattle.words.proofs.Values.{refusal-said}
 use borrow.Author.Needs.{needs}
 use Rattle.words.proofs.limited_words.Statement.{statement}

@@ -1,6 +1,6 @@
 -- `search_words` meets its contract: 1 for found, 0 for nothing, or the failed question. Assumes nothing.
-use Rattle.search.specs.Answers.{searchFaultRefusal}
-use Rattle.search.proofs.Refusals.{search-fault-brief}
+use Rattle.questions.specs.Answers.{searchFaultRefusal}
+use Rattle.questions.proofs.Refusals.{search-fault-brief}
 use Rattle.words.proofs.Values.{refusal-said}
 use borrow.Author.Needs.{needs}
 use Rattle.words.proofs.search_words.Statement.{statement}

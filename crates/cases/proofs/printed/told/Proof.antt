@@ -9,7 +9,7 @@ use lib.Seq.{length-take-le, length-front}
 use Rattle.comparisons.specs.InnerSaid.{saidNumber}
 use Rattle.judging.specs.InnerTally.{counted}
 use Rattle.cases.proofs.Bytes.{same-left}
-use Rattle.search.proofs.Calls.{parts}
+use Rattle.kinds.proofs.Searching.{parts}
 use borrow.Author.Needs.{needs}
 use Rattle.cases.proofs.printed.told.Statement.{statement}
 use Rattle.cases.proofs.printed.told.Tie as tie

@@ -6,8 +6,8 @@ use Prim.Native.Nat.{ℕ, _+_, _-_, _≤_}
 use native.Mathlib.Omega.{arith}
 use Rattle.rows.specs.InnerRows.{has, Shrinks}
 use Rattle.rows.proofs.Rows.{shrinks-none, shrinks-more}
-use Rattle.narrowing.specs.InnerTwins.{sharesLater, Lifted}
-use Rattle.narrowing.proofs.Lifting.{lifted-raised, lifted-same, lifted-none}
+use Rattle.twins.specs.InnerTwins.{sharesLater, Lifted}
+use Rattle.twins.proofs.Lifting.{lifted-raised, lifted-same, lifted-none}
 use Rattle.narrowing.proofs.Partial.raised.Statement.{statement}
 use Rattle.narrowing.proofs.Partial.raised.Tie as tie
 

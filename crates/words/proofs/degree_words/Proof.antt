@@ -1,0 +1,63 @@
+-- `degree_words` meets its contract: the degree, 0 for none of these, or the failed question.
+-- Assumes nothing.
+use Rattle.tables.specs.Answers.{noRefusal}
+use Rattle.tables.proofs.Refusals.{no-brief}
+use Rattle.words.proofs.Values.{refusal-said}
+use borrow.Author.Needs.{needs}
+use Rattle.words.proofs.degree_words.Statement.{statement}
+use Rattle.words.proofs.degree_words.Tie as tie
+
+enum-known-said : tie.Need-enum-known-said
+enum-known-said c = search needs
+
+slice-aggregate-words : tie.Need-slice-aggregate-words
+slice-aggregate-words c = search needs
+
+words-requires : tie.Need-words-requires
+words-requires c κs = search needs
+
+enum-told : tie.Need-enum-told
+enum-told c = search needs
+
+slice-aggregate-words-2 : tie.Need-slice-aggregate-words-2
+slice-aggregate-words-2 c = search needs
+
+words-requires-2 : tie.Need-words-requires-2
+words-requires-2 c κs = search needs
+
+enum-known-said-2 : tie.Need-enum-known-said-2
+enum-known-said-2 c = search needs
+
+refusal-requires : tie.Need-refusal-requires
+refusal-requires c κs = search needs
+
+refusal-words-requires : tie.Need-refusal-words-requires
+refusal-words-requires c κs = search needs
+
+returns : tie.Need-returns
+returns c = rw (c .before .before .before .said .given .1) (c .words .ensures)
+
+returns-2 : tie.Need-returns-2
+returns-2 c = rw (c .before .before .enum-told .given .1) (c .words2 .ensures)
+
+returns-3 : tie.Need-returns-3
+returns-3 c =
+    let m = c .before .before .before .said2 .given in
+    rw (m .1) (refusal-said (noRefusal (m .0 .0)) (no-brief (m .0 .0)) (c .before .refusal .ensures) (c .refusal-words .ensures))
+
+pub degree-words-spec : {M : Type 1} → statement M
+degree-words-spec =
+    tie.close
+    (tie.spec
+    enum-known-said
+    slice-aggregate-words
+    words-requires
+    enum-told
+    slice-aggregate-words-2
+    words-requires-2
+    enum-known-said-2
+    refusal-requires
+    refusal-words-requires
+    returns
+    returns-2
+    returns-3)
