@@ -5,6 +5,7 @@ pub mod Raising
 pub mod Bounds
 pub mod Going
 pub mod Trying
+pub mod Trials
 pub mod Sending
 pub mod Existence
 pub mod Spending
