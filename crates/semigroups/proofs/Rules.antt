@@ -30,6 +30,7 @@ use Rattle.semigroups.proofs.NoRepeats.{elements-no-repeats}
 use Rattle.semigroups.proofs.ListOrder.{lists-increasing}
 use Rattle.semigroups.proofs.Sums.{count-map}
 use Rattle.semigroups.proofs.Tables.{accepted-closed, refused}
+use Rattle.semigroups.proofs.Questions.{number-listed}
 use Rattle.semigroups.proofs.IndexPeriod.{power-one, power-next, index-period, index-period-unique, index-period-bound}
 use Rattle.semigroups.proofs.Idempotents.{the-idempotent-power, idempotent-power-at}
 use Rattle.semigroups.proofs.Frequencies.{frequencies-sum, diagonal-frequencies-sum, frequency-cells}
@@ -207,7 +208,14 @@ transformation-rules d =
     }
 
 pub table-rules : TableRules
-table-rules = record { refused = refused; invariants-of = invariant-rules; maps-between = map-rules; transformation-tables = transformation-rules }
+table-rules =
+    record {
+      refused = refused;
+      number-listed = number-listed;
+      invariants-of = invariant-rules;
+      maps-between = map-rules;
+      transformation-tables = transformation-rules;
+    }
 
 -- ---- instances
 
