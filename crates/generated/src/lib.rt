@@ -6,7 +6,7 @@ ghost use mathlib.Core.Option.{Option·map};
 ghost use Prim.Native.Nat.{_*_, _≤_, _<_};
 ghost use lib.ListN.{length, take};
 ghost use Rattle.semigroups.specs.ListsLaws.{NoRepeats};
-ghost use Rattle.semigroups.specs.Tables.{largestOrder, Element, Filled, product};
+ghost use Rattle.semigroups.specs.Tables.{largestOrder, Filled, product};
 ghost use Rattle.semigroups.specs.QuestionsLaws.{no};
 ghost use Rattle.semigroups.specs.Calls.{overwritten};
 ghost use Rattle.semigroups.specs.GeneratedLaws.{Inside};

@@ -7,7 +7,7 @@ use native.Mathlib.Omega.{arith}
 use denote.Ref.{now}
 use lib.ListN.{length, take, set, length-set}
 use lib.Seq.{length-take-le}
-use Rattle.semigroups.specs.Tables.{Product, Element, product}
+use Rattle.semigroups.specs.Tables.{Product, product}
 use Rattle.semigroups.specs.Invariants.{frequency}
 use Rattle.semigroups.specs.GeneratedLaws.{LeftProduct}
 use Rattle.semigroups.proofs.Booleans.{clash}
