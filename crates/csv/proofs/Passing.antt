@@ -12,7 +12,7 @@ use borrow.Author.Tests.{eqb-true, eq-eqb, not-false}
 use Rattle.semigroups.specs.Lists.{range, all}
 use Rattle.semigroups.specs.Tables.{isElement}
 use Rattle.semigroups.specs.Questions.{ask, firstNo, cellsQuestions}
-use Rattle.semigroups.specs.QuestionsLaws.{cellsRefusal}
+use Rattle.semigroups.specs.InnerQuestions.{cellsRefusal}
 use Rattle.semigroups.proofs.Booleans.{both, and-left, and-right, or-holds, not-of-true}
 use Rattle.semigroups.proofs.Lists.{all-at, all-of, mem-range, range-mem, find-none, none-find}
 use Rattle.semigroups.proofs.Questions.{all-passed}

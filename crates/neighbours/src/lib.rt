@@ -5,7 +5,7 @@ ghost use mathlib.Core.Bool.{_&&_};
 ghost use mathlib.Core.List.{List};
 ghost use Prim.Native.Nat.{ℕ, _+_, _≤_};
 ghost use Rattle.semigroups.specs.Tables.{product, Element, Filled};
-ghost use Rattle.semigroups.specs.MapsLaws.{Embedding, Among};
+ghost use Rattle.semigroups.specs.InnerMaps.{Embedding, Among};
 ghost use Rattle.rows.specs.InnerRows.{inRow, has, word, packedRow};
 ghost use Rattle.neighbours.specs.InnerNeighbours.{Neighbours, noMore, enough, KeptByNeighbours};
 use rows::Row;

@@ -5,7 +5,7 @@ use mathlib.Core.Option.{none, orElse}
 use Prim.Native.Nat.{ℕ}
 use Rattle.semigroups.specs.Lists.{range, elements, at, all, find, firstOf, lists}
 use Rattle.semigroups.specs.Tables.{product, isElement, associates, badCell, badTriple}
-use Rattle.semigroups.specs.QuestionsLaws.{no}
+use Rattle.semigroups.specs.InnerQuestions.{no}
 use Rattle.csv.specs.Decimals.{isDigit, value, valueFrom}
 use Rattle.csv.specs.Records.{isBreak, onto, records, fields, rows, rowsText}
 use Rattle.csv.specs.Tables.{fieldsOf, orderOf, cellsOf}

@@ -14,8 +14,9 @@ use lib.ListN.{length}
 use Rattle.semigroups.specs.Lists.{elements, at, all, distinct, earlier, lists}
 use Rattle.semigroups.specs.ListsLaws.{Increasing, Earliest}
 use Rattle.semigroups.specs.Tables.{Product, Element, isElement, turned}
-use Rattle.semigroups.specs.TablesLaws.{IsList}
-use Rattle.semigroups.specs.MapsLaws.{Homomorphism, Embedding, Isomorphism, IsMap, ReversedIsomorphism}
+use Rattle.semigroups.specs.InnerTables.{IsList}
+use Rattle.semigroups.specs.MapsLaws.{Isomorphism, IsMap, ReversedIsomorphism}
+use Rattle.semigroups.specs.InnerMaps.{Homomorphism, Embedding}
 use Rattle.semigroups.specs.Maps.{isHomomorphism, isEmbedding, isIsomorphism, Kind, embeddings, isomorphisms, isMap, maps, Ask, first, beyond, earliest, reversed}
 use Rattle.semigroups.proofs.Booleans.{clash, same-truth, both, and-left, and-right}
 use Rattle.semigroups.proofs.Lists.{all-at, all-of, pairs-at, pairs-of, is-element, element-is, find-some, find-none, find-first, keep-same, mem-keep, keep-mem, sorted-keep}

@@ -11,13 +11,15 @@ use lib.Dec.{eqb}
 use lib.ListN.{length, getD, length-map}
 use lib.Seq.{ext-getD}
 use Rattle.semigroups.specs.Lists.{range, elements, at, find, keep, sum, count, least, lists}
-use Rattle.semigroups.specs.ListsLaws.{NoRepeats, IsCount}
+use Rattle.semigroups.specs.ListsLaws.{IsCount}
+use Rattle.semigroups.specs.InnerLists.{NoRepeats}
 use Rattle.semigroups.specs.Tables.{Product, product, turned, Element, Accepted, isElement}
 use Rattle.semigroups.specs.TablesLaws.{Closed}
 use Rattle.semigroups.specs.Invariants.{power, periodFrom, index, period, idempotentPower, indexPeriod, frequency, diagonalFrequency, rowFrequency, columnFrequency, commuting, IndexPeriod, Profile, profile, sameProfile, sameIndexPeriod}
 use Rattle.semigroups.specs.InvariantsLaws.{IsIdempotentPower, IsProfile}
 use Rattle.semigroups.specs.InvariantsExamples.{CommutingExamples}
-use Rattle.semigroups.specs.MapsLaws.{Embedding, Isomorphism, IsMap, Among}
+use Rattle.semigroups.specs.MapsLaws.{Isomorphism, IsMap}
+use Rattle.semigroups.specs.InnerMaps.{Embedding, Among}
 use Rattle.semigroups.specs.Maps.{Kind, embeddings, isomorphisms, reversed}
 use Rattle.semigroups.specs.MapCheck.{Checked, holds, wrongProduct, firstOutside, firstEqual, firstWrong, checkMap}
 use Rattle.semigroups.specs.MapCheckLaws.{IsChecked}

@@ -14,7 +14,7 @@ use lib.ListN.{length, length-append}
 use Rattle.semigroups.specs.Lists.{range, elements, at, all, member, earlier, lists}
 use Rattle.semigroups.specs.Tables.{Product, Element}
 use Rattle.semigroups.specs.TablesLaws.{Closed}
-use Rattle.semigroups.specs.MapsLaws.{Embedding, Among}
+use Rattle.semigroups.specs.InnerMaps.{Embedding, Among}
 use Rattle.semigroups.specs.Maps.{isEmbedding, embeddings, maps, Ask, first, next, beyond, earliest}
 use Rattle.semigroups.specs.Trials.{fits, passes}
 use Rattle.semigroups.specs.InnerTrials.{notBefore}

@@ -7,7 +7,7 @@ use mathlib.Core.Option.{Option, none, some}
 use Prim.Native.Nat.{ℕ, zero, suc}
 use lib.ListN.{length}
 use Rattle.semigroups.specs.Lists.{elements, at, all, firstOf, member}
-use Rattle.semigroups.specs.ListsLaws.{NoRepeats}
+use Rattle.semigroups.specs.InnerLists.{NoRepeats}
 use Rattle.semigroups.specs.Tables.{Product, Element}
 use Rattle.semigroups.specs.Maps.{isEmbedding, Kind, embeddings, isomorphisms, Ask, beyond}
 use Rattle.semigroups.specs.Trials.{passes}

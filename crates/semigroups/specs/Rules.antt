@@ -11,12 +11,13 @@ use lib.ListN.{length}
 use Rattle.semigroups.specs.Lists.{elements, at, sum, member}
 use Rattle.semigroups.specs.ListsLaws.{Increasing, Earliest}
 use Rattle.semigroups.specs.Tables.{product, Element, Accepted}
-use Rattle.semigroups.specs.TablesLaws.{IsList}
+use Rattle.semigroups.specs.InnerTables.{IsList}
 use Rattle.semigroups.specs.Questions.{Question, Refusal, firstNo, tableRefusal}
 use Rattle.semigroups.specs.QuestionsLaws.{numbers, Refused}
 use Rattle.semigroups.specs.Invariants.{power, index, period, idempotentPower, frequency, diagonalFrequency, Profile, profile}
 use Rattle.semigroups.specs.InvariantsLaws.{TheIdempotentPower, IsProfile}
-use Rattle.semigroups.specs.MapsLaws.{Embedding, Isomorphism, IsMap, Among}
+use Rattle.semigroups.specs.MapsLaws.{Isomorphism, IsMap}
+use Rattle.semigroups.specs.InnerMaps.{Embedding, Among}
 use Rattle.semigroups.specs.Maps.{Kind, maps, Ask, beyond, earliest}
 use Rattle.semigroups.specs.MapCheck.{Checked, checkMap}
 use Rattle.semigroups.specs.MapCheckLaws.{IsChecked}

@@ -8,7 +8,7 @@ use denote.Ref.{now}
 use lib.ListN.{length, take, getD}
 use lib.Seq.{getD-take}
 use Rattle.semigroups.specs.Tables.{Filled, product}
-use Rattle.semigroups.specs.GeneratedLaws.{Inside}
+use Rattle.semigroups.specs.InnerGenerated.{Inside}
 use Rattle.semigroups.proofs.NoRepeats.{place-mem}
 use Rattle.semigroups.proofs.Tables.{filled-closed}
 use Rattle.tables.specs.InnerFound.{Found}
