@@ -72,9 +72,10 @@ fn sweep_families(numbers: &mut Numbers) {
     sweep("cyclic groups in that of order 120", every.clone().map(cyclic_group), &cyclic_group(ORDER));
     sweep("unions of points in those of 6", (1..6).map(unions), &unions(6));
     sweep("elementary groups in that of rank 6", (1..6).map(elementary_group), &elementary_group(6));
-    let bands = |rows, columns| (1..=rows).flat_map(move |i| (1..=columns).map(move |j| rectangular_band(i, j)));
-    sweep("rectangular bands in that of 10 by 12", bands(10, 12), &rectangular_band(10, 12));
-    sweep("rectangular bands in that of 2 by 60", bands(2, 60), &rectangular_band(2, 60));
+    let bands = || (1..=10).flat_map(move |i| (1..=12).map(move |j| rectangular_band(i, j)));
+    sweep("rectangular bands in that of 10 by 12", bands(), &rectangular_band(10, 12));
+    let flat = [6, 12, 18, 24, 30, 36, 42, 48, 54, 58, 59].map(|columns| rectangular_band(2, columns));
+    sweep("rectangular bands of 2 rows in that of 2 by 60", flat.into_iter(), &rectangular_band(2, 60));
     let apart = |tables: Vec<Table>, numbers: &mut Numbers| -> Vec<Table> {
         tables.iter().map(|table| shuffled(table, numbers)).collect()
     };
@@ -82,7 +83,7 @@ fn sweep_families(numbers: &mut Numbers) {
         ("null tables in that of order 120, relabelled", every.clone().map(null).collect(), null(ORDER)),
         ("chains in that of order 120, relabelled", every.map(chain).collect(), chain(ORDER)),
         ("chains in that of order 100, relabelled", (1..100).map(chain).collect(), chain(100)),
-        ("rectangular bands in that of 10 by 12, relabelled", bands(10, 12).collect(), rectangular_band(10, 12)),
+        ("rectangular bands in that of 10 by 12, relabelled", bands().collect(), rectangular_band(10, 12)),
     ];
     for (name, sources, target) in shuffles {
         let target = shuffled(&target, numbers);
@@ -116,10 +117,6 @@ fn draw_pairs(pairs: u64, seed: u64, numbers: &mut Numbers) {
         };
         let source = shuffled(&source, numbers);
         let target = if numbers.below(2) == 0 { shuffled(&whole, numbers) } else { whole };
-        eprintln!("{number}: {kind} {} in {name} {}", source.order, target.order);
-        if std::env::var("DUMP") == Ok(number.to_string()) {
-            std::fs::write("/tmp/pair.bin", [&[source.order as u8, target.order as u8][..], &source.cells, &target.cells].concat()).unwrap();
-        }
         let counted = count(&source, &target);
         quick += u64::from(counted.time <= FAMILY_BAR);
         slow += u64::from(counted.time > PAIR_BAR);
@@ -134,7 +131,7 @@ fn draw_pairs(pairs: u64, seed: u64, numbers: &mut Numbers) {
             println!("{told}");
         }
         longest.push((counted.time, told));
-        longest.sort_by(|a, b| b.0.cmp(&a.0));
+        longest.sort_by_key(|(time, _)| std::cmp::Reverse(*time));
         longest.truncate(10);
     }
     println!("\n{pairs} random pairs, seed {seed}: {quick} within 0.25 s, {slow} above 1 s. The longest:");
