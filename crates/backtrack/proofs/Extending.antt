@@ -19,19 +19,20 @@ use Rattle.semigroups.proofs.Booleans.{and-left, and-right}
 use Rattle.semigroups.proofs.Candidates.{size-rows}
 use Rattle.backtrack.specs.declared.Partial.{Partial}
 use Rattle.backtrack.specs.declared.Outcome.{Outcome}
-use Rattle.backtrack.specs.InnerState.{prefix, Holds, Ready, foundIn, Remainder, exhausted, remaining, within, imagesIn, outcomeOf, bounded}
-use Rattle.constraints.specs.InnerTracking.{Tracks}
+use Rattle.backtrack.specs.InnerState.{prefix, Ready, foundIn, Remainder, exhausted, remaining, within, imagesIn, outcomeOf, bounded}
+use Rattle.constraints.specs.InnerTracking.{Placing, Tracks}
 use Rattle.constraints.proofs.Placing.{prefix-length, image-padded, used-image}
 use Rattle.backtrack.proofs.Limits.{resumed, within-nothing, within-skip, within-unpaid, within-paid, over-stopped, over-found, not-over}
 use Rattle.backtrack.proofs.Steps.{lowest, leftFrom, whole, begin, end, isOpen, tested, shut, opened, fails, goes, still-bound}
 
 -- Nothing placed.
-pub start : (s : Product) (m : ℕ) (t : Product) (n : ℕ) (scratch after : List ℕ) (tight : Bool) (p : Partial) → p .len ≡ 0 → Holds s n t p → scratchSize m n ≤ length scratch → length after ≡ m
-    → Ready s m t n scratch after tight p
+pub start : (s : Product) (m : ℕ) (t : Product) (n : ℕ) (scratch after : List ℕ) (tight : Bool) (free : List ℕ) (p : Partial) → p .len ≡ 0 → Placing n (p .image) (p .used) (p .len) → Tracks s t [] 0 0 free free
+    → scratchSize m n ≤ length scratch → length after ≡ m → Ready s m t n scratch after tight free free p
 unfolding passes all elements range
-start s m t n scratch after tight p e H space bound =
+start s m t n scratch after tight free p e P W space bound =
     record {
-      holds = H;
+      placing = P;
+      tracks = rw e W;
       within = omega arith;
       passed = rw e;
       space = space;
@@ -52,12 +53,12 @@ Ahead s m t n scratch after tight p = counted s t (marked n scratch) (bounded ti
 abbrev pub Rest : Product → ℕ → Product → ℕ → List ℕ → List ℕ → Bool → Partial → ℕ → Work
 Rest s m t n scratch after tight p x = leftFrom s t (marked n scratch) (bounded tight after) n (m - (p .len + 1)) (prefix p) x
 
-module _ (s : Product) (m : ℕ) (t : Product) (n : ℕ) (scratch after : List ℕ) (tight : Bool) (p : Partial) (Q : Ready s m t n scratch after tight p) where
+module _ (s : Product) (m : ℕ) (t : Product) (n : ℕ) (scratch after : List ℕ) (tight : Bool) (known held : List ℕ) (p : Partial) (Q : Ready s m t n scratch after tight known held p) where
   abbrev Whole : Work
   Whole = Ahead s m t n scratch after tight p
 
   long : length (prefix p) ≡ p .len
-  long = prefix-length n (p .image) (p .used) (p .len) (Q .holds .placing)
+  long = prefix-length n (p .image) (p .used) (p .len) (Q .placing)
 
   same : tight ≡ true → take (length (prefix p)) after ≡ prefix p
   same e = ap (λ (k : ℕ). take k after) long ∙ Q .same e
@@ -80,7 +81,7 @@ module _ (s : Product) (m : ℕ) (t : Product) (n : ℕ) (scratch after : List �
     done-found : m ≤ p .len → tight ≡ false → record { stopped = false; left = limit; ok = true; image = p .image } ≡ outcomeOf (within limit Whole)
     unfolding outcomeOf imagesIn
     done-found h e =
-        ap {B = Outcome} (λ (l : List ℕ). record { stopped = false; left = limit; ok = true; image = l }) (image-padded n (p .image) (p .used) (p .len) (Q .holds .placing))
+        ap {B = Outcome} (λ (l : List ℕ). record { stopped = false; left = limit; ok = true; image = l }) (image-padded n (p .image) (p .used) (p .len) (Q .placing))
         ∙ ap outcomeOf (sym (within-nothing limit (some (prefix p))) ∙ ap (within limit) (done h false e))
 
     pub done-whole : m ≤ p .len → record { stopped = false; left = limit; ok = not tight; image = cond tight (replicate 120 0) (p .image) } ≡ outcomeOf (within limit Whole)
@@ -113,8 +114,8 @@ module _ (s : Product) (m : ℕ) (t : Product) (n : ℕ) (scratch after : List �
     row-marked = let rows = size-rows m n (p .len + 1) (omega arith) in let space = Q .space in omega arith
 
 -- One turn of the loop: x is looked at with so many trials left, and o says whether it is open.
-pub record Turn (s : Product) (m : ℕ) (t : Product) (n : ℕ) (scratch after : List ℕ) (tight : Bool) (limit : ℕ) (p : Partial) (low left x : ℕ) (o : Bool) : Type 0 where
-  pub ready : Ready s m t n scratch after tight p
+pub record Turn (s : Product) (m : ℕ) (t : Product) (n : ℕ) (scratch after : List ℕ) (tight : Bool) (limit : ℕ) (known held : List ℕ) (p : Partial) (low left x : ℕ) (o : Bool) : Type 0 where
+  pub ready : Ready s m t n scratch after tight known held p
   pub closed : Closed m s
   pub orders : (m ≤ 120) × (n ≤ 120)
   pub room : p .len < m
@@ -124,46 +125,48 @@ pub record Turn (s : Product) (m : ℕ) (t : Product) (n : ℕ) (scratch after :
   pub opened : o ≡ (leb low x && (eqb (getD (p .used) x 0) 0 && marked n scratch (p .len + 1) x))
 
 -- What is told of x placed and tested, which gives b and hands q back.
-pub record Verdict (s t : Product) (p : Partial) (x : ℕ) (q : Partial) (b : Bool) : Type 0 where
+pub record Verdict (s : Product) (n : ℕ) (t : Product) (p : Partial) (x : ℕ) (q : Partial) (b : Bool) : Type 0 where
+  pub placing : Placing n (q .image) (q .used) (q .len)
   pub longer : prefix q ≡ prefix p ++ x ∷ []
+  pub before : take (p .len) (q .image) ≡ prefix p
   pub one-more : q .len ≡ p .len + 1
   pub says : b ≡ passes s t (prefix p ++ x ∷ [])
 
 -- The constraints as a map is handed on with one more image.
-pub handed-on : (s t : Product) (p q : Partial) → q .len ≡ p .len + 1 → take (p .len) (q .image) ≡ prefix p → q .forced ≡ p .forced → q .owner ≡ p .owner
-    → Tracks s t (prefix p) (p .len) 0 (p .forced) (p .owner) → Tracks s t (take (q .len - 1) (q .image)) (q .len - 1) 0 (q .forced) (q .owner)
-handed-on s t p q el ep ef eo W = let e : q .len - 1 ≡ p .len = omega arith in rw (e, ep, ef, eo) W
+pub handed-on : (s t : Product) (p q : Partial) → q .len ≡ p .len + 1 → take (p .len) (q .image) ≡ prefix p → (forced owner : List ℕ) → Tracks s t (prefix p) (p .len) 0 forced owner
+    → Tracks s t (take (q .len - 1) (q .image)) (q .len - 1) 0 forced owner
+handed-on s t p q el ep forced owner W = let e : q .len - 1 ≡ p .len = omega arith in rw (e, ep) W
 
 -- What was placed before x passes still.
 pub handed-passes : (s t : Product) (p q : Partial) → q .len ≡ p .len + 1 → take (p .len) (q .image) ≡ prefix p → passes s t (prefix p) ≡ true → passes s t (take (q .len - 1) (q .image)) ≡ true
 handed-passes s t p q el ep e = let k : q .len - 1 ≡ p .len = omega arith in rw (k, ep) e
 
-module _ {s : Product} {m : ℕ} {t : Product} {n : ℕ} {scratch after : List ℕ} {tight : Bool} {limit : ℕ} {p : Partial} {low left x : ℕ} {o : Bool} (T : Turn s m t n scratch after tight limit p low left x o) where
+module _ {s : Product} {m : ℕ} {t : Product} {n : ℕ} {scratch after : List ℕ} {tight : Bool} {limit : ℕ} {known held : List ℕ} {p : Partial} {low left x : ℕ} {o : Bool} (T : Turn s m t n scratch after tight limit known held p low left x o) where
   abbrev longer : List ℕ
   longer = prefix p ++ x ∷ []
 
   -- What the laws of one step ask for.
   abbrev kept : tight ≡ true → take (length (prefix p)) after ≡ prefix p
-  kept = same s m t n scratch after tight p (T .ready)
+  kept = same s m t n scratch after tight known held p (T .ready)
 
   abbrev shorter : length (prefix p) < length after
-  shorter = short s m t n scratch after tight p (T .ready) (T .room)
+  shorter = short s m t n scratch after tight known held p (T .ready) (T .room)
 
   abbrev d : ℕ
   d = m - (p .len + 1)
 
   -- What the code tests is whether x is open.
   low-here : low ≡ lowest tight after (length (prefix p))
-  low-here = T .bound ∙ ap (lowest tight after) (sym (long s m t n scratch after tight p (T .ready)))
+  low-here = T .bound ∙ ap (lowest tight after) (sym (long s m t n scratch after tight known held p (T .ready)))
 
   used-here : eqb (getD (p .used) x 0) 0 ≡ not (member x (prefix p))
-  used-here = used-image n (p .image) (p .used) (p .len) (T .ready .holds .placing) x (omega arith)
+  used-here = used-image n (p .image) (p .used) (p .len) (T .ready .placing) x (omega arith)
 
   open-is : o ≡ isOpen s t (marked n scratch) n after (prefix p) tight kept d shorter x (T .element .0)
   open-is =
       T .opened
       ∙ ap₂ _&&_ (ap (λ (k : ℕ). leb k x) low-here)
-      (ap₂ _&&_ used-here (ap (λ (k : ℕ). marked n scratch k x) (add-one (p .len) ∙ ap suc (sym (long s m t n scratch after tight p (T .ready))))))
+      (ap₂ _&&_ used-here (ap (λ (k : ℕ). marked n scratch k x) (add-one (p .len) ∙ ap suc (sym (long s m t n scratch after tight known held p (T .ready))))))
 
   -- The answer so far, and what is left of it after x.
   abbrev Answer : Remainder
@@ -204,22 +207,23 @@ module _ {s : Product} {m : ℕ} {t : Product} {n : ℕ} {scratch after : List �
           ∙ ap (λ (r : Remainder). resumed r (λ i. within i Following)) (within-nothing rest none)
 
       -- The test said whether the list passes, and it did.
-      module _ (q : Partial) (b : Bool) (v : Verdict s t p x q b) (passed : b ≡ true) where
+      module _ (q : Partial) (b : Bool) (v : Verdict s n t p x q b) (passed : b ≡ true) where
         pass : passes s t longer ≡ true
         pass = sym (v .says) ∙ passed
 
-        pub onward : Holds s n t q → Ready s m t n scratch after (eqb x low) q
-        onward H =
+        pub onward : (forced owner : List ℕ) → Tracks s t (prefix p) (p .len) 0 forced owner → Ready s m t n scratch after (eqb x low) forced owner q
+        onward forced owner W =
             let room = T .room in
             let l = v .one-more in
             record {
-              holds = H;
+              placing = v .placing;
+              tracks = handed-on s t p q (v .one-more) (v .before) forced owner W;
               within = omega arith;
               passed = ap (passes s t) (v .longer) ∙ pass;
               space = T .ready .space;
               bound = T .ready .bound;
               same = λ w.
-                  ap (λ (k : ℕ). take k after) (v .one-more ∙ add-one (p .len) ∙ ap suc (sym (long s m t n scratch after tight p (T .ready))))
+                  ap (λ (k : ℕ). take k after) (v .one-more ∙ add-one (p .len) ∙ ap suc (sym (long s m t n scratch after tight known held p (T .ready))))
                   ∙ still-bound after (prefix p) tight kept shorter x (T .element .0) (ap (eqb x) (sym low-here) ∙ w) ∙ sym (v .longer);
             }
 

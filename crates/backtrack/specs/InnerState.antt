@@ -23,11 +23,6 @@ firstTrials = 8000
 abbrev pub prefix : Partial → List ℕ
 prefix p = take (p .len) (p .image)
 
--- The state of a partial map fits its list: the images, the used elements and the constraints are those of the list placed.
-pub record Holds (s : Product) (n : ℕ) (t : Product) (p : Partial) : Type 0 where
-  pub placing : Placing n (p .image) (p .used) (p .len)
-  pub tracks : Tracks s t (prefix p) (p .len) 0 (p .forced) (p .owner)
-
 -- What becomes of the trials that a search may take: they are not enough; or this many are left, with what is found.
 pub data Remainder : Type 0 where
   exhausted : Remainder
@@ -56,9 +51,10 @@ abbrev pub bounded : Bool → List ℕ → Ask
 bounded true after = next after
 bounded false after = first
 
--- What holds whenever the search goes on from a partial map.
-pub record Ready (s : Product) (m : ℕ) (t : Product) (n : ℕ) (scratch after : List ℕ) (tight : Bool) (p : Partial) : Type 0 where
-  pub holds : Holds s n t p
+-- What holds whenever the search goes on from a partial map, with the constraints of its list without the newest element.
+pub record Ready (s : Product) (m : ℕ) (t : Product) (n : ℕ) (scratch after : List ℕ) (tight : Bool) (known held : List ℕ) (p : Partial) : Type 0 where
+  pub placing : Placing n (p .image) (p .used) (p .len)
+  pub tracks : Tracks s t (take (p .len - 1) (p .image)) (p .len - 1) 0 known held
   pub within : p .len ≤ m
   pub passed : passes s t (prefix p) ≡ true
   pub space : scratchSize m n ≤ length scratch

@@ -14,20 +14,18 @@ ghost use Rattle.semigroups.specs.Scratch.{scratchSize, marked};
 ghost use Rattle.semigroups.specs.Trials.{passes, work};
 ghost use Rattle.semigroups.specs.InnerTrials.{counted};
 ghost use Rattle.constraints.specs.InnerTracking.{Placing, Tracks};
-ghost use Rattle.backtrack.specs.InnerState.{prefix, Holds, Ready, bounded, exhausted, remaining, within, outcomeOf};
+ghost use Rattle.backtrack.specs.InnerState.{prefix, Ready, bounded, exhausted, remaining, within, outcomeOf};
 use tables::limits::ORDER;
 use tables::limits::PLACES;
 
 // How many trials a search without a limit makes before it takes rows. They end nearly every easy search.
 pub const FIRST_TRIALS: u32 = 8000;
 
-// The map placed so far. The image of element i is image[i - 1]; used[y] is 1 where y is an image. The constraints: forced[c] is the target element that the
-// placed pairs require as the image of source element c, and owner[y] is the source element for which they reserve target element y.
+// The map placed so far. The image of element i is image[i - 1]; used[y] is 1 where y is an image. The constraints, `forced` and `owner`, are no part of it:
+// each call of the search lends its own to the calls inside it, so that they are copied once and not with every map that is placed, tested and passed on.
 pub struct Partial {
     pub image: [u8; ORDER],
     pub used: [u8; PLACES],
-    pub forced: [u8; PLACES],
-    pub owner: [u8; PLACES],
     pub len: usize,
 }
 
@@ -71,24 +69,22 @@ impl Partial {
     // Returns the map with nothing placed.
     pub fn new() -> Self
         ensures empty { λ r. ⌜ r .len ≡ 0 ⌝ }
-        ensures holds { λ r. ⌜ ((s : Product) (n : ℕ) (t : Product) → Holds s n t r) ⌝ }
+        ensures placing { λ r. ⌜ ((n : ℕ) → Placing n (r .image) (r .used) (r .len)) ⌝ }
     {
         Partial {
             image: [0u8; ORDER],
             used: [0u8; PLACES],
-            forced: [0u8; PLACES],
-            owner: [0u8; PLACES],
             len: 0,
         }
     }
 
-    // Returns the map with x as the image of the next element; the constraints do not change.
-    pub fn place(self, n: usize, x: usize) -> Self
+    // Returns the map with x as the image of the next element.
+    fn place(self, n: usize, x: usize) -> Self
         requires { ⌜ Placing n (self .image) (self .used) (self .len) ⌝ }
         requires { ⌜ Element n x × (n ≤ largestOrder) × (self .len < largestOrder) × (member x (prefix self) ≡ false) ⌝ }
         ensures placing { λ r. ⌜ Placing n (r .image) (r .used) (r .len) ⌝ }
         ensures more { λ r. ⌜ (prefix r ≡ prefix self ++ x ∷ []) × (take (self .len) (r .image) ≡ prefix self) × (r .len ≡ self .len + 1) ⌝ }
-        ensures rest { λ r. ⌜ (r .forced ≡ self .forced) × (r .owner ≡ self .owner) × (r .image ≡ set (self .image) (self .len) x) ⌝ }
+        ensures image { λ r. ⌜ r .image ≡ set (self .image) (self .len) x ⌝ }
     {
         let at = self.len;
         let mut p = self;
@@ -98,57 +94,63 @@ impl Partial {
         p
     }
 
-    // Tests the newest element: returns whether the list placed passes, given that it passes without that element, and the map. If the list passes, the pairs of
-    // that element are noted in the constraints; if it does not, the map is handed back as it was.
-    pub fn test(self, source: &[u8], m: usize, target: &[u8], n: usize) -> Tested
+    // Tests the newest element: returns whether the list placed passes, given that it passes without that element, and the map as it was. The constraints are
+    // those of the list without that element.
+    fn test(
+        self,
+        source: &[u8],
+        m: usize,
+        target: &[u8],
+        n: usize,
+        forced: &[u8; PLACES],
+        owner: &[u8; PLACES],
+    ) -> Tested
         requires { ⌜ Filled m (now source) × Filled n (now target) ⌝ }
         requires { ⌜ Placing n (self .image) (self .used) (self .len) × Element m (self .len) ⌝ }
-        requires { ⌜ Tracks (product m (now source)) (product n (now target)) (take (self .len - 1) (self .image)) (self .len - 1) 0 (self .forced) (self .owner) × (passes (product m (now source)) (product n (now target)) (take (self .len - 1) (self .image)) ≡ true) ⌝ }
+        requires { ⌜ Tracks (product m (now source)) (product n (now target)) (take (self .len - 1) (self .image)) (self .len - 1) 0 (now forced) (now owner) × (passes (product m (now source)) (product n (now target)) (take (self .len - 1) (self .image)) ≡ true) ⌝ }
         ensures answer { λ r. ⌜ r .ok ≡ passes (product m (now (source .entry))) (product n (now (target .entry))) (prefix self) ⌝ }
-        ensures holds { λ r. ⌜ (r .ok ≡ true → Holds (product m (now (source .entry))) n (product n (now (target .entry))) (r .partial)) ⌝ }
-        ensures same { λ r. ⌜ (r .partial .image ≡ self .image) × (r .partial .len ≡ self .len) ⌝ }
-        ensures refused { λ r. ⌜ (r .ok ≡ false → r .partial ≡ self) ⌝ }
+        ensures same { λ r. ⌜ r .partial ≡ self ⌝ }
     {
-        let len = self.len;
-        let before = len - 1;
+        let before = self.len - 1;
         let x = self.image[before] as usize;
         let image = &self.image;
         let used = &self.used;
-        let forced = &self.forced;
-        let owner = &self.owner;
-        if !constraints::passes_with(source, m, target, n, image, used, forced, owner, before, x) {
-            return Tested {
-                ok: false,
-                partial: self,
-            };
-        }
-        let image = self.image;
-        let used = self.used;
-        let mut forced = self.forced;
-        let mut owner = self.owner;
-        constraints::note_newest(source, m, target, n, &image, &mut forced, &mut owner, len);
-        let partial = Partial {
+        let ok = constraints::passes_with(
+            source,
+            m,
+            target,
+            n,
             image,
             used,
             forced,
             owner,
-            len,
-        };
-        Tested { ok: true, partial }
+            before,
+            x,
+        );
+        Tested { ok, partial: self }
     }
 
-    // Returns whether the list placed passes with x as the image of the next element, and the map with it: placed and tested. It is a function of its own so
-    // that no call of the search keeps the map between the two steps, and copies of it are spared.
-    fn tried(self, source: &[u8], m: usize, target: &[u8], n: usize, x: usize) -> Tested
+    // Returns whether the list placed passes with x as the image of the next element, and the map with it: placed and tested. The constraints are those of the
+    // list placed.
+    pub fn tried(
+        self,
+        source: &[u8],
+        m: usize,
+        target: &[u8],
+        n: usize,
+        forced: &[u8; PLACES],
+        owner: &[u8; PLACES],
+        x: usize,
+    ) -> Tested
         requires { ⌜ Filled m (now source) × Filled n (now target) ⌝ }
-        requires { ⌜ Holds (product m (now source)) n (product n (now target)) self × (passes (product m (now source)) (product n (now target)) (prefix self) ≡ true) ⌝ }
+        requires { ⌜ Placing n (self .image) (self .used) (self .len) × Tracks (product m (now source)) (product n (now target)) (prefix self) (self .len) 0 (now forced) (now owner) × (passes (product m (now source)) (product n (now target)) (prefix self) ≡ true) ⌝ }
         requires { ⌜ Element n x × (self .len < m) × (member x (prefix self) ≡ false) ⌝ }
         ensures answer { λ r. ⌜ r .ok ≡ passes (product m (now (source .entry))) (product n (now (target .entry))) (prefix self ++ x ∷ []) ⌝ }
-        ensures more { λ r. ⌜ (prefix (r .partial) ≡ prefix self ++ x ∷ []) × (r .partial .len ≡ self .len + 1) ⌝ }
-        ensures holds { λ r. ⌜ (r .ok ≡ true → Holds (product m (now (source .entry))) n (product n (now (target .entry))) (r .partial)) ⌝ }
-        ensures refused { λ r. ⌜ (r .ok ≡ false → Placing n (r .partial .image) (r .partial .used) (r .partial .len) × (r .partial .forced ≡ self .forced) × (r .partial .owner ≡ self .owner)) ⌝ }
+        ensures placing { λ r. ⌜ Placing n (r .partial .image) (r .partial .used) (r .partial .len) ⌝ }
+        ensures more { λ r. ⌜ (prefix (r .partial) ≡ prefix self ++ x ∷ []) × (take (self .len) (r .partial .image) ≡ prefix self) × (r .partial .len ≡ self .len + 1) ⌝ }
+        ensures image { λ r. ⌜ r .partial .image ≡ set (self .image) (self .len) x ⌝ }
     {
-        self.place(n, x).test(source, m, target, n)
+        self.place(n, x).test(source, m, target, n, forced, owner)
     }
 }
 
@@ -197,7 +199,7 @@ fn pay(left: u32) -> Paid
 }
 
 // Returns the earliest map asked for that begins with what is placed, within `limit` trials. `tight` says that what is placed equals the beginning of
-// `after`, so that the rest must be later.
+// `after`, so that the rest must be later. The constraints lent are those of the list without its newest element, whose pairs are noted here.
 fn extend(
     source: &[u8],
     m: usize,
@@ -207,16 +209,21 @@ fn extend(
     after: &[u8],
     tight: bool,
     limit: u32,
+    known: &[u8; PLACES],
+    held: &[u8; PLACES],
     p: Partial,
 ) -> Outcome
     requires { ⌜ Filled m (now source) × Filled n (now target) ⌝ }
-    requires { ⌜ Ready (product m (now source)) m (product n (now target)) n (now scratch) (now after) tight p ⌝ }
+    requires { ⌜ Ready (product m (now source)) m (product n (now target)) n (now scratch) (now after) tight (now known) (now held) p ⌝ }
     ensures answer { λ r. ⌜ r ≡ outcomeOf (within limit (counted (product m (now (source .entry))) (product n (now (target .entry))) (marked n (now (scratch .entry))) (bounded tight (now (after .entry))) n (m - p .len) (prefix p))) ⌝ }
 {
     let at = p.len;
     if m <= at {
         return whole(tight, limit, p.image);
     }
+    let mut forced = *known;
+    let mut owner = *held;
+    constraints::note_newest(source, m, target, n, &p.image, &mut forced, &mut owner, at);
     let low: usize = if tight { after[at] as usize } else { 0 };
     let mut left: u32 = limit;
     let mut x: usize = 1;
@@ -230,13 +237,22 @@ fn extend(
             // Looking by reference first, in constant time, avoids copying the map for most images that do not fit. The test decides.
             let image = &p.image;
             let used = &p.used;
-            let forced = &p.forced;
-            let owner = &p.owner;
-            if constraints::may_pass(source, m, target, n, image, used, forced, owner, at, x) {
-                let q = p.tried(source, m, target, n, x);
+            if constraints::may_pass(source, m, target, n, image, used, &forced, &owner, at, x) {
+                let q = p.tried(source, m, target, n, &forced, &owner, x);
                 if q.ok {
-                    let same = x == low;
-                    let r = extend(source, m, target, n, scratch, after, same, left, q.partial);
+                    let r = extend(
+                        source,
+                        m,
+                        target,
+                        n,
+                        scratch,
+                        after,
+                        x == low,
+                        left,
+                        &forced,
+                        &owner,
+                        q.partial,
+                    );
                     if r.stopped {
                         return r;
                     }
@@ -268,6 +284,7 @@ pub fn find_within(
     requires { ⌜ (scratchSize m n ≤ length (now scratch)) × (length (now after) ≡ m) ⌝ }
     ensures answer { λ r. ⌜ r ≡ outcomeOf (within limit (counted (product m (now (source .entry))) (product n (now (target .entry))) (marked n (now (scratch .entry))) (bounded next (now (after .entry))) n m [])) ⌝ }
 {
+    let none = constraints::nothing();
     extend(
         source,
         m,
@@ -277,6 +294,8 @@ pub fn find_within(
         after,
         next,
         limit,
+        &none,
+        &none,
         Partial::new(),
     )
 }

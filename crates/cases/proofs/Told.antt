@@ -8,7 +8,7 @@ use lib.Dec.{eqb}
 use lib.ListN.{drop}
 use Rattle.semigroups.specs.Lists.{range, elements, at, all, find, keep, sum, count, member, distinct, earlier, lists, firstOf}
 use Rattle.semigroups.specs.Tables.{product, isElement, associates, badCell, badTriple}
-use Rattle.semigroups.specs.QuestionsLaws.{cellsRefusal, tablesRefusal}
+use Rattle.semigroups.specs.InnerQuestions.{cellsRefusal, tablesRefusal}
 use Rattle.semigroups.specs.Questions.{tableRefusal, checkRefusal, searchRefusal}
 use Rattle.semigroups.specs.Scratch.{scratchSize}
 use Rattle.semigroups.specs.Maps.{Kind, embeddings, isomorphisms, isHomomorphism, isEmbedding, isIsomorphism, maps, earliest}

@@ -48,29 +48,24 @@ fn told(
     counted(answered, same_bytes(&buffer, &after))
 }
 
-// Compares cases 6 to 9 and 13, which are about embeddings, and returns the tally.
-pub fn embeddings() -> Tally
-    ensures answer { λ r. ⌜ r ≡ agreed 20 empty ⌝ }
+// Case 6: swap in two has one embedding.
+fn swap_in_two(tally: Tally) -> Tally
+    ensures answer { λ r. ⌜ r ≡ agreed 4 tally ⌝ }
 {
-    let zeros = [0u8; 5];
-    let right = [1u8, 2, 1, 2];
-    let left = [1u8, 1, 2, 2];
-    let one = [1u8];
-    let kind = Kind::Embeddings;
     let a = told(
-        kind,
+        Kind::Embeddings,
         false,
         &SWAP,
         2,
         &TWO,
         4,
-        zeros,
+        [0; 5],
         100,
         [2, 3, 0, 0, 0],
-        start(),
+        tally,
     );
-    let b = told(
-        kind,
+    told(
+        Kind::Embeddings,
         true,
         &SWAP,
         2,
@@ -80,21 +75,28 @@ pub fn embeddings() -> Tally
         0,
         [2, 3, 0, 0, 0],
         a,
-    );
-    let c = told(
-        kind,
+    )
+}
+
+// Case 7: right in two has two embeddings.
+fn right_in_two(tally: Tally) -> Tally
+    ensures answer { λ r. ⌜ r ≡ agreed 6 tally ⌝ }
+{
+    let right = [1u8, 2, 1, 2];
+    let a = told(
+        Kind::Embeddings,
         false,
         &right,
         2,
         &TWO,
         4,
-        zeros,
+        [0; 5],
         100,
         [1, 4, 0, 0, 0],
-        b,
+        tally,
     );
-    let d = told(
-        kind,
+    let b = told(
+        Kind::Embeddings,
         true,
         &right,
         2,
@@ -103,10 +105,10 @@ pub fn embeddings() -> Tally
         [1, 4, 0, 0, 0],
         100,
         [4, 1, 0, 0, 0],
-        c,
+        a,
     );
-    let e = told(
-        kind,
+    told(
+        Kind::Embeddings,
         true,
         &right,
         2,
@@ -115,23 +117,29 @@ pub fn embeddings() -> Tally
         [4, 1, 0, 0, 0],
         0,
         [4, 1, 0, 0, 0],
-        d,
-    );
-    let f = told(kind, false, &left, 2, &TWO, 4, zeros, 0, zeros, e);
-    let g = told(
-        kind,
+        b,
+    )
+}
+
+// Case 9: one in two has three embeddings.
+fn one_in_two(tally: Tally) -> Tally
+    ensures answer { λ r. ⌜ r ≡ agreed 6 tally ⌝ }
+{
+    let one = [1u8];
+    let a = told(
+        Kind::Embeddings,
         false,
         &one,
         1,
         &TWO,
         4,
-        zeros,
+        [0; 5],
         100,
         [1, 0, 0, 0, 0],
-        f,
+        tally,
     );
-    let h = told(
-        kind,
+    let b = told(
+        Kind::Embeddings,
         true,
         &one,
         1,
@@ -140,10 +148,10 @@ pub fn embeddings() -> Tally
         [1, 0, 0, 0, 0],
         100,
         [2, 0, 0, 0, 0],
-        g,
+        a,
     );
-    let i = told(
-        kind,
+    told(
+        Kind::Embeddings,
         true,
         &one,
         1,
@@ -152,32 +160,60 @@ pub fn embeddings() -> Tally
         [2, 0, 0, 0, 0],
         100,
         [4, 0, 0, 0, 0],
-        h,
-    );
-    told(kind, false, &TWO, 4, &SWAP, 2, zeros, 0, zeros, i)
+        b,
+    )
 }
 
-// Compares cases 10 to 12, which are about isomorphisms, and returns the tally.
-pub fn isomorphisms() -> Tally
-    ensures answer { λ r. ⌜ r ≡ agreed 14 empty ⌝ }
+// Compares cases 6 to 9 and 13, which are about embeddings, and returns the tally.
+pub fn embeddings() -> Tally
+    ensures answer { λ r. ⌜ r ≡ agreed 20 empty ⌝ }
 {
-    let zeros = [0u8; 5];
-    let null = [1u8; 9];
-    let kind = Kind::Isomorphisms;
+    let left = [1u8, 1, 2, 2];
+    let a = one_in_two(right_in_two(swap_in_two(start())));
+    let b = told(
+        Kind::Embeddings,
+        false,
+        &left,
+        2,
+        &TWO,
+        4,
+        [0; 5],
+        0,
+        [0; 5],
+        a,
+    );
+    told(
+        Kind::Embeddings,
+        false,
+        &TWO,
+        4,
+        &SWAP,
+        2,
+        [0; 5],
+        0,
+        [0; 5],
+        b,
+    )
+}
+
+// Case 10: two has two isomorphisms onto itself.
+fn two_onto_two(tally: Tally) -> Tally
+    ensures answer { λ r. ⌜ r ≡ agreed 4 tally ⌝ }
+{
     let a = told(
-        kind,
+        Kind::Isomorphisms,
         false,
         &TWO,
         4,
         &TWO,
         4,
-        zeros,
+        [0; 5],
         100,
         [1, 2, 3, 4, 0],
-        start(),
+        tally,
     );
-    let b = told(
-        kind,
+    told(
+        Kind::Isomorphisms,
         true,
         &TWO,
         4,
@@ -187,21 +223,28 @@ pub fn isomorphisms() -> Tally
         100,
         [4, 2, 3, 1, 0],
         a,
-    );
-    let c = told(
-        kind,
+    )
+}
+
+// Case 11: null3 has two isomorphisms onto itself; the second is also the next one after bytes that are no map.
+fn null3_onto_null3(tally: Tally) -> Tally
+    ensures answer { λ r. ⌜ r ≡ agreed 6 tally ⌝ }
+{
+    let null = [1u8; 9];
+    let a = told(
+        Kind::Isomorphisms,
         false,
         &null,
         3,
         &null,
         3,
-        zeros,
+        [0; 5],
         100,
         [1, 2, 3, 0, 0],
-        b,
+        tally,
     );
-    let d = told(
-        kind,
+    let b = told(
+        Kind::Isomorphisms,
         true,
         &null,
         3,
@@ -210,10 +253,10 @@ pub fn isomorphisms() -> Tally
         [1, 2, 3, 0, 0],
         100,
         [1, 3, 2, 0, 0],
-        c,
+        a,
     );
-    let e = told(
-        kind,
+    told(
+        Kind::Isomorphisms,
         true,
         &null,
         3,
@@ -222,22 +265,28 @@ pub fn isomorphisms() -> Tally
         [1, 2, 200, 0, 0],
         100,
         [1, 3, 2, 0, 0],
-        d,
-    );
-    let f = told(
-        kind,
+        b,
+    )
+}
+
+// Case 12: mat5 has the identity alone.
+fn mat5_onto_mat5(tally: Tally) -> Tally
+    ensures answer { λ r. ⌜ r ≡ agreed 4 tally ⌝ }
+{
+    let a = told(
+        Kind::Isomorphisms,
         false,
         &MAT5,
         5,
         &MAT5,
         5,
-        zeros,
+        [0; 5],
         100,
         [1, 2, 3, 4, 5],
-        e,
+        tally,
     );
     told(
-        kind,
+        Kind::Isomorphisms,
         true,
         &MAT5,
         5,
@@ -246,6 +295,13 @@ pub fn isomorphisms() -> Tally
         [1, 2, 3, 4, 5],
         0,
         [1, 2, 3, 4, 5],
-        f,
+        a,
     )
+}
+
+// Compares cases 10 to 12, which are about isomorphisms, and returns the tally.
+pub fn isomorphisms() -> Tally
+    ensures answer { λ r. ⌜ r ≡ agreed 14 empty ⌝ }
+{
+    mat5_onto_mat5(null3_onto_null3(two_onto_two(start())))
 }

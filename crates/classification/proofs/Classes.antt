@@ -9,7 +9,7 @@ use native.Mathlib.Omega.{arith}
 use lib.Dec.{eqb}
 use lib.ListN.{length, getD, length-map}
 use Rattle.semigroups.specs.Lists.{range, elements, keep, sum, count, isSome}
-use Rattle.semigroups.specs.ListsLaws.{Sorted}
+use Rattle.semigroups.specs.InnerLists.{Sorted}
 use Rattle.semigroups.specs.Tables.{Element}
 use Rattle.semigroups.specs.Questions.{Refusal}
 use Rattle.semigroups.proofs.Lists.{length-elements, mem-elements, keep-agree}

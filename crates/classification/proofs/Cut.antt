@@ -6,7 +6,7 @@ use mathlib.Core.Option.{Option, none, some, Option·map}
 use Prim.Native.Nat.{ℕ, zero, suc, _-_}
 use lib.ListN.{length, getD, length-map}
 use Rattle.semigroups.specs.Lists.{elements}
-use Rattle.semigroups.specs.QuestionsLaws.{no}
+use Rattle.semigroups.specs.InnerQuestions.{no}
 use Rattle.semigroups.proofs.Booleans.{clash, same-truth}
 use Rattle.csv.specs.Tables.{orderOf}
 use Rattle.files.specs.Files.{fileRefusal, room}

@@ -9,7 +9,7 @@ use native.Mathlib.Omega.{arith}
 use borrow.Author.Tests.{eq-eqb, eqb-true}
 use lib.Dec.{eqb}
 use Rattle.semigroups.specs.Lists.{range, elements, keep, sum, count, least}
-use Rattle.semigroups.specs.ListsLaws.{Sorted, NoRepeats}
+use Rattle.semigroups.specs.InnerLists.{Sorted, NoRepeats}
 use Rattle.semigroups.specs.Tables.{Element}
 use Rattle.semigroups.proofs.Booleans.{both, and-left, and-right, at-most-or-above}
 use Rattle.semigroups.proofs.Lists.{mem-elements, elements-mem, mem-keep, keep-mem, sorted-keep, sorted-range, sorted-weaken, least-first}

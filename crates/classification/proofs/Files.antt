@@ -9,7 +9,8 @@ use Rattle.semigroups.specs.Lists.{isSome}
 use Rattle.semigroups.specs.Tables.{Product, product, Accepted}
 use Rattle.semigroups.specs.TablesLaws.{Closed}
 use Rattle.semigroups.specs.Questions.{Refusal}
-use Rattle.semigroups.specs.MapsLaws.{Embedding, Isomorphism, identity, inverse}
+use Rattle.semigroups.specs.MapsLaws.{Isomorphism, identity, inverse}
+use Rattle.semigroups.specs.InnerMaps.{Embedding}
 use Rattle.semigroups.specs.Maps.{isomorphisms, maps, first, earliest, after}
 use Rattle.semigroups.proofs.Booleans.{clash, both, and-left, and-right}
 use Rattle.semigroups.proofs.Tables as tables

@@ -19,9 +19,13 @@ use Rattle.lines.proofs.Lines.{written}
 use Rattle.lines.proofs.Records.{record-three, fields-length, line-more, line-short, line-written}
 use Rattle.classification.specs.Classes.{Note, refusedBy, inClass}
 use Rattle.classification.specs.Held.{notesFrom}
-use Rattle.classification.specs.InnerHeld.{totalLine, totalText}
-use Rattle.classification.specs.Output.{classWord, noteRecord, isIn, note, names, lowestFiles, members, totalRecord, noteRecords, totalRecords, notesText}
+use Rattle.classification.specs.InnerHeld.{totalText}
+use Rattle.classification.specs.Output.{classWord, noteRecord, isIn, note, names, lowestFiles, members, totalRecord, noteRecords, totalRecords, notesText, totalWord}
 use Rattle.classification.proofs.Held.{held, length-from, note-from, names-from}
+
+-- The record of the class that file a names, with this number of members.
+abbrev totalLine : ℕ → ℕ → List (List ℕ)
+totalLine a total = totalWord ∷ numeral a ∷ numeral total ∷ []
 
 -- ---- a record
 

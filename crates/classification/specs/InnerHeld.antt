@@ -1,15 +1,10 @@
 -- The total of one class, as the code writes it. No contract of an entry point cites this. Assumes nothing.
 use mathlib.Core.Bool.{cond}
-use mathlib.Core.List.{List, [], _∷_}
+use mathlib.Core.List.{List, []}
 use Prim.Native.Nat.{ℕ}
-use Rattle.csv.specs.Decimals.{numeral}
 use Rattle.csv.specs.Records.{lineText}
 use Rattle.classification.specs.Classes.{Note}
-use Rattle.classification.specs.Output.{totalWord, names, totalRecord}
-
--- The record of the class that file a names, with this number of members.
-abbrev pub totalLine : ℕ → ℕ → List (List ℕ)
-totalLine a total = totalWord ∷ numeral a ∷ numeral total ∷ []
+use Rattle.classification.specs.Output.{names, totalRecord}
 
 -- The text of the total of the class that file a names; it is empty if file a names no class.
 unfoldable pub totalText : List Note → ℕ → List ℕ

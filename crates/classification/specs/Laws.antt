@@ -9,7 +9,7 @@ use Prim.Native.Nat.{ℕ, _≤_, _<_}
 use lib.Dec.{eqb}
 use lib.ListN.{length}
 use Rattle.semigroups.specs.Lists.{elements, sum, count}
-use Rattle.semigroups.specs.ListsLaws.{Sorted}
+use Rattle.semigroups.specs.InnerLists.{Sorted}
 use Rattle.semigroups.specs.Tables.{product, Element}
 use Rattle.semigroups.specs.Questions.{Refusal}
 use Rattle.semigroups.specs.QuestionsLaws.{EarliestNo}

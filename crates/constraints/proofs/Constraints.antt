@@ -217,20 +217,18 @@ module _ (m : ℕ) (s t : Product) (closed : Closed m s) (f : List ℕ) (x : ℕ
 
 -- ---- a look at the newest element
 
-pub near-is : (s t : Product) (p : List ℕ) (k j : ℕ) → length p ≡ k + 1 → max 1 k ≡ j → nearFits s t p ≡ (fits s t p (k + 1) (k + 1) && cross (fits s t p) (k + 1) j)
+pub near-is : (s t : Product) (p : List ℕ) (k j : ℕ) → length p ≡ k + 1 → max 1 k ≡ j → nearFits s t p ≡ fits s t p j (k + 1)
 unfolding nearFits
 near-is s t p k j e h =
-    ap (λ (i : ℕ). fits s t p i i && cross (fits s t p) i (max 1 (i - 1))) e
-    ∙ ap (λ (i : ℕ). fits s t p (k + 1) (k + 1) && cross (fits s t p) (k + 1) i) (ap (max 1) (let q : k + 1 - 1 ≡ k = omega arith in q) ∙ h)
+    ap (λ (i : ℕ). fits s t p (max 1 (i - 1)) i) e ∙ ap (λ (i : ℕ). fits s t p i (k + 1)) (ap (max 1) (let q : k + 1 - 1 ≡ k = omega arith in q) ∙ h)
 
--- Where the new pairs fit, those of the look do.
+-- Where the new pairs fit, that of the look does.
 pub near-of-new : (s t : Product) (p : List ℕ) → 1 ≤ length p → newFits s t p ≡ true → nearFits s t p ≡ true
 unfolding nearFits newFits
 near-of-new s t p h e =
     let k = length p in
-    let at-j = each-at k (λ j. cross (fits s t p) k j) e in
-    both (fits s t p k k) (cross (fits s t p) k (max 1 (k - 1))) (and-left (fits s t p k k) (fits s t p k k) (at-j k (omega arith)))
-    (at-j (max 1 (k - 1)) (le-max-left 1 (k - 1), max-le h (omega arith)))
+    let j = max 1 (k - 1) in
+    and-left (fits s t p j k) (fits s t p k j) (each-at k (λ i. cross (fits s t p) k i) e j (le-max-left 1 (k - 1), max-le h (omega arith)))
 
 -- ---- the pairs of the newest element, one after another
 

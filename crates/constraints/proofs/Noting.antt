@@ -1,5 +1,5 @@
 -- The constraints as pairs are noted and an element is placed, and what they decide of the next image. Assumes nothing.
-use mathlib.Core.Path.{_≡_, sym, ap, ap₂, subst, _∙_}
+use mathlib.Core.Path.{_≡_, sym, ap, ap₂, subst, subst₂, _∙_}
 use mathlib.Core.Bool.{Bool, true, false, _&&_, and-true, and-assoc}
 use mathlib.Core.List.{List, [], _∷_, _++_}
 use Prim.Native.Nat.{ℕ, zero, suc, _+_, _-_, _≤_, _<_}
@@ -138,11 +138,12 @@ module _ (m : ℕ) (s : Product) (n : ℕ) (t : Product) (source : Closed m s) (
       let noted-both = subst (λ (i : ℕ). Tracks s t f (len - 1) j (askedAt (askedAt forced (s j i) (v j i)) (s i j) (v i j)) (askedAt (askedAt owner (v j i) (s j i)) (v i j) (s i j))) last both in
       rw (let z : j + 1 - 1 ≡ j = omega arith in z, gf, go, ef, eo, seen j len hj hl, seen len j hl hj) noted-both
 
-  -- All turns done.
-  pub turns-done : 1 ≤ len → (i : ℕ) → i ≡ len + 1 → (forced owner : List ℕ) → Tracks s t f (len - 1) (i - 1) forced owner → Tracks s t f len 0 forced owner
-  turns-done h i e forced owner W =
-      let last : suc (len - 1) ≡ len = omega arith in
-      subst (λ (k : ℕ). Tracks s t f k 0 forced owner) last (all-noted s t f (len - 1) forced owner (subst (λ (k : ℕ). Tracks s t f (len - 1) k forced owner) (let z : i - 1 ≡ suc (len - 1) = omega arith in z) W))
+-- All turns done. Where nothing is placed, there was none.
+pub turns-done : (s t : Product) (f : List ℕ) (len i : ℕ) → i ≡ len + 1 → (forced owner : List ℕ) → Tracks s t f (len - 1) (i - 1) forced owner → Tracks s t f len 0 forced owner
+turns-done s t f zero i e forced owner W = subst (λ (k : ℕ). Tracks s t f 0 k forced owner) (let z : i - 1 ≡ 0 = omega arith in z) W
+turns-done s t f (suc len) i e forced owner W =
+    all-noted s t f len forced owner
+    (subst₂ (λ (k l : ℕ). Tracks s t f k l forced owner) (let z : suc len - 1 ≡ len = omega arith in z) (let z : i - 1 ≡ suc len = omega arith in z) W)
 
 -- ---- what is placed, and x as the next image
 
@@ -181,12 +182,14 @@ module _ (m : ℕ) (s t : Product) (closed : Closed m s) (f : List ℕ) (len : �
         let l = length-snoc f x in
         clash (both allowed (nearFits s t g) (and-left allowed (newFits s t g) holds) (near-of-new s t g (omega arith) (and-right allowed (newFits s t g) holds))) e)
 
--- The newest element placed, and no pair of it noted yet.
-pub newest-tracks : (m : ℕ) (s : Product) (n : ℕ) (t : Product) → Closed m s → (image used : List ℕ) (len : ℕ) → Placing n image used len → Element m len → (forced owner : List ℕ)
+-- The newest element placed, if any, and no pair of it noted yet.
+pub newest-tracks : (m : ℕ) (s : Product) (n : ℕ) (t : Product) → Closed m s → (image used : List ℕ) (len : ℕ) → Placing n image used len → len ≤ m → (forced owner : List ℕ)
     → Tracks s t (take (len - 1) image) (len - 1) 0 forced owner → Tracks s t (take len image) (len - 1) 0 forced owner
-newest-tracks m s n t closed image used len P h forced owner W =
+newest-tracks m s n t closed image used zero P h forced owner W = W
+newest-tracks m s n t closed image used (suc k) P h forced owner W =
     let l = P .long in
-    let k = P .fit in
+    let fit = P .fit in
+    let len = suc k in
     let x = getD image (len - 1) 0 in
-    subst (λ (f : List ℕ). Tracks s t f (len - 1) 0 forced owner) (newest-prefix n image used len P (h .0))
+    subst (λ (f : List ℕ). Tracks s t f (len - 1) 0 forced owner) (newest-prefix n image used len P (omega arith))
     (next-tracks m s t closed (take (len - 1) image) (len - 1) (length-take-le (len - 1) image (omega arith)) (omega arith) x forced owner W)

@@ -43,9 +43,9 @@ cross p k j = p j k && p k j
 unfoldable pub newFits : Product → Product → List ℕ → Bool
 newFits s t p = all (λ j. cross (fits s t p) (length p) j) (elements (length p))
 
--- The pairs of the newest element of p with itself and with the one before it fit; a first element has only itself.
+-- The newest element of p and the one before it fit as a pair; a first element has only itself.
 unfoldable pub nearFits : Product → Product → List ℕ → Bool
-nearFits s t p = fits s t p (length p) (length p) && cross (fits s t p) (length p) (max 1 (length p - 1))
+nearFits s t p = fits s t p (max 1 (length p - 1)) (length p)
 
 -- For each place c and value y, the constraint at c permits y exactly if q says so.
 abbrev pub Reads : List ℕ → (ℕ → ℕ → Bool) → Type 0

@@ -7,7 +7,7 @@ ghost use mathlib.Core.List.{[], _∷_, _++_};
 ghost use Prim.Native.Nat.{ℕ, _+_, _-_, _≤_, _<_};
 ghost use lib.ListN.{length, getD, take};
 ghost use Rattle.semigroups.specs.Lists.{at, member};
-ghost use Rattle.semigroups.specs.Tables.{largestOrder, product, Element, Filled};
+ghost use Rattle.semigroups.specs.Tables.{largestOrder, Product, product, Element, Filled};
 ghost use Rattle.semigroups.specs.Trials.{fits, passes};
 ghost use Rattle.constraints.specs.InnerConstraints.{permits, askedAt, imageProduct, newFits, nearFits};
 ghost use Rattle.constraints.specs.InnerTracking.{Trial, Tracks};
@@ -22,6 +22,13 @@ fn allowed(constraint: u8, y: usize) -> bool
         return true;
     }
     constraint as usize == y
+}
+
+// Returns the constraints that require nothing.
+pub fn nothing() -> [u8; PLACES]
+    ensures nothing { λ r. ⌜ ((s t : Product) → Tracks s t [] 0 0 r r) ⌝ }
+{
+    [0u8; PLACES]
 }
 
 // Notes that the value y is also required at this place.
@@ -62,7 +69,7 @@ fn note_pair(
     note(owner, z, c);
 }
 
-// Notes the pairs of the newest element.
+// Notes the pairs of the newest element; if none is placed, there are none.
 pub fn note_newest(
     source: &[u8],
     m: usize,
@@ -74,7 +81,7 @@ pub fn note_newest(
     len: usize,
 )
     requires { ⌜ Filled m (now source) × Filled n (now target) ⌝ }
-    requires { ⌜ Element m len × ((a : ℕ) → Element len a → Element n (at (now image) a)) ⌝ }
+    requires { ⌜ (len ≤ m) × ((a : ℕ) → Element len a → Element n (at (now image) a)) ⌝ }
     requires { ⌜ Tracks (product m (now source)) (product n (now target)) (take len (now image)) (len - 1) 0 (now forced) (now owner) ⌝ }
     ensures constraints { λ _. ⌜ Tracks (product m (now (source .entry))) (product n (now (target .entry))) (take len (now (image .entry))) len 0 (now (forced .exit)) (now (owner .exit)) ⌝ }
 {
@@ -160,7 +167,7 @@ fn new_fits<'a>(
 }
 
 // Returns whether the constraints allow x as the image of element `next`.
-fn settled<'a>(forced: &'a [u8; PLACES], owner: &'a [u8; PLACES], next: usize, x: usize) -> bool
+fn settled(forced: &[u8; PLACES], owner: &[u8; PLACES], next: usize, x: usize) -> bool
     requires { ⌜ (next ≤ largestOrder) × (x ≤ largestOrder) ⌝ }
     ensures answer { λ r. ⌜ r ≡ (permits (getD (now (forced .entry)) next 0) x && permits (getD (now (owner .entry)) x 0) next) ⌝ }
 {
@@ -170,8 +177,8 @@ fn settled<'a>(forced: &'a [u8; PLACES], owner: &'a [u8; PLACES], next: usize, x
     allowed(owner[x], next)
 }
 
-// Returns whether the pairs of the next element with itself and with the newest one fit, where x is its image. Where nothing is placed, the next element is
-// the only one.
+// Returns whether the newest element and the next one fit as a pair, where x is the image of the next one. Where nothing is placed, the next element is the
+// only one.
 fn near_fits<'a>(
     source: &[u8],
     m: usize,
@@ -186,19 +193,13 @@ fn near_fits<'a>(
     requires { ⌜ Trial n (now image) (now used) len x × (len < m) ⌝ }
     ensures answer { λ r. ⌜ r ≡ nearFits (product m (now (source .entry))) (product n (now (target .entry))) (take len (now (image .entry)) ++ x ∷ []) ⌝ }
 {
-    let next = len + 1;
     let newest: usize = if len == 0 { 1 } else { len };
-    if !pair_fits(source, m, target, n, image, used, len, x, next, next) {
-        return false;
-    }
-    if !pair_fits(source, m, target, n, image, used, len, x, newest, next) {
-        return false;
-    }
-    pair_fits(source, m, target, n, image, used, len, x, next, newest)
+    pair_fits(source, m, target, n, image, used, len, x, newest, len + 1)
 }
 
-// Returns whether x is worth a test as the image of the next element: the constraints allow x, and the pairs of the next element with itself and with the
-// newest one fit. This takes constant time. The list placed does not pass with an x that is not worth a test.
+// Returns whether x is worth a test as the image of the next element: the constraints allow x, and the newest element and the next one fit as a pair. This
+// takes constant time. The list placed does not pass with an x that is not worth a test. With more pairs it would be too long to stand inside the loops of the
+// two searches that call it, and would take longer.
 pub fn may_pass<'a>(
     source: &[u8],
     m: usize,
@@ -206,8 +207,8 @@ pub fn may_pass<'a>(
     n: usize,
     image: &'a [u8; ORDER],
     used: &'a [u8; PLACES],
-    forced: &'a [u8; PLACES],
-    owner: &'a [u8; PLACES],
+    forced: &[u8; PLACES],
+    owner: &[u8; PLACES],
     len: usize,
     x: usize,
 ) -> bool
@@ -231,8 +232,8 @@ pub fn passes_with<'a>(
     n: usize,
     image: &'a [u8; ORDER],
     used: &'a [u8; PLACES],
-    forced: &'a [u8; PLACES],
-    owner: &'a [u8; PLACES],
+    forced: &[u8; PLACES],
+    owner: &[u8; PLACES],
     len: usize,
     x: usize,
 ) -> bool

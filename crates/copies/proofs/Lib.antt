@@ -1,15 +1,10 @@
 pub mod Leaders
 pub mod Orbits
 pub mod Counting
-pub mod Raising
 pub mod Bounds
 pub mod Going
 pub mod Trying
-pub mod Sending
-pub mod Existence
-pub mod Spending
-pub mod Fixing
+pub mod Totals
 pub mod Answering
-pub mod Exchanges
 pub mod Absence
 pub mod Onto

@@ -18,8 +18,7 @@ use Rattle.csv.specs.Decimals.{numeral, value}
 use Rattle.csv.specs.RoundsLaws.{closed}
 use Rattle.csv.specs.Records.{rows, rowsText}
 use Rattle.csv.specs.Tables.{fieldsOf, orderOf, cellsOf, tableText}
-use Rattle.csv.specs.QuestionsLaws.{fieldRefusal}
-use Rattle.csv.specs.InnerQuestions.{fieldsRefusal, gridRefusal}
+use Rattle.csv.specs.InnerQuestions.{fieldsRefusal, gridRefusal, fieldRefusal}
 use Rattle.csv.specs.Questions.{isSquare, loadRefusal}
 use Rattle.csv.specs.PassingLaws.{Number}
 use Rattle.csv.specs.Every.{Every}

@@ -7,7 +7,7 @@ use Prim.Native.Nat.{ℕ}
 use Rattle.semigroups.specs.Lists.{at, range, elements, all, find, firstOf}
 use Rattle.semigroups.specs.Tables.{product, isElement, badCell}
 use Rattle.semigroups.specs.Questions.{Refusal}
-use Rattle.semigroups.specs.QuestionsLaws.{no}
+use Rattle.semigroups.specs.InnerQuestions.{no}
 use Rattle.csv.specs.Decimals.{isDigit, value, valueFrom, numeral, numeralWithin}
 use Rattle.csv.specs.Records.{isBreak, onto, records, fields, rows, recordText, lineText, rowsText}
 use Rattle.csv.specs.RoundsLaws.{endsInBreak, closed}

@@ -4,7 +4,7 @@ use mathlib.Core.Path.{_≡_, refl, ap, sym, _∙_}
 use mathlib.Core.Bool.{Bool, true, false, not, cond, and-false}
 use mathlib.Core.List.{List, [], _∷_, flatMap}
 use mathlib.Core.Option.{none, some, orElse}
-use Prim.Native.Nat.{ℕ, suc, _+_, _-_, _*_, _^_, _≤_, _<_}
+use Prim.Native.Nat.{ℕ, suc, _+_, _*_, _^_, _≤_, _<_}
 use native.Mathlib.Nat.{pow-suc, pow-le-pow-right}
 use native.Mathlib.Numerals.{add-one}
 use native.Mathlib.Omega.{arith}
@@ -14,14 +14,13 @@ use lib.Seq.{drop-cons}
 use borrow.Author.Tests.{leb-true, leb-false, le-leb, lt-leb, le-ltb, eqb-false, ne-eqb, not-true}
 use Rattle.semigroups.specs.Tables.{isElement}
 use Rattle.semigroups.specs.Lists.{firstOf}
-use Rattle.semigroups.specs.QuestionsLaws.{no}
+use Rattle.semigroups.specs.InnerQuestions.{no}
 use Rattle.semigroups.proofs.Lists.{is-element}
 use Rattle.semigroups.proofs.Questions.{ask-passed, all-passed, first-append, both-passed}
 use Rattle.csv.specs.Decimals.{isDigit, value}
 use Rattle.csv.specs.InnerCursor.{digits, fieldEnd, commaFollows, nextField, fieldFollows}
 use Rattle.csv.specs.Questions.{fieldQuestions, fieldsQuestions}
-use Rattle.csv.specs.QuestionsLaws.{fieldRefusal}
-use Rattle.csv.specs.InnerQuestions.{fieldsRefusal}
+use Rattle.csv.specs.InnerQuestions.{fieldsRefusal, fieldRefusal}
 use Rattle.csv.specs.PassingLaws.{Number}
 
 -- ---- the digits at a place

@@ -11,8 +11,7 @@ use Rattle.csv.specs.InnerCursor.{digits, nextField, fieldFollows}
 use Rattle.csv.specs.Decimals.{value}
 use Rattle.csv.specs.Records.{rows}
 use Rattle.csv.specs.Tables.{fieldsOf, cellsOf}
-use Rattle.csv.specs.InnerQuestions.{bytesRefusal, fieldsRefusal}
-use Rattle.csv.specs.QuestionsLaws.{fieldRefusal}
+use Rattle.csv.specs.InnerQuestions.{bytesRefusal, fieldsRefusal, fieldRefusal}
 use Rattle.semigroups.specs.Calls.{overwritten}
 use Rattle.csv.proofs.Reading.{Left, Turn, following, flatten-after, turn, left-none, all-left}
 use Rattle.csv.proofs.Writing.{Writing, write-first, write-length, write-room, write-next, write-last, sets-overwritten}

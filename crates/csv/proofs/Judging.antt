@@ -11,14 +11,13 @@ use lib.ListN.{length, drop}
 use borrow.Author.Tests.{eq-eqb, ne-eqb, not-true, not-false}
 use Rattle.semigroups.specs.Lists.{all, firstOf}
 use Rattle.semigroups.specs.Questions.{Refusal, firstNo, ask}
-use Rattle.semigroups.specs.QuestionsLaws.{no}
+use Rattle.semigroups.specs.InnerQuestions.{no}
 use Rattle.semigroups.proofs.Questions.{failed-before, passed-before}
 use Rattle.semigroups.proofs.Booleans.{impossible}
 use Rattle.csv.specs.InnerCursor.{digits, commaFollows, nextField, fieldFollows}
 use Rattle.csv.specs.Records.{rows}
 use Rattle.csv.specs.Tables.{fieldsOf, orderOf}
-use Rattle.csv.specs.InnerQuestions.{bytesRefusal, fieldsRefusal, gridRefusal}
-use Rattle.csv.specs.QuestionsLaws.{fieldRefusal}
+use Rattle.csv.specs.InnerQuestions.{bytesRefusal, fieldsRefusal, gridRefusal, fieldRefusal}
 use Rattle.csv.specs.Questions.{fieldsQuestions, isSquare}
 use Rattle.csv.proofs.Fields.{no-fields, fields-first}
 use Rattle.csv.proofs.Reading.{Left, begins, Turn, following, goesOn, flatten-after, turn, left-true, left-none, all-left, next-later}

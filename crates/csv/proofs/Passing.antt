@@ -4,7 +4,7 @@ use mathlib.Core.Bool.{true, _||_, not, or-true}
 use mathlib.Core.Logic.{⊎-elim, _↔_}
 use mathlib.Core.List.{List, [], _∷_, _++_, List·Memᴰ, List·Memᴰ·head, List·Memᴰ·tail, List·Memᴰ·not-nil, List·Memᴰ·cases-cons}
 use mathlib.Core.Option.{none, orElse, map-eq-none-iff}
-use Prim.Native.Nat.{ℕ, zero, suc, _+_, _-_, _*_, _<_}
+use Prim.Native.Nat.{ℕ, zero, suc, _*_, _<_}
 use native.Mathlib.Omega.{arith}
 use lib.Dec.{eqb, leb}
 use lib.ListN.{length, getD}
@@ -12,7 +12,7 @@ use borrow.Author.Tests.{eqb-true, eq-eqb, not-false}
 use Rattle.semigroups.specs.Lists.{range, all}
 use Rattle.semigroups.specs.Tables.{isElement}
 use Rattle.semigroups.specs.Questions.{ask, firstNo, cellsQuestions}
-use Rattle.semigroups.specs.QuestionsLaws.{cellsRefusal}
+use Rattle.semigroups.specs.InnerQuestions.{cellsRefusal}
 use Rattle.semigroups.proofs.Booleans.{both, and-left, and-right, or-holds, not-of-true}
 use Rattle.semigroups.proofs.Lists.{all-at, all-of, mem-range, range-mem, find-none, none-find}
 use Rattle.semigroups.proofs.Questions.{all-passed}

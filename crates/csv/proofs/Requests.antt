@@ -12,15 +12,12 @@ use lib.ListN.{length, length-append, replicate, length-replicate}
 use Rattle.semigroups.specs.Lists.{all, firstOf, member}
 use Rattle.semigroups.specs.Tables.{isElement}
 use Rattle.semigroups.specs.Questions.{ask, Refusal, firstNo}
-use Rattle.semigroups.specs.QuestionsLaws.{no}
-use Rattle.semigroups.specs.Calls.{refused}
 use Rattle.semigroups.proofs.Booleans.{clash}
 use Rattle.semigroups.proofs.Questions.{passed-before, listed}
 use Rattle.csv.specs.Records.{isBreak, onto, records, fields, rows}
-use Rattle.csv.specs.RoundsLaws.{endsInBreak, closed}
+use Rattle.csv.specs.RoundsLaws.{closed}
 use Rattle.csv.specs.Tables.{fieldsOf}
 use Rattle.csv.specs.Questions.{longestText, bytesQuestion, sizeQuestions, loadRefusal}
-use Rattle.csv.specs.Calls.{loadAnswer, cellsAfter}
 use Rattle.csv.specs.Requests.{TooLongClosed, TextRequests}
 use Rattle.csv.proofs.Records.{Cons, fields-cons, ends, closing, missing}
 use Rattle.csv.proofs.Bytes.{closed-is}

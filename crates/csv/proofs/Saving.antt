@@ -13,7 +13,7 @@ use borrow.Author.Tests.{le-leb, lt-leb}
 use Rattle.semigroups.specs.Lists.{range, elements, firstOf}
 use Rattle.semigroups.specs.Tables.{product}
 use Rattle.semigroups.specs.Questions.{Question, ask, Refusal, firstNo, cellsQuestions}
-use Rattle.semigroups.specs.QuestionsLaws.{no, cellsRefusal}
+use Rattle.semigroups.specs.InnerQuestions.{no, cellsRefusal}
 use Rattle.semigroups.proofs.Questions.{failed-before, passed-before}
 use Rattle.csv.specs.Decimals.{numeral}
 use Rattle.csv.specs.Records.{recordText, lineText, rowsText}

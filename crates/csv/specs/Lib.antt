@@ -7,7 +7,6 @@ pub mod Calls
 pub mod PassingLaws
 pub mod RoundsLaws
 pub mod Rules
-pub mod QuestionsLaws
 pub mod Requests
 pub mod InnerCursor
 pub mod InnerQuestions

@@ -5,12 +5,12 @@ use mathlib.Core.Option.{some}
 use Prim.Native.Nat.{ℕ, suc, _≤_, _<_}
 use lib.ListN.{length, getD}
 use Rattle.semigroups.specs.Questions.{Refusal}
-use Rattle.semigroups.specs.QuestionsLaws.{no}
+use Rattle.semigroups.specs.InnerQuestions.{no}
 use Rattle.semigroups.specs.Calls.{refused}
 use Rattle.csv.specs.RoundsLaws.{closed, LoadedSaves, LoadsClosed, Buffers, textHeld, rounds, RoundsClose}
 use Rattle.csv.specs.Tables.{fieldsOf, orderOf, cellsOf}
 use Rattle.csv.specs.Questions.{longestText, firstOther, loadRefusal}
-use Rattle.csv.specs.QuestionsLaws.{fieldRefusal}
+use Rattle.csv.specs.InnerQuestions.{fieldRefusal}
 use Rattle.csv.specs.PassingLaws.{LoadPasses}
 use Rattle.csv.specs.Calls.{loadAnswer, cellsAfter}
 

@@ -3,7 +3,8 @@ use mathlib.Core.Path.{_≡_, ap}
 use mathlib.Core.List.{[], _∷_}
 use lib.ListN.{length, replicate}
 use Rattle.semigroups.specs.Tables.{product}
-use Rattle.semigroups.specs.QuestionsLaws.{no, EarliestNo}
+use Rattle.semigroups.specs.QuestionsLaws.{EarliestNo}
+use Rattle.semigroups.specs.InnerQuestions.{no}
 use Rattle.semigroups.specs.Questions.{searchQuestions, searchRefusal}
 use Rattle.semigroups.specs.Calls.{refused, gives, Answer}
 use Rattle.semigroups.specs.Maps.{Sought, first, sought}

@@ -1,1 +1,2 @@
+pub mod ExchangesLaws
 pub mod InnerExchanges

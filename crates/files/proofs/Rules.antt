@@ -9,7 +9,7 @@ use lib.ListN.{take, replicate, length-replicate}
 use lib.Seq.{take-all}
 use Rattle.semigroups.specs.Lists.{range, elements, at, all, find, firstOf, member, lists}
 use Rattle.semigroups.specs.Tables.{product, isElement, associates, badCell, badTriple}
-use Rattle.semigroups.specs.QuestionsLaws.{no}
+use Rattle.semigroups.specs.InnerQuestions.{no}
 use Rattle.csv.specs.Decimals.{isDigit, value, valueFrom}
 use Rattle.csv.specs.Records.{isBreak, onto, records, fields, rows}
 use Rattle.csv.specs.Tables.{fieldsOf, orderOf, cellsOf}

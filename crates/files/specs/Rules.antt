@@ -8,7 +8,7 @@ use Prim.Native.Nat.{ℕ, _+_, _<_}
 use lib.ListN.{length}
 use Rattle.semigroups.specs.Lists.{member}
 use Rattle.semigroups.specs.Questions.{Refusal}
-use Rattle.semigroups.specs.QuestionsLaws.{no}
+use Rattle.semigroups.specs.InnerQuestions.{no}
 use Rattle.csv.specs.Questions.{longestText}
 use Rattle.files.specs.Files.{fileRefusal, room}
 use Rattle.files.specs.FilesLaws.{FilePasses, firstBytes}

@@ -8,7 +8,7 @@ use Prim.Native.Nat.{ℕ}
 use lib.ListN.{getD}
 use Rattle.semigroups.specs.Lists.{at, member}
 use Rattle.semigroups.specs.Tables.{Product, Element, associates, badCell}
-use Rattle.semigroups.specs.GeneratedLaws.{Inside}
+use Rattle.semigroups.specs.InnerGenerated.{Inside}
 use Rattle.semigroups.proofs.Booleans.{both, not-of-true, not-of-false, impossible}
 use Rattle.semigroups.proofs.NoRepeats.{mem-place, place-mem}
 use Rattle.semigroups.proofs.Tables.{cells-in-range, no-bad-cell}

@@ -2,7 +2,7 @@
 use mathlib.Core.List.{[]}
 use mathlib.Core.Option.{Option, none, some}
 use Rattle.semigroups.specs.Questions.{Refusal}
-use Rattle.semigroups.specs.QuestionsLaws.{no}
+use Rattle.semigroups.specs.InnerQuestions.{no}
 use Rattle.tables.specs.Answers.{faultRefusal}
 use Rattle.generated.specs.declared.GeneratorsFault.{GeneratorsFault}
 use Rattle.generated.specs.declared.GeneratorsFault.the-variants.{Table, Entry, Elements}

@@ -7,7 +7,7 @@ use borrow.Author.Tests.{le-leb, lt-leb}
 use Rattle.semigroups.specs.Lists.{firstOf}
 use Rattle.semigroups.specs.Tables.{Element, isElement, Filled, Associative, product}
 use Rattle.semigroups.specs.Questions.{Question, ask, Refusal, firstNo, tableQuestions, tableRefusal, elementRefusal}
-use Rattle.semigroups.specs.QuestionsLaws.{no}
+use Rattle.semigroups.specs.InnerQuestions.{no}
 use Rattle.semigroups.specs.Calls.{Answer, refused, gives, givenUnless}
 use Rattle.semigroups.proofs.Lists.{is-element}
 use Rattle.semigroups.proofs.Tables.{accepted}

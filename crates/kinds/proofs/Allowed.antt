@@ -9,7 +9,7 @@ use Rattle.semigroups.specs.Tables.{Product, product, Element, Accepted}
 use Rattle.semigroups.specs.TablesLaws.{Closed}
 use Rattle.semigroups.specs.Scratch.{marked}
 use Rattle.semigroups.specs.InnerCalls.{scratchAfter}
-use Rattle.semigroups.specs.MapsLaws.{Embedding}
+use Rattle.semigroups.specs.InnerMaps.{Embedding}
 use Rattle.semigroups.specs.Maps.{isEmbedding, embeddings, maps, Ask, beyond, earliest}
 use Rattle.semigroups.specs.InnerSearch.{search, isWanted}
 use Rattle.semigroups.proofs.Booleans.{same-truth}

@@ -7,7 +7,7 @@ use Prim.Native.Nat.{ℕ, _*_, _≤_}
 use lib.ListN.{length, take}
 use lib.Seq.{length-take-le}
 use Rattle.semigroups.specs.Tables.{product, Accepted}
-use Rattle.semigroups.specs.TablesLaws.{turnedCells}
+use Rattle.semigroups.specs.InnerTables.{turnedCells}
 use Rattle.semigroups.specs.Calls.{gives, overwritten}
 use Rattle.semigroups.specs.InnerCalls.{scratchAfter}
 use Rattle.semigroups.specs.Maps.{isomorphisms, reversed}

@@ -8,7 +8,8 @@ use native.Mathlib.Omega.{arith}
 use borrow.Author.Tests.{leb-false, eqb-true, eqb-false}
 use Rattle.semigroups.specs.Lists.{find}
 use Rattle.semigroups.specs.Tables.{Product, product, turned, Element, Accepted}
-use Rattle.semigroups.specs.TablesLaws.{turnedCells, Closed}
+use Rattle.semigroups.specs.TablesLaws.{Closed}
+use Rattle.semigroups.specs.InnerTables.{turnedCells}
 use Rattle.semigroups.specs.Scratch.{marked}
 use Rattle.semigroups.specs.InnerCalls.{scratchAfter}
 use Rattle.semigroups.specs.Maps.{Kind, embeddings, isomorphisms, reversed, maps, Ask, first, earliest}

@@ -7,7 +7,7 @@ ghost use Prim.Native.Nat.{_*_, _≤_};
 ghost use lib.ListN.{length, take};
 ghost use Rattle.semigroups.specs.InnerSearch.{plainKind};
 ghost use Rattle.semigroups.specs.Tables.{Filled, Accepted};
-ghost use Rattle.semigroups.specs.TablesLaws.{turnedCells};
+ghost use Rattle.semigroups.specs.InnerTables.{turnedCells};
 ghost use Rattle.semigroups.specs.Scratch.{scratchSize};
 ghost use Rattle.semigroups.specs.Calls.{gives, overwritten};
 ghost use Rattle.semigroups.specs.Maps.{reversed};

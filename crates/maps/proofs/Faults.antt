@@ -9,9 +9,9 @@ use lib.Dec.{eqb, ltb}
 use lib.ListN.{length, getD}
 use Rattle.semigroups.specs.Lists.{elements, at, find, firstOf, lists}
 use Rattle.semigroups.specs.Tables.{Product, Element, isElement, badCell, product}
-use Rattle.semigroups.specs.TablesLaws.{IsList}
+use Rattle.semigroups.specs.InnerTables.{IsList}
 use Rattle.semigroups.specs.Questions.{Question, ask, Refusal, firstNo, tablesQuestions, checkRefusal}
-use Rattle.semigroups.specs.QuestionsLaws.{no, tablesRefusal}
+use Rattle.semigroups.specs.InnerQuestions.{no, tablesRefusal}
 use Rattle.semigroups.specs.Calls.{Answer, refused, gives}
 use Rattle.semigroups.specs.Maps.{isEmbedding}
 use Rattle.semigroups.specs.MapCheck.{Checked, holds, outside, equalImages, wrongProduct, unless, firstOutside, firstEqual, firstWrong, checkMap}

@@ -2,7 +2,7 @@
 use mathlib.Core.List.{List, [], _∷_}
 use mathlib.Core.Option.{Option, none, some}
 use Prim.Native.Nat.{ℕ}
-use Rattle.semigroups.specs.QuestionsLaws.{no, naming}
+use Rattle.semigroups.specs.InnerQuestions.{no, naming}
 use Rattle.semigroups.specs.Calls.{Answer, refused, gives}
 use Rattle.semigroups.specs.MapCheck.{Checked, holds, outside, equalImages, wrongProduct}
 use Rattle.tables.specs.Answers.{faultRefusal, sideNumber}

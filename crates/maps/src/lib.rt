@@ -10,7 +10,7 @@ ghost use Prim.Native.Nat.{ℕ, _≤_};
 ghost use lib.ListN.{length, take};
 ghost use Rattle.semigroups.specs.Lists.{at};
 ghost use Rattle.semigroups.specs.Tables.{largestOrder, Product, Element, Filled, product};
-ghost use Rattle.semigroups.specs.TablesLaws.{IsList};
+ghost use Rattle.semigroups.specs.InnerTables.{IsList};
 ghost use Rattle.semigroups.specs.Maps.{isEmbedding};
 ghost use Rattle.semigroups.specs.MapCheck.{firstEqual, firstWrong, checkMap};
 ghost use Rattle.semigroups.specs.Calls.{gives};

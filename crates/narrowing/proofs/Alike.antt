@@ -9,7 +9,7 @@ use Rattle.semigroups.specs.Lists.{elements, at, all, lists}
 use Rattle.semigroups.specs.Tables.{Product, Element}
 use Rattle.semigroups.specs.TablesLaws.{Closed}
 use Rattle.semigroups.specs.Scratch.{marked}
-use Rattle.semigroups.specs.MapsLaws.{Embedding, Among}
+use Rattle.semigroups.specs.InnerMaps.{Embedding, Among}
 use Rattle.semigroups.specs.Maps.{isEmbedding, Ask, beyond}
 use Rattle.semigroups.specs.InnerSearch.{search, isWanted}
 use Rattle.semigroups.proofs.Booleans.{same-truth}

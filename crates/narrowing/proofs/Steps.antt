@@ -11,7 +11,7 @@ use lib.ListN.{length, getD, take, drop}
 use lib.Seq.{split-at}
 use Rattle.semigroups.specs.Lists.{elements, at, all, earlier, lists}
 use Rattle.semigroups.specs.Tables.{Product, Element}
-use Rattle.semigroups.specs.MapsLaws.{Embedding, Among}
+use Rattle.semigroups.specs.InnerMaps.{Embedding, Among}
 use Rattle.semigroups.specs.Maps.{isEmbedding, Ask, first, next, beyond}
 use Rattle.semigroups.specs.InnerSearch.{isWanted}
 use Rattle.semigroups.proofs.Booleans.{clash}

@@ -9,7 +9,7 @@ use lib.ListN.{length, take, drop, length-append}
 use Rattle.semigroups.specs.Lists.{range, elements, at, all, find, keep, firstOf, member, distinct, lists}
 use Rattle.semigroups.specs.Tables.{product, isElement, associates, badCell, badTriple}
 use Rattle.semigroups.specs.Questions.{Refusal}
-use Rattle.semigroups.specs.QuestionsLaws.{no}
+use Rattle.semigroups.specs.InnerQuestions.{no}
 use Rattle.semigroups.specs.Maps.{isHomomorphism, isEmbedding, maps, earliest}
 use Rattle.csv.specs.Decimals.{isDigit, value, valueFrom, numeralWithin, numeral}
 use Rattle.csv.specs.Records.{isBreak, onto, records, fields, rows, recordText, lineText, rowsText}

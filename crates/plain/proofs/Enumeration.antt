@@ -13,7 +13,7 @@ use borrow.Author.Tests.{ne-eqb}
 use lib.Dec.{ltb}
 use Rattle.semigroups.specs.Lists.{at, find, earlier, lists}
 use Rattle.semigroups.specs.Tables.{Element}
-use Rattle.semigroups.specs.TablesLaws.{IsList}
+use Rattle.semigroups.specs.InnerTables.{IsList}
 use Rattle.semigroups.proofs.NoRepeats.{place-mem, place-unique}
 use Rattle.semigroups.proofs.ListOrder.{earlier-tail, lists-increasing, increasing-no-repeats, mem-lists, length-lists}
 use Rattle.semigroups.proofs.Tables.{list-at}

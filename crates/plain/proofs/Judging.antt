@@ -5,7 +5,8 @@ use mathlib.Core.Path.{_≡_, refl, _∙_, sym, ap}
 use Prim.Native.Nat.{ℕ}
 use native.Mathlib.Omega.{arith}
 use Rattle.semigroups.specs.Questions.{Refusal, tableRefusal}
-use Rattle.semigroups.specs.QuestionsLaws.{Refused, wrong-order, wrong-size, wrong-cell, wrong-triple, cellsRefusal}
+use Rattle.semigroups.specs.QuestionsLaws.{Refused, wrong-order, wrong-size, wrong-cell, wrong-triple}
+use Rattle.semigroups.specs.InnerQuestions.{cellsRefusal}
 use Rattle.semigroups.specs.Tables.{Accepted, badCell}
 use Rattle.semigroups.proofs.Lists.{find-some, mem-range}
 use Rattle.semigroups.proofs.Tables.{accepted, refused}

@@ -10,8 +10,8 @@ use borrow.Author.Tests.{eqb-true, eq-eqb}
 use lib.Dec.{eqb}
 use Rattle.semigroups.specs.Lists.{at, find, lists}
 use Rattle.semigroups.specs.Tables.{Product, Element}
-use Rattle.semigroups.specs.TablesLaws.{IsList}
-use Rattle.semigroups.specs.MapsLaws.{Embedding}
+use Rattle.semigroups.specs.InnerTables.{IsList}
+use Rattle.semigroups.specs.InnerMaps.{Embedding}
 use Rattle.semigroups.specs.Maps.{isEmbedding}
 use Rattle.semigroups.proofs.Booleans.{clash, untrue, unfalse, both, and-left, and-right, or-holds, or-fails, not-of-true, not-of-false}
 use Rattle.semigroups.proofs.ListOrder.{find-nowhere}

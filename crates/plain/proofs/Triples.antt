@@ -7,7 +7,7 @@ use Prim.Native.Nat.{ℕ, _+_, _≤_, _<_, _^_}
 use lib.ListN.{getD}
 use Rattle.semigroups.specs.Lists.{at}
 use Rattle.semigroups.specs.Tables.{Product, associates, badTriple}
-use Rattle.semigroups.specs.QuestionsLaws.{no}
+use Rattle.semigroups.specs.InnerQuestions.{no}
 use Rattle.semigroups.proofs.Booleans.{not-of-true, not-of-false}
 use Rattle.plain.specs.InnerEnumeration.{numbered}
 use Rattle.plain.specs.InnerSaid.{saidOf}

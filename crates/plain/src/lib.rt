@@ -8,15 +8,15 @@ ghost use lib.ListN.{length, drop, replicate};
 ghost use Rattle.semigroups.specs.InnerSearch.{plainKind};
 ghost use Rattle.semigroups.specs.Lists.{at, earlier, isSome};
 ghost use Rattle.semigroups.specs.Tables.{Element, Filled, product, associates, badCell, badTriple};
-ghost use Rattle.semigroups.specs.TablesLaws.{IsList};
-ghost use Rattle.semigroups.specs.QuestionsLaws.{no};
+ghost use Rattle.semigroups.specs.InnerTables.{IsList};
+ghost use Rattle.semigroups.specs.InnerQuestions.{no};
 ghost use Rattle.semigroups.specs.Questions.{tableRefusal};
 ghost use Rattle.semigroups.specs.Maps.{isEmbedding, isMap, maps, next, earliest};
 ghost use Rattle.plain.specs.InnerEnumeration.{numbered, keeps};
 ghost use Rattle.plain.specs.InnerSaid.{saidOf};
 
 // Returns the product i·j: rows and columns count from 1.
-pub fn product(cells: &[u8], n: usize, i: usize, j: usize) -> usize
+fn product(cells: &[u8], n: usize, i: usize, j: usize) -> usize
     requires { ⌜ Filled n (now cells) ⌝ ∗ ⌜ Element n i ⌝ ∗ ⌜ Element n j ⌝ }
     ensures answer { λ r. ⌜ r ≡ product n (now (cells .entry)) i j ⌝ }
     ensures element { λ r. ⌜ Element n r ⌝ }
@@ -41,7 +41,7 @@ pub fn number_of_lists(m: usize, n: usize) -> usize
 }
 
 // Writes list number k, counted from 0, of all lists of this length with entries from 1 to n.
-pub fn write_list(list: &mut [u8], n: usize, k: usize)
+fn write_list(list: &mut [u8], n: usize, k: usize)
     requires { ⌜ Element 120 n ⌝ }
     requires { ⌜ k < n ^ length (now list) ⌝ }
     ensures list { λ _. ⌜ now (list .exit) ≡ numbered (length (now (list .entry))) n k ⌝ }

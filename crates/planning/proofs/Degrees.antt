@@ -7,7 +7,7 @@ use native.Mathlib.Omega.{arith}
 use lib.ListN.{length, getD}
 use Rattle.semigroups.specs.Lists.{elements, at}
 use Rattle.semigroups.specs.Tables.{Product, cellPlace, Element}
-use Rattle.semigroups.specs.MapsLaws.{Embedding}
+use Rattle.semigroups.specs.InnerMaps.{Embedding}
 use Rattle.semigroups.specs.Maps.{embeddings}
 use Rattle.semigroups.specs.Transformations.{transformationOrder, transformation, numberOf, transformationProduct}
 use Rattle.semigroups.proofs.Lists.{mem-elements, elements-mem, sorted-range, ext-at}

@@ -8,8 +8,9 @@ use native.Mathlib.Omega.{arith}
 use lib.ListN.{length, length-map}
 use Rattle.semigroups.specs.Lists.{elements, at}
 use Rattle.semigroups.specs.Tables.{Product, Element}
-use Rattle.semigroups.specs.TablesLaws.{IsList, Closed}
-use Rattle.semigroups.specs.MapsLaws.{Embedding}
+use Rattle.semigroups.specs.TablesLaws.{Closed}
+use Rattle.semigroups.specs.InnerTables.{IsList}
+use Rattle.semigroups.specs.InnerMaps.{Embedding}
 use Rattle.semigroups.specs.Maps.{after}
 use Rattle.semigroups.specs.Transformations.{transformationOrder, transformation, numberOf, transformationProduct}
 use Rattle.semigroups.proofs.Booleans.{equal-or-not}

@@ -9,7 +9,7 @@ use lib.ListN.{length, take, drop, getD}
 use lib.Seq.{take-length}
 use Rattle.semigroups.specs.Lists.{at, lists}
 use Rattle.semigroups.specs.Tables.{grid, Element}
-use Rattle.semigroups.specs.TablesLaws.{IsList}
+use Rattle.semigroups.specs.InnerTables.{IsList}
 use Rattle.semigroups.specs.Calls.{overwritten}
 use Rattle.semigroups.specs.Transformations.{transformations, transformationOrder, transformation, numberOf}
 use Rattle.semigroups.proofs.Tables.{list-at, length-grid}

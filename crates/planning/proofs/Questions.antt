@@ -11,7 +11,7 @@ use lib.ListN.{length}
 use Rattle.semigroups.specs.Lists.{firstOf}
 use Rattle.semigroups.specs.Tables.{product}
 use Rattle.semigroups.specs.Questions.{Question, ask, Refusal, tableQuestions, tableRefusal}
-use Rattle.semigroups.specs.QuestionsLaws.{no}
+use Rattle.semigroups.specs.InnerQuestions.{no}
 use Rattle.semigroups.specs.Calls.{Answer, refused, gives, givenUnless, overwritten, writtenUnless}
 use Rattle.semigroups.specs.Transformations.{transformationOrder}
 use Rattle.semigroups.proofs.Maps.{embedding-order}

@@ -10,7 +10,7 @@ use Rattle.semigroups.specs.Lists.{at}
 use Rattle.semigroups.specs.ListsLaws.{Earliest}
 use Rattle.semigroups.specs.Tables.{Product, cellPlace, Element, Accepted}
 use Rattle.semigroups.specs.TablesLaws.{Closed}
-use Rattle.semigroups.specs.MapsLaws.{Embedding}
+use Rattle.semigroups.specs.InnerMaps.{Embedding}
 use Rattle.semigroups.specs.Transformations.{transformationOrder, transformation}
 use Rattle.planning.specs.Degrees.{degreeProduct, leastDegree, Fit, leastFit, fitPositions}
 

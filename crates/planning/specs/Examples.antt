@@ -4,7 +4,7 @@ use mathlib.Core.List.{List, [], _∷_}
 use mathlib.Core.Option.{Option, none, some}
 use Prim.Native.Nat.{ℕ}
 use Rattle.semigroups.specs.Tables.{product}
-use Rattle.semigroups.specs.QuestionsLaws.{no}
+use Rattle.semigroups.specs.InnerQuestions.{no}
 use Rattle.semigroups.specs.Cases.{Table, one, swap, left, right, mat5}
 use Rattle.planning.specs.Degrees.{Fit, fit, leastFit, leastDegree, fitPositions, degreeRefusal}
 use Rattle.planning.specs.DegreesLaws.{EmbedsAt, LandingPositions}

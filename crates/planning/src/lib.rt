@@ -8,7 +8,7 @@ ghost use Prim.Native.Nat.{_*_, _≤_};
 ghost use lib.ListN.{length};
 ghost use Rattle.semigroups.specs.Lists.{at};
 ghost use Rattle.semigroups.specs.Tables.{largestOrder, product, Element, Accepted};
-ghost use Rattle.semigroups.specs.TablesLaws.{IsList};
+ghost use Rattle.semigroups.specs.InnerTables.{IsList};
 ghost use Rattle.semigroups.specs.Calls.{gives, overwritten};
 ghost use Rattle.semigroups.specs.Transformations.{transformationOrder, transformation};
 ghost use Rattle.planning.specs.Degrees.{firstAt, leastFit, leastDegree, landings, fitPositions};

@@ -14,7 +14,7 @@ use lib.Seq.{getD-set-same, getD-set-other}
 use Rattle.semigroups.specs.Lists.{elements, at, count}
 use Rattle.semigroups.specs.Tables.{Product, Element}
 use Rattle.semigroups.specs.TablesLaws.{Closed}
-use Rattle.semigroups.specs.MapsLaws.{Embedding, Among}
+use Rattle.semigroups.specs.InnerMaps.{Embedding, Among}
 use Rattle.semigroups.proofs.Booleans.{equal-or-not}
 use Rattle.semigroups.proofs.Lists.{mem-elements}
 use Rattle.semigroups.proofs.Sums.{sum-same, sum-add, count-element}

@@ -12,7 +12,7 @@ use lib.Dec.{eqb}
 use Rattle.semigroups.specs.Lists.{at}
 use Rattle.semigroups.specs.Tables.{Product, Element}
 use Rattle.semigroups.specs.TablesLaws.{Closed}
-use Rattle.semigroups.specs.MapsLaws.{Embedding, Among}
+use Rattle.semigroups.specs.InnerMaps.{Embedding, Among}
 use Rattle.semigroups.proofs.Booleans.{both, and-left, and-right, untrue, clash, equal-or-not}
 use Rattle.rows.specs.declared.Row.{Row}
 use Rattle.rows.specs.InnerRows.{hasBit, inRow, isEmpty, rowOf, has, word, packedRow, masked, Only, Shrinks, Forced}

@@ -5,7 +5,7 @@ use mathlib.Core.List.{List}
 use Prim.Native.Nat.{ℕ, _+_, _≤_, _<_}
 use Rattle.semigroups.specs.Lists.{at}
 use Rattle.semigroups.specs.Tables.{Product, Element}
-use Rattle.semigroups.specs.MapsLaws.{Embedding, Among}
+use Rattle.semigroups.specs.InnerMaps.{Embedding, Among}
 use Rattle.rows.specs.InnerRows.{rowOf, masked, singleRow}
 
 -- The new rows lose no embedding that sends l to x and is among the old rows.

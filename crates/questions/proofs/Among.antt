@@ -9,7 +9,7 @@ use lib.Dec.{leb}
 use Rattle.semigroups.specs.Lists.{firstOf}
 use Rattle.semigroups.specs.Scratch.{scratchSize}
 use Rattle.semigroups.specs.Questions.{Question, ask, Refusal, searchQuestions, searchRefusal}
-use Rattle.semigroups.specs.QuestionsLaws.{no}
+use Rattle.semigroups.specs.InnerQuestions.{no}
 use Rattle.semigroups.specs.PassingLaws.{SearchPasses}
 use Rattle.semigroups.proofs.Questions.{failed-before, passed-before}
 use Rattle.semigroups.proofs.Passing.{search-passes, room-asked, joined}

@@ -10,13 +10,14 @@ use native.Mathlib.Omega.{arith}
 use borrow.Author.Tests.{eqb-true}
 use lib.ListN.{length, getD, List·getD-eq-default}
 use Rattle.semigroups.specs.Lists.{at, keep, earlier}
-use Rattle.semigroups.specs.ListsLaws.{Sorted, Earliest}
+use Rattle.semigroups.specs.ListsLaws.{Earliest}
+use Rattle.semigroups.specs.InnerLists.{Sorted}
 use Rattle.semigroups.specs.Tables.{Product, product, cellPlace}
 use Rattle.semigroups.specs.Scratch.{bit, scratchSize, marked}
 use Rattle.semigroups.specs.Questions.{Refusal}
 use Rattle.semigroups.specs.Calls.{refused, gives, overwritten, Answer}
 use Rattle.semigroups.specs.InnerCalls.{scratchAfter}
-use Rattle.semigroups.specs.MapsLaws.{Embedding}
+use Rattle.semigroups.specs.InnerMaps.{Embedding}
 use Rattle.semigroups.specs.Maps.{embeddings, maps, Ask, first, next, beyond, earliest, Sought, found, nothing, sought}
 use Rattle.semigroups.specs.Candidates.{candidate}
 use Rattle.semigroups.proofs.Booleans.{clash, at-most-or-above}

@@ -3,7 +3,7 @@
 use mathlib.Core.Path.{_≡_}
 use mathlib.Core.List.{List, [], _∷_}
 use Prim.Native.Nat.{ℕ}
-use Rattle.semigroups.specs.QuestionsLaws.{no}
+use Rattle.semigroups.specs.InnerQuestions.{no}
 use Rattle.semigroups.specs.Calls.{refused, gives}
 use Rattle.semigroups.specs.Maps.{first, next, found, nothing}
 use Rattle.semigroups.specs.Cases.{left}

@@ -13,7 +13,7 @@ use Rattle.semigroups.specs.Tables.{product, Element}
 use Rattle.semigroups.specs.Scratch.{scratchSize, marked}
 use Rattle.semigroups.specs.Questions.{Refusal}
 use Rattle.semigroups.specs.Calls.{refused, gives}
-use Rattle.semigroups.specs.MapsLaws.{Embedding}
+use Rattle.semigroups.specs.InnerMaps.{Embedding}
 use Rattle.semigroups.specs.Maps.{embeddings, Ask, first, found, nothing}
 use Rattle.calls.specs.Calls.{Lent, call}
 use Rattle.search.specs.WantedLaws.{Passes, Wanted}

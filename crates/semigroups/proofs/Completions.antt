@@ -10,7 +10,7 @@ use native.Mathlib.Nat.{add-sub-cancel}
 use native.Mathlib.Numerals.{add-one}
 use native.Mathlib.Omega.{arith}
 use Rattle.semigroups.specs.Lists.{range, elements, all, find, firstOf, lists}
-use Rattle.semigroups.specs.ListsLaws.{Sorted}
+use Rattle.semigroups.specs.InnerLists.{Sorted}
 use Rattle.semigroups.proofs.FlatMap.{find-flatMap}
 
 -- p, extended by each of the given lists.

@@ -10,7 +10,8 @@ use lib.ListN.{length, length-map}
 use Rattle.semigroups.specs.Lists.{elements, at, least}
 use Rattle.semigroups.specs.Tables.{Product, Element}
 use Rattle.semigroups.specs.TablesLaws.{Closed}
-use Rattle.semigroups.specs.MapsLaws.{Embedding, identity, inverse}
+use Rattle.semigroups.specs.MapsLaws.{identity, inverse}
+use Rattle.semigroups.specs.InnerMaps.{Embedding}
 use Rattle.semigroups.specs.Maps.{after}
 use Rattle.semigroups.proofs.Lists.{length-elements, at-map, at-elements, ext-at, least-first}
 use Rattle.semigroups.proofs.NoRepeats.{onto}

@@ -9,7 +9,7 @@ use lib.ListN.{length, take, getD, length-map}
 use lib.Seq.{take-suc}
 use Rattle.semigroups.specs.Lists.{elements, at, lists}
 use Rattle.semigroups.specs.Tables.{Element}
-use Rattle.semigroups.specs.TablesLaws.{IsList}
+use Rattle.semigroups.specs.InnerTables.{IsList}
 use Rattle.semigroups.proofs.Lists.{length-elements, at-elements}
 use Rattle.semigroups.proofs.FlatMap.{getD-flatMap}
 use Rattle.semigroups.proofs.ListOrder.{length-lists}

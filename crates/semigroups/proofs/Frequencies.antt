@@ -12,11 +12,11 @@ use lib.Dec.{eqb}
 use lib.ListN.{length, getD, take, drop, length-map, length-drop, take-append-drop, drop-of-length-le}
 use lib.Seq.{ext-getD, getD-take, getD-drop, length-take-le, drop-drop}
 use Rattle.semigroups.specs.Lists.{range, elements, at, sum, count}
-use Rattle.semigroups.specs.ListsLaws.{NoRepeats}
+use Rattle.semigroups.specs.InnerLists.{NoRepeats}
 use Rattle.semigroups.specs.Tables.{Product, product, grid, Element}
 use Rattle.semigroups.specs.TablesLaws.{Closed}
 use Rattle.semigroups.specs.Invariants.{frequency, diagonalFrequency, rowFrequency, columnFrequency, commuting, profile, sameProfile}
-use Rattle.semigroups.specs.MapsLaws.{Embedding}
+use Rattle.semigroups.specs.InnerMaps.{Embedding}
 use Rattle.semigroups.proofs.Booleans.{equal-or-not}
 use Rattle.semigroups.proofs.Lists.{length-elements, mem-elements, elements-mem, getD-map, at-elements, at-suc}
 use Rattle.semigroups.proofs.NoRepeats.{sum-inside, map-no-repeats, elements-no-repeats, onto}

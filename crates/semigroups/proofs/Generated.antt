@@ -7,10 +7,11 @@ use Prim.Native.Nat.{ℕ, zero, suc, _≤_, _<_, zero-le}
 use native.Mathlib.Omega.{arith}
 use lib.ListN.{length}
 use Rattle.semigroups.specs.Lists.{range, elements, member}
-use Rattle.semigroups.specs.ListsLaws.{Sorted, NoRepeats}
+use Rattle.semigroups.specs.InnerLists.{Sorted, NoRepeats}
 use Rattle.semigroups.specs.Tables.{Product, Element, Associative}
 use Rattle.semigroups.specs.TablesLaws.{Closed}
-use Rattle.semigroups.specs.GeneratedLaws.{Inside, HoldsProducts, Smallest, LeftProduct, entry, further, GeneratedTheorem}
+use Rattle.semigroups.specs.GeneratedLaws.{HoldsProducts, Smallest, GeneratedTheorem}
+use Rattle.semigroups.specs.InnerGenerated.{Inside, LeftProduct, entry, further}
 use Rattle.semigroups.specs.Generated.{setOf, products, grown, generated}
 use Rattle.semigroups.proofs.Booleans.{same-truth, at-most-or-above}
 use Rattle.semigroups.proofs.Lists.{length-elements, mem-elements, elements-mem, mem-keep, keep-mem, member-mem, mem-member, mem-or-not, keep-agree, sorted-keep, sorted-range, sorted-weaken}

@@ -14,7 +14,7 @@ use Rattle.semigroups.specs.Tables.{Product, Element, Associative}
 use Rattle.semigroups.specs.TablesLaws.{Closed}
 use Rattle.semigroups.specs.Invariants.{power, index, period, idempotentPower}
 use Rattle.semigroups.specs.InvariantsLaws.{IsIdempotentPower, TheIdempotentPower}
-use Rattle.semigroups.specs.MapsLaws.{Embedding}
+use Rattle.semigroups.specs.InnerMaps.{Embedding}
 use Rattle.semigroups.proofs.Lists.{least-first}
 use Rattle.semigroups.proofs.IndexPeriod.{power-one, power-next, power-element, shift, turns, index-period, index-period-bound, power-kept}
 

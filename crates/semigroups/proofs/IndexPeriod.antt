@@ -14,7 +14,7 @@ use Rattle.semigroups.specs.Tables.{Product, Element}
 use Rattle.semigroups.specs.TablesLaws.{Closed}
 use Rattle.semigroups.specs.Invariants.{power, periodFrom, index, period, indexPeriod, sameIndexPeriod}
 use Rattle.semigroups.specs.InvariantsLaws.{IsIndexPeriod}
-use Rattle.semigroups.specs.MapsLaws.{Embedding}
+use Rattle.semigroups.specs.InnerMaps.{Embedding}
 use Rattle.semigroups.proofs.Booleans.{both, at-most-or-above}
 use Rattle.semigroups.proofs.Lists.{least-first, least-passes}
 use Rattle.semigroups.proofs.NoRepeats.{collide}

@@ -8,10 +8,12 @@ use native.Mathlib.Nat.{le-antisymm}
 use native.Mathlib.Omega.{arith}
 use lib.ListN.{length, getD, length-map}
 use Rattle.semigroups.specs.Lists.{at}
-use Rattle.semigroups.specs.ListsLaws.{NoRepeats}
+use Rattle.semigroups.specs.InnerLists.{NoRepeats}
 use Rattle.semigroups.specs.Tables.{Product}
-use Rattle.semigroups.specs.TablesLaws.{IsList, Closed}
-use Rattle.semigroups.specs.MapsLaws.{Embedding, identity, inverse}
+use Rattle.semigroups.specs.TablesLaws.{Closed}
+use Rattle.semigroups.specs.InnerTables.{IsList}
+use Rattle.semigroups.specs.MapsLaws.{identity, inverse}
+use Rattle.semigroups.specs.InnerMaps.{Embedding}
 use Rattle.semigroups.specs.Maps.{embeddings, isomorphisms, maps, after}
 use Rattle.semigroups.specs.IsomorphismsLaws.{IsGroup, EachOnce}
 use Rattle.semigroups.proofs.Lists.{ext-at}

@@ -15,9 +15,10 @@ use Rattle.semigroups.specs.ListsLaws.{Earliest}
 use Rattle.semigroups.specs.Tables.{Product, product, Element, Filled, Accepted, isElement, associates, badCell}
 use Rattle.semigroups.specs.TablesLaws.{Closed}
 use Rattle.semigroups.specs.Questions.{Question, ask, seek, Refusal, firstNo, cellsQuestions, tableRefusal}
-use Rattle.semigroups.specs.QuestionsLaws.{no, cellsRefusal, Refused, wrong-order, wrong-size, wrong-cell}
+use Rattle.semigroups.specs.QuestionsLaws.{Refused, wrong-order, wrong-size, wrong-cell}
+use Rattle.semigroups.specs.InnerQuestions.{no, cellsRefusal}
 use Rattle.semigroups.specs.QuestionsLaws as full
-use Rattle.semigroups.specs.GeneratedLaws.{Inside}
+use Rattle.semigroups.specs.InnerGenerated.{Inside}
 use Rattle.semigroups.specs.Generated.{setOf, products, grown, generated}
 use Rattle.semigroups.specs.LightLaws.{Generates, AssociativeThrough, FailingThrough, GeneratorsRefused, wrong-cells, wrong-entry, not-generated, wrong-triple, GeneratorsPass, LightsLaw, LightsTheorem}
 use Rattle.semigroups.specs.Light.{badTripleThrough, generatorsRefusal}

@@ -12,9 +12,10 @@ use borrow.Author.Tests.{eqb-true, eq-eqb, ne-eqb, ltb-true, lt-ltb, le-ltb}
 use lib.Dec.{eqb, ltb}
 use lib.ListN.{length, getD, length-map}
 use Rattle.semigroups.specs.Lists.{range, elements, find, earlier, lists}
-use Rattle.semigroups.specs.ListsLaws.{Increasing, Earlier, Earliest, NoRepeats}
+use Rattle.semigroups.specs.ListsLaws.{Increasing, Earlier, Earliest}
+use Rattle.semigroups.specs.InnerLists.{NoRepeats}
 use Rattle.semigroups.specs.Tables.{Element}
-use Rattle.semigroups.specs.TablesLaws.{IsList}
+use Rattle.semigroups.specs.InnerTables.{IsList}
 use Rattle.semigroups.proofs.Booleans.{clash, untrue, trichotomy}
 use Rattle.semigroups.proofs.Lists.{mem-elements, elements-mem, length-range, find-some, find-none, find-first, sorted-map, sorted-weaken, sorted-range}
 use Rattle.semigroups.proofs.FlatMap.{mem-flatMap, flatMap-mem, sorted-flatMap, length-flatMap}

@@ -11,7 +11,7 @@ use lib.Dec.{eqb, leb}
 use lib.ListN.{length, getD, take, length-append, List·getD-append}
 use lib.Seq.{ext-getD, getD-append-seam}
 use Rattle.semigroups.specs.Lists.{range, elements, at, all, find, keep, least, member}
-use Rattle.semigroups.specs.ListsLaws.{Sorted}
+use Rattle.semigroups.specs.InnerLists.{Sorted}
 use Rattle.semigroups.specs.Tables.{Element, isElement}
 use Rattle.semigroups.proofs.Booleans.{either, clash, untrue, unfalse, both, and-left, and-right, or-holds, or-fails, equal-or-not}
 

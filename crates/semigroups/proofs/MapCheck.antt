@@ -13,7 +13,7 @@ use lib.ListN.{length}
 use Rattle.semigroups.specs.Lists.{range, elements, at}
 use Rattle.semigroups.specs.ListsLaws.{Earliest}
 use Rattle.semigroups.specs.Tables.{Product, Element, isElement}
-use Rattle.semigroups.specs.MapsLaws.{Embedding}
+use Rattle.semigroups.specs.InnerMaps.{Embedding}
 use Rattle.semigroups.specs.MapCheck.{Checked, holds, outside, equalImages, wrongProduct, unless, firstOutside, firstEqual, firstWrong, checkMap}
 use Rattle.semigroups.specs.MapCheckLaws.{EqualPair, WrongPair, IsChecked, an-embedding, an-outsider, an-equal-pair, a-wrong-pair}
 use Rattle.semigroups.proofs.Booleans.{clash, untrue, both, and-left, and-right, not-of-false, trichotomy}

@@ -14,9 +14,10 @@ use lib.ListN.{length}
 use Rattle.semigroups.specs.Lists.{elements, at, all, distinct, earlier, lists}
 use Rattle.semigroups.specs.ListsLaws.{Increasing, Earliest}
 use Rattle.semigroups.specs.Tables.{Product, Element, isElement, turned}
-use Rattle.semigroups.specs.TablesLaws.{IsList}
-use Rattle.semigroups.specs.MapsLaws.{Homomorphism, Embedding, Isomorphism, IsMap, ReversedIsomorphism}
-use Rattle.semigroups.specs.Maps.{isHomomorphism, isEmbedding, isIsomorphism, Kind, embeddings, isomorphisms, isMap, maps, Ask, first, next, beyond, earliest, reversed}
+use Rattle.semigroups.specs.InnerTables.{IsList}
+use Rattle.semigroups.specs.MapsLaws.{Isomorphism, IsMap, ReversedIsomorphism}
+use Rattle.semigroups.specs.InnerMaps.{Homomorphism, Embedding}
+use Rattle.semigroups.specs.Maps.{isHomomorphism, isEmbedding, isIsomorphism, Kind, embeddings, isomorphisms, isMap, maps, Ask, first, beyond, earliest, reversed}
 use Rattle.semigroups.proofs.Booleans.{clash, same-truth, both, and-left, and-right}
 use Rattle.semigroups.proofs.Lists.{all-at, all-of, pairs-at, pairs-of, is-element, element-is, find-some, find-none, find-first, keep-same, mem-keep, keep-mem, sorted-keep}
 use Rattle.semigroups.proofs.NoRepeats.{distinct-places, distinct-of, one-to-one, one-to-one-no-repeats, within-mem, no-more, no-fewer, onto, place-mem}
@@ -179,13 +180,6 @@ module _ (kind : Kind) (m : ℕ) (s : Product) (n : ℕ) (t : Product) where
 
   pub first-none : earliest first (maps kind m s n t) ≡ none → (g : List ℕ) → IsMap kind m s n t g → ⊥
   first-none e g h = earliest-none first e g h refl
-
-  -- Next is the earliest map that is later than b.
-  pub next-earliest : (b f : List ℕ) → earliest (next b) (maps kind m s n t) ≡ some f → Earliest (λ g. IsMap kind m s n t g × (earlier b g ≡ true)) f
-  next-earliest b f e = earliest-found (next b) f e
-
-  pub next-none : (b : List ℕ) → earliest (next b) (maps kind m s n t) ≡ none → (g : List ℕ) → IsMap kind m s n t g → earlier b g ≡ true → ⊥
-  next-none b e = earliest-none (next b) e
 
 -- ---- where there is none
 

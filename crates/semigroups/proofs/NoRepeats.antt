@@ -8,7 +8,7 @@ use native.Mathlib.Omega.{arith}
 use borrow.Author.Tests.{not-true}
 use lib.ListN.{length, getD, length-map}
 use Rattle.semigroups.specs.Lists.{range, elements, at, sum, member, distinct}
-use Rattle.semigroups.specs.ListsLaws.{Sorted, NoRepeats}
+use Rattle.semigroups.specs.InnerLists.{Sorted, NoRepeats}
 use Rattle.semigroups.specs.Tables.{Element}
 use Rattle.semigroups.proofs.Booleans.{both, and-left, and-right, not-of-false, trichotomy}
 use Rattle.semigroups.proofs.Lists.{length-range, getD-range, length-elements, mem-elements, elements-mem, at-suc, getD-map, sorted-range, sorted-weaken, not-member, unmember, mem-or-not}

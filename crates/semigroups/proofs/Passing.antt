@@ -10,7 +10,7 @@ use lib.Dec.{eqb, leb}
 use Rattle.semigroups.specs.Tables.{Element, Filled, Accepted, isElement}
 use Rattle.semigroups.specs.Scratch.{scratchSize}
 use Rattle.semigroups.specs.Questions.{Question, ask, onSide, firstNo, tableQuestions, tableRefusal, elementRefusal, tablesQuestions, checkQuestions, checkRefusal, searchRefusal}
-use Rattle.semigroups.specs.QuestionsLaws.{naming, cellsRefusal, tablesRefusal}
+use Rattle.semigroups.specs.InnerQuestions.{naming, cellsRefusal, tablesRefusal}
 use Rattle.semigroups.specs.Transformations.{transformationOrder, transformationRefusal}
 use Rattle.semigroups.specs.PassingLaws.{ElementPasses, CheckPasses, SearchPasses, TransformationsPass}
 use Rattle.semigroups.proofs.Lists.{is-element, element-is}

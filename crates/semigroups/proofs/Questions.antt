@@ -8,7 +8,8 @@ use mathlib.Core.Option.{Option, none, some, Option·map, orElse, Option·none-n
 use Prim.Native.Nat.{ℕ}
 use Rattle.semigroups.specs.Lists.{all, firstOf, member}
 use Rattle.semigroups.specs.Questions.{Question, ask, onSide, Refusal, refusalBy, firstNo}
-use Rattle.semigroups.specs.QuestionsLaws.{naming, Passed, EarliestNo, numbers}
+use Rattle.semigroups.specs.QuestionsLaws.{Passed, EarliestNo, numbers}
+use Rattle.semigroups.specs.InnerQuestions.{naming}
 use Rattle.semigroups.proofs.Lists.{all-at, member-mem, mem-member}
 use Rattle.semigroups.proofs.Completions.{orElse-none, firstOf-append}
 

@@ -1,4 +1,4 @@
--- The rules about tables and maps that were requested after the base hold: each field is a law of its subject, with instances beside it there. Assumes nothing.
+-- These rules about tables and maps hold: each field is a law of its subject, with instances beside it there. Assumes nothing.
 use mathlib.Core.Path.{_≡_}
 use mathlib.Core.Bool.{true, _&&_}
 use borrow.Author.Tests.{eqb-true}
@@ -7,8 +7,6 @@ use Rattle.semigroups.specs.Invariants.{Profile, sameIndexPeriod, samePr
 use Rattle.semigroups.specs.Candidates.{candidate}
 use Rattle.semigroups.specs.Requests.{TableRequests}
 use Rattle.semigroups.proofs.Booleans.{and-right}
-use Rattle.semigroups.proofs.Tables.{accepted-closed}
-use Rattle.semigroups.proofs.Idempotents.{the-idempotent-power}
 use Rattle.semigroups.proofs.Generated.{generated-theorem}
 use Rattle.semigroups.proofs.Light.{lights-law, lights-theorem, generators-pass, generators-refused}
 use Rattle.semigroups.proofs.Reversed.{reversed-theorem}
@@ -33,7 +31,6 @@ pub table-requests : TableRequests
 unfolding candidate profile
 table-requests =
     record {
-      one-idempotent = λ n cells a accepted h. the-idempotent-power n _ (accepted-closed n cells accepted) (accepted .associative) a h;
       generated = generated-theorem;
       light = lights-law;
       shorter-check = lights-theorem;

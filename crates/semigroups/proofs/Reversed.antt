@@ -7,9 +7,11 @@ use Prim.Native.Nat.{ℕ}
 use lib.ListN.{length}
 use Rattle.semigroups.specs.Lists.{range, elements, at, all, keep, sum, count, member, distinct, earlier, lists}
 use Rattle.semigroups.specs.Tables.{Product, product, grid, turned, Element, Associative, isElement}
-use Rattle.semigroups.specs.TablesLaws.{turnedCells, Closed}
+use Rattle.semigroups.specs.TablesLaws.{Closed}
+use Rattle.semigroups.specs.InnerTables.{turnedCells}
 use Rattle.semigroups.specs.Invariants.{profile, sameProfile}
-use Rattle.semigroups.specs.MapsLaws.{Embedding, Isomorphism, ReversedIsomorphism}
+use Rattle.semigroups.specs.MapsLaws.{Isomorphism, ReversedIsomorphism}
+use Rattle.semigroups.specs.InnerMaps.{Embedding}
 use Rattle.semigroups.specs.Maps.{isHomomorphism, isEmbedding, isIsomorphism, isomorphisms, reversed, maps, after}
 use Rattle.semigroups.specs.Candidates.{candidate}
 use Rattle.semigroups.specs.Transformations.{transformations, transformationOrder, transformation, numberOf, transformationProduct, transformationCells}

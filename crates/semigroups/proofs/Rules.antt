@@ -10,14 +10,16 @@ use borrow.Author.Tests.{eq-eqb, eqb-true}
 use lib.Dec.{eqb}
 use lib.ListN.{length, getD, length-map}
 use lib.Seq.{ext-getD}
-use Rattle.semigroups.specs.Lists.{range, elements, at, all, find, keep, sum, count, least, lists}
-use Rattle.semigroups.specs.ListsLaws.{NoRepeats, IsCount}
+use Rattle.semigroups.specs.Lists.{range, elements, at, find, keep, sum, count, least, lists}
+use Rattle.semigroups.specs.ListsLaws.{IsCount}
+use Rattle.semigroups.specs.InnerLists.{NoRepeats}
 use Rattle.semigroups.specs.Tables.{Product, product, turned, Element, Accepted, isElement}
 use Rattle.semigroups.specs.TablesLaws.{Closed}
 use Rattle.semigroups.specs.Invariants.{power, periodFrom, index, period, idempotentPower, indexPeriod, frequency, diagonalFrequency, rowFrequency, columnFrequency, commuting, IndexPeriod, Profile, profile, sameProfile, sameIndexPeriod}
-use Rattle.semigroups.specs.InvariantsLaws.{IsIndexPeriod, IsIdempotentPower, IsProfile}
+use Rattle.semigroups.specs.InvariantsLaws.{IsIdempotentPower, IsProfile}
 use Rattle.semigroups.specs.InvariantsExamples.{CommutingExamples}
-use Rattle.semigroups.specs.MapsLaws.{Embedding, Isomorphism, IsMap, Among}
+use Rattle.semigroups.specs.MapsLaws.{Isomorphism, IsMap}
+use Rattle.semigroups.specs.InnerMaps.{Embedding, Among}
 use Rattle.semigroups.specs.Maps.{Kind, embeddings, isomorphisms, reversed}
 use Rattle.semigroups.specs.MapCheck.{Checked, holds, wrongProduct, firstOutside, firstEqual, firstWrong, checkMap}
 use Rattle.semigroups.specs.MapCheckLaws.{IsChecked}
@@ -25,11 +27,12 @@ use Rattle.semigroups.specs.Candidates.{candidate}
 use Rattle.semigroups.specs.Transformations.{transformations, transformationOrder}
 use Rattle.semigroups.specs.Rules.{InvariantRules, MapRules, TransformationRules, TableRules}
 use Rattle.semigroups.specs.Cases.{mat5}
-use Rattle.semigroups.proofs.Lists.{length-range, getD-range, mem-range, range-mem, mem-elements, elements-mem, getD-map, mem-keep, keep-mem, sorted-keep, sorted-range, sorted-weaken}
+use Rattle.semigroups.proofs.Lists.{length-range, getD-range, mem-range, range-mem, mem-elements, elements-mem, getD-map, mem-keep, keep-mem, sorted-keep, sorted-range}
 use Rattle.semigroups.proofs.NoRepeats.{elements-no-repeats}
 use Rattle.semigroups.proofs.ListOrder.{lists-increasing}
 use Rattle.semigroups.proofs.Sums.{count-map}
 use Rattle.semigroups.proofs.Tables.{accepted-closed, refused}
+use Rattle.semigroups.proofs.Questions.{number-listed}
 use Rattle.semigroups.proofs.IndexPeriod.{power-one, power-next, index-period, index-period-unique, index-period-bound}
 use Rattle.semigroups.proofs.Idempotents.{the-idempotent-power, idempotent-power-at}
 use Rattle.semigroups.proofs.Frequencies.{frequencies-sum, diagonal-frequencies-sum, frequency-cells}
@@ -207,7 +210,14 @@ transformation-rules d =
     }
 
 pub table-rules : TableRules
-table-rules = record { refused = refused; invariants-of = invariant-rules; maps-between = map-rules; transformation-tables = transformation-rules }
+table-rules =
+    record {
+      refused = refused;
+      number-listed = number-listed;
+      invariants-of = invariant-rules;
+      maps-between = map-rules;
+      transformation-tables = transformation-rules;
+    }
 
 -- ---- instances
 

@@ -14,11 +14,11 @@ use lib.ListN.{length, length-append}
 use Rattle.semigroups.specs.Lists.{range, elements, at, all, member, earlier, lists}
 use Rattle.semigroups.specs.Tables.{Product, Element}
 use Rattle.semigroups.specs.TablesLaws.{Closed}
-use Rattle.semigroups.specs.MapsLaws.{Embedding, Among}
+use Rattle.semigroups.specs.InnerMaps.{Embedding, Among}
 use Rattle.semigroups.specs.Maps.{isEmbedding, embeddings, maps, Ask, first, next, beyond, earliest}
 use Rattle.semigroups.specs.Trials.{fits, passes}
 use Rattle.semigroups.specs.InnerTrials.{notBefore}
-use Rattle.semigroups.specs.InnerSearch.{admits, search, isWanted, earliestExtension, Placed}
+use Rattle.semigroups.specs.InnerSearch.{admits, search, isWanted, Placed}
 use Rattle.semigroups.proofs.Booleans.{clash, untrue, both, and-left, and-right, not-of-false}
 use Rattle.semigroups.proofs.Lists.{mem-elements, at-suc, at-front, at-seam, length-snoc, each-at, each-of, pairs-at, pairs-of, find-some, none-find, find-same, find-keep, sorted-append, not-member, unmember}
 use Rattle.semigroups.proofs.NoRepeats.{one-to-one, mem-place, place-mem}
@@ -102,10 +102,6 @@ late (next b) p q e =
 module _ (m : ℕ) (s : Product) (n : ℕ) (t : Product) (candidate : ℕ → ℕ → Bool) (ask : Ask) where
   abbrev asked : List ℕ → Bool
   asked = isWanted m s n t candidate ask
-
-  pub as-extension : (d : ℕ) (p : List ℕ) → earliestExtension m s n t candidate ask d p ≡ findExtension asked n d p
-  unfolding earliestExtension findExtension extensions
-  as-extension d p = refl
 
   wanted-parts : (f : List ℕ) → asked f ≡ true → Embedding m s n t f × Among m candidate f × (beyond ask f ≡ true)
   unfolding isWanted

@@ -10,13 +10,13 @@ use borrow.Author.Tests.{eqb-true, eq-eqb, leb-true, le-leb, lt-leb}
 use lib.Dec.{eqb, leb}
 use lib.ListN.{length}
 use Rattle.semigroups.specs.Lists.{range, elements, at, all, find, firstOf, keep, least, member, lists}
-use Rattle.semigroups.specs.ListsLaws.{NoRepeats}
+use Rattle.semigroups.specs.InnerLists.{NoRepeats}
 use Rattle.semigroups.specs.Tables.{Product, product, grid, Element, Associative, Accepted, isElement, associates, badCell, badTriple}
 use Rattle.semigroups.specs.TablesLaws.{Closed}
 use Rattle.semigroups.specs.Questions.{Question, ask, Refusal, firstNo, tableQuestions, tableRefusal}
-use Rattle.semigroups.specs.QuestionsLaws.{no}
-use Rattle.semigroups.specs.MapsLaws.{Embedding}
-use Rattle.semigroups.specs.GeneratedLaws.{Inside}
+use Rattle.semigroups.specs.InnerQuestions.{no}
+use Rattle.semigroups.specs.InnerMaps.{Embedding}
+use Rattle.semigroups.specs.InnerGenerated.{Inside}
 use Rattle.semigroups.specs.Generated.{setOf, products, grown, generated}
 use Rattle.semigroups.specs.Subsemigroups.{numberIn, renumbered, partCells, subsemigroupRefusal}
 use Rattle.semigroups.specs.SubsemigroupsLaws.{SubsemigroupPasses, Subsemigroup, SubsemigroupTheorem}

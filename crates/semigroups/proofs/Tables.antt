@@ -15,9 +15,11 @@ use lib.Seq.{ext-getD}
 use Rattle.semigroups.specs.Lists.{range, elements, at, firstOf, lists}
 use Rattle.semigroups.specs.ListsLaws.{Earliest}
 use Rattle.semigroups.specs.Tables.{Product, product, grid, Element, Associative, Filled, Accepted, isElement, associates, badCell, badTriple, cellPlace}
-use Rattle.semigroups.specs.TablesLaws.{IsList, Closed, FailingTriple}
+use Rattle.semigroups.specs.TablesLaws.{Closed, FailingTriple}
+use Rattle.semigroups.specs.InnerTables.{IsList}
 use Rattle.semigroups.specs.Questions.{Refusal, cellsQuestions, tripleQuestion, tableRefusal}
-use Rattle.semigroups.specs.QuestionsLaws.{no, cellsRefusal, Refused, wrong-order, wrong-size, wrong-cell, wrong-triple}
+use Rattle.semigroups.specs.QuestionsLaws.{Refused, wrong-order, wrong-size, wrong-cell, wrong-triple}
+use Rattle.semigroups.specs.InnerQuestions.{no, cellsRefusal}
 use Rattle.semigroups.proofs.Booleans.{either, clash, untrue, not-of-true, not-of-false, equal-or-not, trichotomy}
 use Rattle.semigroups.proofs.Lists.{length-elements, mem-elements, getD-map, mem-range, range-mem, sorted-range, at-suc, at-elements, is-element, element-is, find-some, find-none, none-find, find-first}
 use Rattle.semigroups.proofs.FlatMap.{mem-flatMap, length-flatMap, getD-flatMap}

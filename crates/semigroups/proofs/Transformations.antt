@@ -10,7 +10,8 @@ use lib.ListN.{length, getD}
 use Rattle.semigroups.specs.Lists.{elements, at, sum, count, earlier, lists}
 use Rattle.semigroups.specs.ListsLaws.{Increasing}
 use Rattle.semigroups.specs.Tables.{product, grid, Element, Associative, Accepted}
-use Rattle.semigroups.specs.TablesLaws.{IsList, Closed}
+use Rattle.semigroups.specs.TablesLaws.{Closed}
+use Rattle.semigroups.specs.InnerTables.{IsList}
 use Rattle.semigroups.specs.Maps.{after}
 use Rattle.semigroups.specs.Transformations.{transformations, transformationOrder, transformation, numberOf, transformationProduct, transformationCells}
 use Rattle.semigroups.proofs.Lists.{mem-elements}

@@ -11,7 +11,8 @@ use lib.ListN.{length, take, drop}
 use lib.Seq.{take-at}
 use Rattle.semigroups.specs.Lists.{elements, count}
 use Rattle.semigroups.specs.Tables.{Product, product, turned, Element, Associative, Accepted}
-use Rattle.semigroups.specs.TablesLaws.{turnedCells, Closed}
+use Rattle.semigroups.specs.TablesLaws.{Closed}
+use Rattle.semigroups.specs.InnerTables.{turnedCells}
 use Rattle.semigroups.specs.Calls.{overwritten}
 use Rattle.semigroups.specs.Invariants.{power, index, period, idempotentPower, indexPeriod, frequency, diagonalFrequency, rowFrequency, columnFrequency, commuting, profile, exchanged}
 use Rattle.semigroups.specs.InvariantsLaws.{IsIndexPeriod}

@@ -13,7 +13,7 @@ use lib.ListN.{length, getD, replicate, length-replicate}
 use Rattle.semigroups.specs.Lists.{find, earlier}
 use Rattle.semigroups.specs.ListsLaws.{Increasing}
 use Rattle.semigroups.specs.Tables.{Product, Element}
-use Rattle.semigroups.specs.TablesLaws.{IsList}
+use Rattle.semigroups.specs.InnerTables.{IsList}
 use Rattle.semigroups.specs.Maps.{Kind, maps, next, earliest, found, nothing, sought}
 use Rattle.semigroups.specs.Questions.{Refusal}
 use Rattle.semigroups.specs.Calls.{gives}

@@ -8,7 +8,7 @@ use lib.ListN.{length, replicate}
 use Rattle.semigroups.specs.Lists.{elements}
 use Rattle.semigroups.specs.Tables.{product, Accepted}
 use Rattle.semigroups.specs.Questions.{Refusal, tableRefusal}
-use Rattle.semigroups.specs.QuestionsLaws.{no}
+use Rattle.semigroups.specs.InnerQuestions.{no}
 use Rattle.semigroups.specs.Invariants.{IndexPeriod, Profile, indexPeriod, profile}
 use Rattle.semigroups.specs.Maps.{Kind, embeddings, isomorphisms, maps, Ask, first, next, earliest}
 use Rattle.semigroups.specs.Transformations.{transformationOrder, transformationCells}

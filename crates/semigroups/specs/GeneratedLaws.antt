@@ -6,13 +6,10 @@ use mathlib.Core.Logic.{_↔_}
 use mathlib.Core.List.{List, List·Memᴰ}
 use Prim.Native.Nat.{ℕ}
 use Rattle.semigroups.specs.Lists.{member}
-use Rattle.semigroups.specs.Tables.{Product, Element}
+use Rattle.semigroups.specs.Tables.{Product}
 use Rattle.semigroups.specs.TablesLaws.{Closed}
 use Rattle.semigroups.specs.Generated.{generated}
-
--- Every entry of the list is an element of a table of order n.
-abbrev pub Inside : ℕ → List ℕ → Type 0
-Inside n l = (x : ℕ) → List·Memᴰ x l → Element n x
+use Rattle.semigroups.specs.InnerGenerated.{Inside}
 
 -- The set P contains the list and every product of its own members.
 pub record HoldsProducts (s : Product) (l : List ℕ) (P : ℕ → Type 0) : Type 0 where
@@ -23,12 +20,6 @@ pub record HoldsProducts (s : Product) (l : List ℕ) (P : ℕ → Type 0) : Typ
 pub record Smallest (s : Product) (l : List ℕ) (P : ℕ → Type 0) : Type 1 where
   pub holds : HoldsProducts s l P
   pub inside-others : (Q : ℕ → Type 0) → HoldsProducts s l Q → (x : ℕ) → P x → Q x
-
--- x is an entry of the list, or a product of entries taken from left to right, as ((a·b)·c)·d. If the product is associative, these are all that the list
--- generates.
-pub data LeftProduct (s : Product) (l : List ℕ) : ℕ → Type 0 where
-  entry : (x : ℕ) → List·Memᴰ x l → LeftProduct s l x
-  further : (x y z : ℕ) → LeftProduct s l x → List·Memᴰ y l → z ≡ s x y → LeftProduct s l z
 
 -- The list `generated` is that set: it is the smallest, and x stands in the list exactly if x is in the smallest set.
 pub record Computes (n : ℕ) (s : Product) (l : List ℕ) : Type 1 where

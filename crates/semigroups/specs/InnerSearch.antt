@@ -2,12 +2,12 @@
 -- is tested before the next. It takes any candidates. What it finds is a theorem about it and no part of what first and next mean. The paper prints φ(i)φ(k)
 -- for the undefined product, and means φ(i)φ(j). Assumes nothing.
 use mathlib.Core.Bool.{Bool, true, false, _&&_, not, cond}
-use mathlib.Core.List.{List, [], _∷_, _++_, map, List·Memᴰ}
+use mathlib.Core.List.{List, [], _∷_, _++_, List·Memᴰ}
 use mathlib.Core.Option.{Option, none, some}
 use Prim.Native.Nat.{ℕ, zero, suc}
 use lib.ListN.{length}
-use Rattle.semigroups.specs.Lists.{elements, at, all, find, firstOf, member, lists}
-use Rattle.semigroups.specs.ListsLaws.{NoRepeats}
+use Rattle.semigroups.specs.Lists.{elements, at, all, firstOf, member}
+use Rattle.semigroups.specs.InnerLists.{NoRepeats}
 use Rattle.semigroups.specs.Tables.{Product, Element}
 use Rattle.semigroups.specs.Maps.{isEmbedding, Kind, embeddings, isomorphisms, Ask, beyond}
 use Rattle.semigroups.specs.Trials.{passes}
@@ -37,10 +37,6 @@ module _ (m : ℕ) (s : Product) (n : ℕ) (t : Product) (candidate : ℕ → �
       let late = beyond ask f in
       let among = all (λ i. candidate i (at f i)) (elements m) && late in
       isEmbedding m s n t f && among
-
-  -- The earliest map asked for that begins with the list placed, where d elements are left to place. A search finds it with any test that loses no map.
-  unfoldable pub earliestExtension : ℕ → List ℕ → Option (List ℕ)
-  earliestExtension d p = find isWanted (map (λ q. p ++ q) (lists d n))
 
 -- The kinds for which the target is searched as it is: embeddings, or with true isomorphisms.
 abbrev pub plainKind : Bool → Kind

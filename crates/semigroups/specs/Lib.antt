@@ -8,11 +8,15 @@ pub mod Maps
 pub mod MapCheck
 pub mod Candidates
 pub mod Transformations
+pub mod InnerLists
 pub mod ListsLaws
 pub mod InvariantsLaws
+pub mod InnerMaps
 pub mod MapsLaws
+pub mod InnerTables
 pub mod TablesLaws
 pub mod MapCheckLaws
+pub mod InnerQuestions
 pub mod QuestionsLaws
 pub mod ScratchLaws
 pub mod Rules
@@ -22,7 +26,9 @@ pub mod Light
 pub mod Subsemigroups
 pub mod Copies
 pub mod Trials
+pub mod InnerCopies
 pub mod CopiesLaws
+pub mod InnerGenerated
 pub mod GeneratedLaws
 pub mod LightLaws
 pub mod ReversedLaws

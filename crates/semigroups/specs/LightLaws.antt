@@ -11,8 +11,8 @@ use Rattle.semigroups.specs.ListsLaws.{Earliest}
 use Rattle.semigroups.specs.Tables.{Product, product, Element, Associative, Filled, Accepted}
 use Rattle.semigroups.specs.TablesLaws.{Closed, FailingTriple}
 use Rattle.semigroups.specs.Questions.{Refusal, tableRefusal}
-use Rattle.semigroups.specs.QuestionsLaws.{no, cellsRefusal}
-use Rattle.semigroups.specs.GeneratedLaws.{Inside}
+use Rattle.semigroups.specs.InnerQuestions.{no, cellsRefusal}
+use Rattle.semigroups.specs.InnerGenerated.{Inside}
 use Rattle.semigroups.specs.Generated.{generated}
 use Rattle.semigroups.specs.Light.{generatorsRefusal}
 

@@ -1,21 +1,13 @@
--- What is said of lists in plain words: sorted, without repeats, increasing, earlier, earliest.
+-- What is said of lists in plain words: increasing, earlier, earliest; and how many numbers have a property.
 -- Assumes nothing.
 use mathlib.Core.Path.{_≡_}
 use mathlib.Core.Bool.{true}
 use mathlib.Core.Logic.{_⊎_, _↔_}
-use mathlib.Core.List.{List, [], _∷_, List·Memᴰ}
+use mathlib.Core.List.{List, List·Memᴰ}
 use Prim.Native.Nat.{ℕ, _<_}
 use lib.ListN.{length, getD}
 use Rattle.semigroups.specs.Lists.{earlier}
-
--- Each entry stands in the relation R to every later entry.
-abbrev pub Sorted : {A : Type 0} → (A → A → Type 0) → List A → Type 0
-Sorted R [] = Unit {0}
-Sorted {A} R (x ∷ l) = ((y : A) → List·Memᴰ y l → R x y) × Sorted R l
-
--- No entry equals a later one.
-abbrev pub NoRepeats : {A : Type 0} → List A → Type 0
-NoRepeats {A} l = Sorted (λ (x y : A). x ≡ y → ⊥) l
+use Rattle.semigroups.specs.InnerLists.{Sorted, NoRepeats}
 
 -- Exactly k numbers have the property P: a list of them, each once, has k entries.
 pub record IsCount (P : ℕ → Type 0) (k : ℕ) : Type 0 where

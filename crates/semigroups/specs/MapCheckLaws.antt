@@ -6,8 +6,8 @@ use Prim.Native.Nat.{ℕ, _<_}
 use Rattle.semigroups.specs.Lists.{at}
 use Rattle.semigroups.specs.ListsLaws.{Earliest}
 use Rattle.semigroups.specs.Tables.{Product, Element}
-use Rattle.semigroups.specs.TablesLaws.{IsList}
-use Rattle.semigroups.specs.MapsLaws.{Embedding}
+use Rattle.semigroups.specs.InnerTables.{IsList}
+use Rattle.semigroups.specs.InnerMaps.{Embedding}
 use Rattle.semigroups.specs.MapCheck.{Checked, holds, outside, equalImages, wrongProduct}
 
 -- The pair l of elements, the first smaller, has equal images.

@@ -1,31 +1,20 @@
--- What each kind of map is, in plain words (arXiv 1603.06204, section 2; RULES 5); the identity and the inverse of a map.
+-- What a map of each kind is, in plain words (arXiv 1603.06204, section 2; RULES 5); the identity and the inverse of a map.
 -- Assumes nothing.
 use mathlib.Core.Path.{_≡_}
 use mathlib.Core.List.{List, map}
-use mathlib.Core.Bool.{Bool, true}
 use Prim.Native.Nat.{ℕ}
 use lib.Dec.{eqb}
 use lib.ListN.{length}
 use Rattle.semigroups.specs.Lists.{elements, at, least}
 use Rattle.semigroups.specs.Tables.{Product, Element}
 use Rattle.semigroups.specs.Maps.{Kind, embeddings, isomorphisms, reversed}
+use Rattle.semigroups.specs.InnerMaps.{Embedding}
 
 module _ (m : ℕ) (s : Product) (n : ℕ) (t : Product) where
-  -- A homomorphism: the image of i·j is the image of i times the image of j.
-  pub record Homomorphism (f : List ℕ) : Type 0 where
-    pub size : length f ≡ m
-    pub within : (i : ℕ) → Element m i → Element n (at f i)
-    pub keeps-product : (i j : ℕ) → Element m i → Element m j → at f (s i j) ≡ t (at f i) (at f j)
-
-  -- An embedding: a homomorphism with no two images equal.
-  pub record Embedding (f : List ℕ) : Type 0 where
-    pub homomorphism : Homomorphism f
-    pub one-to-one : (i j : ℕ) → Element m i → Element m j → at f i ≡ at f j → i ≡ j
-
   -- An isomorphism: an embedding with m = n.
   pub record Isomorphism (f : List ℕ) : Type 0 where
     pub same-order : m ≡ n
-    pub embedding : Embedding f
+    pub embedding : Embedding m s n t f
 
   -- A reversed isomorphism: one to one, onto, and the image of i·j is the image of j times the image of i (RULES 5.5).
   pub record ReversedIsomorphism (f : List ℕ) : Type 0 where
@@ -52,7 +41,3 @@ identity n = elements n
 -- The inverse, in RULES 5.8 the reverse, of a map of n elements onto themselves: the byte at the place that a's byte i names is i.
 unfoldable pub inverse : ℕ → List ℕ → List ℕ
 inverse n a = map (λ j. least n (λ i. eqb (at a i) j)) (elements n)
-
--- The images of a map are among the candidates.
-abbrev pub Among : ℕ → (ℕ → ℕ → Bool) → List ℕ → Type 0
-Among m candidate f = (i : ℕ) → Element m i → candidate i (at f i) ≡ true

@@ -1,6 +1,6 @@
 -- What is said of questions in plain words: which one is the earliest that fails, and what the refusal of a table means. Assumes nothing.
 use mathlib.Core.List.{List, [], _∷_, _++_, map}
-use mathlib.Core.Option.{Option, none, some}
+use mathlib.Core.Option.{none, some}
 use mathlib.Core.Path.{_≡_}
 use Prim.Native.Nat.{ℕ, _*_, _≤_, _<_}
 use lib.ListN.{length, getD}
@@ -8,17 +8,10 @@ use Rattle.semigroups.specs.Lists.{at}
 use Rattle.semigroups.specs.ListsLaws.{Earliest}
 use Rattle.semigroups.specs.Tables.{largestOrder, product, Element}
 use Rattle.semigroups.specs.TablesLaws.{FailingTriple}
-use Rattle.semigroups.specs.Questions.{Refusal, Question, firstNo, cellsQuestions, tablesQuestions}
+use Rattle.semigroups.specs.Questions.{Refusal, Question}
+use Rattle.semigroups.specs.InnerQuestions.{no}
 
 -- ---- a refusal
-
--- The refusal with this number and these values that names no side.
-abbrev pub no : ℕ → List ℕ → Refusal
-no number values = record { number = number; side = 0; values = values }
-
--- The refusal of one of two tables, with the side that it names.
-abbrev pub naming : ℕ → Refusal → Refusal
-naming side r = record { number = r .number; side = side; values = r .values }
 
 -- Every question of a list passes.
 abbrev pub Passed : List Question → Type 0
@@ -42,10 +35,6 @@ numbers qs = map (λ q. q .number) qs
 
 -- ---- about a table
 
--- The refusal of cells and an order, if one of questions 1 to 3 fails.
-unfoldable pub cellsRefusal : ℕ → List ℕ → Option Refusal
-cellsRefusal n cells = firstNo (cellsQuestions n cells)
-
 -- What the refusal of a table means: the earliest question whose answer is "no", with the earliest cell or triple.
 pub data Refused (n : ℕ) (cells : List ℕ) : Refusal → Type 0 where
   wrong-order : (Element largestOrder n → ⊥) → Refused n cells (no 1 [])
@@ -54,9 +43,3 @@ pub data Refused (n : ℕ) (cells : List ℕ) : Refusal → Type 0 where
       → Refused n cells (no 3 (k ∷ []))
   wrong-triple : (l : List ℕ) → Element largestOrder n → length cells ≡ n * n → ((k : ℕ) → k < length cells → Element n (getD cells k 0)) → Earliest (FailingTriple n (product n cells)) l
       → Refused n cells (no 4 l)
-
--- ---- about two tables
-
--- The refusal of two tables, if one of the four questions about each fails.
-unfoldable pub tablesRefusal : ℕ → List ℕ → ℕ → List ℕ → Option Refusal
-tablesRefusal m source n target = firstNo (tablesQuestions m source n target)

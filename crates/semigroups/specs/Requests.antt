@@ -1,4 +1,4 @@
--- The rules about tables and maps that were requested after the base (RULES 4.3, 4.5, 10, 15, 16 and 18): what each asks to be shown, for any order.
+-- Further rules about tables and maps (RULES 4.5, 10, 15, 16 and 18): what each asks to be shown, for any order.
 -- Assumes nothing.
 use mathlib.Core.Path.{_≡_}
 use mathlib.Core.Bool.{true, _&&_}
@@ -7,10 +7,9 @@ use mathlib.Core.List.{List}
 use mathlib.Core.Option.{none, some}
 use Prim.Native.Nat.{ℕ}
 use lib.Dec.{eqb}
-use Rattle.semigroups.specs.Tables.{Product, product, Element, Accepted}
+use Rattle.semigroups.specs.Tables.{Product}
 use Rattle.semigroups.specs.Questions.{Refusal}
-use Rattle.semigroups.specs.Invariants.{index, period, idempotentPower, commuting}
-use Rattle.semigroups.specs.InvariantsLaws.{TheIdempotentPower}
+use Rattle.semigroups.specs.Invariants.{index, period, commuting}
 use Rattle.semigroups.specs.Maps.{embeddings, isomorphisms, reversed}
 use Rattle.semigroups.specs.Candidates.{candidate}
 use Rattle.semigroups.specs.GeneratedLaws.{GeneratedTheorem}
@@ -22,8 +21,6 @@ use Rattle.semigroups.specs.CopiesLaws.{CopiesTheorem}
 
 -- What these rules ask to be shown.
 pub record TableRequests : Type 1 where
-  -- RULES 4.3: "The one power e of the element with e·e = e", whatever the exponents of the others.
-  pub one-idempotent : (n : ℕ) (cells : List ℕ) (a : ℕ) → Accepted n cells → Element n a → TheIdempotentPower (product n cells) a (idempotentPower n (product n cells) a)
   -- RULES 15.1: the elements that a list generates are "the smallest set that holds the list and every product of the set's own members".
   pub generated : GeneratedTheorem
   -- RULES 15.2: associative or not is what the full check says; what passes, and what each refusal says.

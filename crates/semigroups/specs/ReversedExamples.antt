@@ -4,7 +4,7 @@ use mathlib.Core.Path.{_≡_}
 use mathlib.Core.List.{List, [], _∷_}
 use Prim.Native.Nat.{ℕ}
 use lib.ListN.{length}
-use Rattle.semigroups.specs.TablesLaws.{turnedCells}
+use Rattle.semigroups.specs.InnerTables.{turnedCells}
 use Rattle.semigroups.specs.Maps.{Kind, isomorphisms, reversed}
 use Rattle.semigroups.specs.Cases.{Table, swap, left, right, two}
 use Rattle.semigroups.specs.ReversedLaws.{between}

@@ -6,7 +6,8 @@ use Prim.Native.Nat.{ℕ}
 use lib.ListN.{length}
 use Rattle.semigroups.specs.ListsLaws.{Increasing}
 use Rattle.semigroups.specs.Tables.{product, Element, Accepted}
-use Rattle.semigroups.specs.TablesLaws.{turnedCells, Commutative}
+use Rattle.semigroups.specs.TablesLaws.{Commutative}
+use Rattle.semigroups.specs.InnerTables.{turnedCells}
 use Rattle.semigroups.specs.Invariants.{profile, exchanged}
 use Rattle.semigroups.specs.MapsLaws.{ReversedIsomorphism}
 use Rattle.semigroups.specs.Maps.{Kind, isomorphisms, reversed, maps, after}

@@ -4,19 +4,20 @@
 use mathlib.Core.Path.{_≡_}
 use mathlib.Core.Bool.{true}
 use mathlib.Core.Logic.{_↔_}
-use mathlib.Core.List.{List, [], List·Memᴰ}
+use mathlib.Core.List.{List, List·Memᴰ}
 use mathlib.Core.Option.{some}
 use Prim.Native.Nat.{ℕ, suc, _+_, _*_, _^_, _≤_, _<_}
 use lib.ListN.{length}
-use Rattle.semigroups.specs.Lists.{elements, at, sum}
+use Rattle.semigroups.specs.Lists.{elements, at, sum, member}
 use Rattle.semigroups.specs.ListsLaws.{Increasing, Earliest}
 use Rattle.semigroups.specs.Tables.{product, Element, Accepted}
-use Rattle.semigroups.specs.TablesLaws.{IsList}
-use Rattle.semigroups.specs.Questions.{Refusal, tableRefusal}
-use Rattle.semigroups.specs.QuestionsLaws.{Refused}
+use Rattle.semigroups.specs.InnerTables.{IsList}
+use Rattle.semigroups.specs.Questions.{Question, Refusal, firstNo, tableRefusal}
+use Rattle.semigroups.specs.QuestionsLaws.{numbers, Refused}
 use Rattle.semigroups.specs.Invariants.{power, index, period, idempotentPower, frequency, diagonalFrequency, Profile, profile}
 use Rattle.semigroups.specs.InvariantsLaws.{TheIdempotentPower, IsProfile}
-use Rattle.semigroups.specs.MapsLaws.{Embedding, Isomorphism, IsMap, Among}
+use Rattle.semigroups.specs.MapsLaws.{Isomorphism, IsMap}
+use Rattle.semigroups.specs.InnerMaps.{Embedding, Among}
 use Rattle.semigroups.specs.Maps.{Kind, maps, Ask, beyond, earliest}
 use Rattle.semigroups.specs.MapCheck.{Checked, checkMap}
 use Rattle.semigroups.specs.MapCheckLaws.{IsChecked}
@@ -82,6 +83,8 @@ pub record TransformationRules (d : ℕ) : Type 0 where
 pub record TableRules : Type 0 where
   -- Questions 1 to 4: what a refusal means, in both directions.
   pub refused : (n : ℕ) (cells : List ℕ) (r : Refusal) → (tableRefusal n cells ≡ some r) ↔ Refused n cells r
+  -- RULES 7.2: "No other number occurs": the number of a refusal is that of one of the questions asked.
+  pub number-listed : (qs : List Question) (r : Refusal) → firstNo qs ≡ some r → member (r .number) (numbers qs) ≡ true
   pub invariants-of : (n : ℕ) (cells : List ℕ) → Accepted n cells → InvariantRules n cells
   pub maps-between : (m : ℕ) (source : List ℕ) (n : ℕ) (target : List ℕ) → Accepted m source → Accepted n target → MapRules m source n target
   pub transformation-tables : (d : ℕ) → TransformationRules d

@@ -5,10 +5,11 @@ use mathlib.Core.Logic.{_↔_}
 use mathlib.Core.List.{List, List·Memᴰ}
 use Prim.Native.Nat.{ℕ, _*_, _≤_, _<_}
 use lib.ListN.{length}
-use Rattle.semigroups.specs.ListsLaws.{Sorted}
+use Rattle.semigroups.specs.InnerLists.{Sorted}
 use Rattle.semigroups.specs.Tables.{product, Accepted}
-use Rattle.semigroups.specs.MapsLaws.{Embedding}
-use Rattle.semigroups.specs.GeneratedLaws.{Inside, Smallest}
+use Rattle.semigroups.specs.InnerMaps.{Embedding}
+use Rattle.semigroups.specs.GeneratedLaws.{Smallest}
+use Rattle.semigroups.specs.InnerGenerated.{Inside}
 use Rattle.semigroups.specs.Generated.{generated}
 use Rattle.semigroups.specs.Subsemigroups.{partCells}
 

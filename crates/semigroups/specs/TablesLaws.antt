@@ -1,21 +1,11 @@
--- What is said of tables in plain words, besides what a table is: products that stay inside, commutative products, failing triples; the table with rows and
--- columns exchanged.
+-- What is said of tables in plain words, besides what a table is: products that stay inside, commutative products, failing triples.
 -- Assumes nothing.
 use mathlib.Core.Path.{_≡_}
-use mathlib.Core.List.{List, List·Memᴰ}
+use mathlib.Core.List.{List}
 use Prim.Native.Nat.{ℕ}
-use lib.ListN.{length}
 use Rattle.semigroups.specs.Lists.{at}
-use Rattle.semigroups.specs.Tables.{grid, turned, product, Element, Product}
-
--- The cells of the table with rows and columns exchanged.
-unfoldable pub turnedCells : ℕ → List ℕ → List ℕ
-turnedCells n cells = grid n n (turned (product n cells))
-
--- A list of m entries, each an element of a table of order n.
-pub record IsList (m n : ℕ) (f : List ℕ) : Type 0 where
-  pub size : length f ≡ m
-  pub entries : (x : ℕ) → List·Memᴰ x f → Element n x
+use Rattle.semigroups.specs.Tables.{Element, Product}
+use Rattle.semigroups.specs.InnerTables.{IsList}
 
 -- Products of elements are elements.
 abbrev pub Closed : ℕ → Product → Type 0

@@ -8,7 +8,7 @@ use lib.ListN.{replicate}
 use borrow.Author.Tests.{leb-true}
 use Rattle.semigroups.specs.Lists.{all, firstOf}
 use Rattle.semigroups.specs.Tables.{isElement}
-use Rattle.semigroups.specs.QuestionsLaws.{no}
+use Rattle.semigroups.specs.InnerQuestions.{no}
 use Rattle.semigroups.specs.Calls.{gives, refused}
 use Rattle.csv.specs.Decimals.{isDigit, valueFrom, value, numeral, numeralWithin}
 use Rattle.sheets.specs.Grammar.{isPrintable, isTextData, isQuotable, single, twice, non-escaped, escaped, itemText, fieldText, entryText, entriesText, sheetText, IsSheet, itemValue, fieldValue, entryRow, sheetRows}

@@ -8,7 +8,7 @@ use Prim.Native.Nat.{ℕ, _≤_, _<_}
 use native.Mathlib.Omega.{arith}
 use lib.ListN.{length, length-map}
 use Rattle.semigroups.specs.Questions.{Refusal, firstNo}
-use Rattle.semigroups.specs.QuestionsLaws.{no}
+use Rattle.semigroups.specs.InnerQuestions.{no}
 use Rattle.semigroups.specs.Calls.{Answer, refused, gives, overwritten}
 use Rattle.sheets.specs.Grammar.{IsSheet, Row, sheetRows}
 use Rattle.sheets.specs.Readings.{Reading, passes, offends, rowsNames}

@@ -11,7 +11,7 @@ use borrow.Author.Tests.{ne-eqb}
 use lib.ListN.{length, getD, take, drop, set, length-append, length-drop}
 use lib.Seq.{sets, drop-drop}
 use Rattle.semigroups.specs.Lists.{firstOf}
-use Rattle.semigroups.specs.QuestionsLaws.{no}
+use Rattle.semigroups.specs.InnerQuestions.{no}
 use Rattle.semigroups.specs.Questions.{firstNo}
 use Rattle.semigroups.specs.Calls.{overwritten}
 use Rattle.csv.specs.Decimals.{numeral}

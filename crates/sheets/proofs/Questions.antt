@@ -12,7 +12,8 @@ use borrow.Author.Tests.{leb-true, le-leb, lt-leb}
 use Rattle.semigroups.specs.Lists.{all, firstOf, member}
 use Rattle.semigroups.specs.Tables.{Element, isElement}
 use Rattle.semigroups.specs.Questions.{Question, ask, seek, Refusal, firstNo}
-use Rattle.semigroups.specs.QuestionsLaws.{no, Passed, numbers}
+use Rattle.semigroups.specs.QuestionsLaws.{Passed, numbers}
+use Rattle.semigroups.specs.InnerQuestions.{no}
 use Rattle.semigroups.proofs.Booleans.{and-left, and-right}
 use Rattle.semigroups.proofs.Lists.{is-element, element-is}
 use Rattle.semigroups.proofs.Questions.{all-passed, ask-passed, failed-before, passed-before, both-passed, Listed, listed, listed-append}

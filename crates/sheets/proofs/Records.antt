@@ -11,7 +11,7 @@ use lib.ListN.{length, drop, set, length-append, length-drop, length-map}
 use lib.Seq.{sets, drop-drop, drop-append-seam}
 use borrow.Author.Tests.{lt-ltb, le-ltb}
 use Rattle.semigroups.specs.Lists.{firstOf}
-use Rattle.semigroups.specs.QuestionsLaws.{no}
+use Rattle.semigroups.specs.InnerQuestions.{no}
 use Rattle.semigroups.specs.Questions.{firstNo}
 use Rattle.semigroups.specs.Calls.{overwritten}
 use Rattle.csv.specs.Every.{Every}

@@ -9,7 +9,7 @@ use native.Mathlib.Omega.{arith}
 use lib.ListN.{length}
 use Rattle.semigroups.specs.Tables.{Element, isElement}
 use Rattle.semigroups.specs.Questions.{Refusal, firstNo}
-use Rattle.semigroups.specs.QuestionsLaws.{no}
+use Rattle.semigroups.specs.InnerQuestions.{no}
 use Rattle.semigroups.specs.Calls.{Answer, refused, gives, overwritten}
 use Rattle.semigroups.proofs.Booleans.{untrue}
 use Rattle.semigroups.proofs.Lists.{is-element}

@@ -15,7 +15,7 @@ use Rattle.semigroups.specs.Lists.{elements, all, find}
 use Rattle.semigroups.specs.Tables.{Product, Element, Associative, associates}
 use Rattle.semigroups.specs.TablesLaws.{Closed}
 use Rattle.semigroups.specs.Invariants.{frequency}
-use Rattle.semigroups.specs.GeneratedLaws.{Inside, LeftProduct, entry, further}
+use Rattle.semigroups.specs.InnerGenerated.{Inside, LeftProduct, entry, further}
 use Rattle.semigroups.proofs.Booleans.{equal-or-not, at-most-or-above, clash, untrue}
 use Rattle.semigroups.proofs.Lists.{all-at, all-of, each-at, each-of, pairs-at, getD-map, not-member, unmember, mem-or-not, mem-take}
 use Rattle.semigroups.proofs.NoRepeats.{mem-place, place-mem}
@@ -23,12 +23,16 @@ use Rattle.semigroups.proofs.Generated.{left-product-more, left-product-generat
 use Rattle.semigroups.proofs.Light.{lights-law}
 use Rattle.tables.specs.InnerPerElement.{perElement}
 use Rattle.tables.specs.InnerFound.{indicator, adding, addingAll, Found}
-use Rattle.tables.specs.InnerChoice.{FoundProducts, Rarest, RarestOrNone, NextGenerator, RarestFirst, Choice, goodMiddle, LightsAnswer}
+use Rattle.tables.specs.InnerChoice.{FoundProducts, Rarest, RarestOrNone, RarestFirst, Choice, goodMiddle, LightsAnswer}
 use Rattle.tables.proofs.Triples.{third-none, third-some}
 use Rattle.tables.proofs.Values.{getD-zeros}
 use Rattle.tables.proofs.PerElement.{per-element-at}
 use Rattle.tables.proofs.Indicators.{indicator-at, unmarked}
 use Rattle.tables.proofs.Found.{adding-holds, mem-adding, adding-more, mem-all, all-keeps, all-longer, all-place, all-holds, found-nil, found-list, entry-added}
+
+-- The next generator after the list: the rarest element of the table that is not a product of it; or 0, and there is none.
+abbrev pub NextGenerator : ℕ → Product → List ℕ → ℕ → Type 0
+NextGenerator n s l x = RarestOrNone n (frequency n s) (λ y. LeftProduct s l y → ⊥) x
 
 -- ---- the rarest of some elements
 

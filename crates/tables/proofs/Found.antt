@@ -9,9 +9,9 @@ use native.Mathlib.Omega.{arith}
 use lib.ListN.{length, take, getD, set, replicate, length-append, List·getD-append}
 use lib.Seq.{take-suc, take-at, set-at}
 use Rattle.semigroups.specs.Lists.{elements, member}
-use Rattle.semigroups.specs.ListsLaws.{NoRepeats}
+use Rattle.semigroups.specs.InnerLists.{NoRepeats}
 use Rattle.semigroups.specs.Tables.{Element}
-use Rattle.semigroups.specs.GeneratedLaws.{Inside}
+use Rattle.semigroups.specs.InnerGenerated.{Inside}
 use Rattle.semigroups.proofs.Booleans.{either}
 use Rattle.semigroups.proofs.Lists.{length-elements, elements-mem, length-snoc, member-mem, not-member, sorted-append}
 use Rattle.semigroups.proofs.NoRepeats.{length-inside, place-mem}

@@ -12,7 +12,7 @@ use Rattle.semigroups.specs.Lists.{elements, at, firstOf}
 use Rattle.semigroups.specs.Tables.{product, Element, isElement, badCell, badTriple, Filled, Accepted}
 use Rattle.semigroups.specs.Scratch.{scratchSize}
 use Rattle.semigroups.specs.Questions.{Question, ask, seek, onSide, Refusal, refusalBy, firstNo, tripleQuestion, cellsQuestions, tableQuestions, tableRefusal, tablesQuestions, searchRefusal}
-use Rattle.semigroups.specs.QuestionsLaws.{no, naming, cellsRefusal, tablesRefusal}
+use Rattle.semigroups.specs.InnerQuestions.{no, naming, cellsRefusal, tablesRefusal}
 use Rattle.semigroups.proofs.Tables.{place-below, accepted}
 use Rattle.semigroups.proofs.Questions.{first-sided, first-append, failed-before, passed-before}
 use Rattle.semigroups.proofs.Completions.{orElse-nothing, orElse-none, find-firstOf, firstFrom, first-start, first-skip, first-hit, first-end}

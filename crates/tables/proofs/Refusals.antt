@@ -3,7 +3,7 @@ use mathlib.Core.Path.{_≡_, refl}
 use mathlib.Core.List.{[], _∷_}
 use Prim.Native.Nat.{ℕ}
 use native.Mathlib.Omega.{arith}
-use Rattle.semigroups.specs.QuestionsLaws.{no}
+use Rattle.semigroups.specs.InnerQuestions.{no}
 use Rattle.semigroups.specs.Calls.{refused, gives}
 use Rattle.tables.specs.Answers.{noRefusal, faultRefusal, numberedSays}
 use Rattle.tables.specs.AnswersLaws.{Brief}

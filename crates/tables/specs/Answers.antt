@@ -5,7 +5,7 @@ use mathlib.Core.Option.{Option, none, some}
 use Prim.Native.Nat.{ℕ}
 use lib.ListN.{getD}
 use Rattle.semigroups.specs.Questions.{Refusal}
-use Rattle.semigroups.specs.QuestionsLaws.{no, naming}
+use Rattle.semigroups.specs.InnerQuestions.{no, naming}
 use Rattle.semigroups.specs.Calls.{Answer, refused, gives}
 use Rattle.tables.specs.declared.Fault.{Fault}
 use Rattle.tables.specs.declared.Fault.the-variants.{Order, Size, Cell, Triple}

@@ -10,7 +10,7 @@ use lib.ListN.{take, getD}
 use Rattle.semigroups.specs.Lists.{elements, all}
 use Rattle.semigroups.specs.Tables.{Product, Element, associates}
 use Rattle.semigroups.specs.Invariants.{frequency}
-use Rattle.semigroups.specs.GeneratedLaws.{LeftProduct}
+use Rattle.semigroups.specs.InnerGenerated.{LeftProduct}
 use Rattle.tables.specs.InnerFound.{Found}
 
 -- ---- products from left to right
@@ -32,10 +32,6 @@ pub record Rarest (n : ℕ) (weight : ℕ → ℕ) (Free : ℕ → Type 0) (x : 
 -- x is that element; or x is 0, and no element has the property.
 abbrev pub RarestOrNone : ℕ → (ℕ → ℕ) → (ℕ → Type 0) → ℕ → Type 0
 RarestOrNone n weight Free x = Rarest n weight Free x ⊎ ((x ≡ 0) × ((y : ℕ) → Element n y → Free y → ⊥))
-
--- The next generator after the list: the rarest element of the table that is not a product of it; or 0, and there is none.
-abbrev pub NextGenerator : ℕ → Product → List ℕ → ℕ → Type 0
-NextGenerator n s l x = RarestOrNone n (frequency n s) (λ y. LeftProduct s l y → ⊥) x
 
 -- The first `count` entries of the list are such generators, each the next one after those before it; zeros follow.
 pub record RarestFirst (n : ℕ) (s : Product) (list : List ℕ) (count : ℕ) : Type 0 where

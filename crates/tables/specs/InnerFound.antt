@@ -7,8 +7,8 @@ use Prim.Native.Nat.{ℕ, _-_}
 use lib.ListN.{length, replicate}
 use Rattle.semigroups.specs.Tables.{largestOrder}
 use Rattle.semigroups.specs.Lists.{range, member}
-use Rattle.semigroups.specs.ListsLaws.{NoRepeats}
-use Rattle.semigroups.specs.GeneratedLaws.{Inside}
+use Rattle.semigroups.specs.InnerLists.{NoRepeats}
+use Rattle.semigroups.specs.InnerGenerated.{Inside}
 
 -- An array with a place for 0 and for each element of a table of any order: 1 at x where x stands in the list, else 0.
 unfoldable pub indicator : List ℕ → List ℕ

@@ -6,7 +6,7 @@ ghost use Prim.Native.Nat.{_-_, _≤_, _<_};
 ghost use lib.ListN.{length, take, drop, getD};
 ghost use Rattle.semigroups.specs.Lists.{elements, all};
 ghost use Rattle.semigroups.specs.Tables.{largestOrder, Element, Filled, product};
-ghost use Rattle.semigroups.specs.GeneratedLaws.{Inside};
+ghost use Rattle.semigroups.specs.InnerGenerated.{Inside};
 ghost use Rattle.tables.specs.InnerFound.{adding, addingAll, Found};
 ghost use Rattle.tables.specs.InnerChoice.{FoundProducts, RarestOrNone, Choice, goodMiddle, LightsAnswer};
 use crate::Place;

@@ -10,7 +10,7 @@ use borrow.Author.Tests.{le-leb, lt-leb}
 use lib.ListN.{length, drop}
 use Rattle.semigroups.specs.Lists.{firstOf}
 use Rattle.semigroups.specs.Tables.{Element, isElement}
-use Rattle.semigroups.specs.QuestionsLaws.{no}
+use Rattle.semigroups.specs.InnerQuestions.{no}
 use Rattle.semigroups.specs.Calls.{Answer, refused, gives, givenUnless, writtenUnless}
 use Rattle.semigroups.specs.Transformations.{transformationOrder, transformationCells, transformationRefusal}
 use Rattle.semigroups.proofs.Booleans.{equal-or-not}

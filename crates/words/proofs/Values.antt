@@ -5,12 +5,16 @@ use Prim.Native.Nat.{ℕ, _≤_}
 use native.Mathlib.Omega.{arith}
 use lib.ListN.{length, getD}
 use Rattle.semigroups.specs.Questions.{Refusal}
-use Rattle.semigroups.specs.QuestionsLaws.{naming}
+use Rattle.semigroups.specs.InnerQuestions.{naming}
 use Rattle.tables.specs.Answers.{refusalNumbers, numbersNaming}
 use Rattle.tables.specs.AnswersLaws.{Brief}
 use Rattle.tables.specs.declared.Refusal.{Refusal as Numbers}
 use Rattle.numbers.specs.Words.{words}
-use Rattle.words.specs.Answers.{numbersWords, refusalWords}
+use Rattle.words.specs.Answers.{numbersWords}
+
+-- The sixteen numbers of a refusal.
+abbrev pub refusalWords : Refusal → List ℕ
+refusalWords r = words (r .number) (r .side) (r .values)
 
 few-said : (number side : ℕ) (values : List ℕ) → length values ≤ 3 → words number side (getD values 0 0 ∷ getD values 1 0 ∷ getD values 2 0 ∷ []) ≡ words number side values
 few-said number side [] h = refl

@@ -1,13 +1,8 @@
 -- How the numbers of a refusal stand among the sixteen of an answer. Assumes nothing.
 use mathlib.Core.List.{List, [], _∷_}
 use Prim.Native.Nat.{ℕ}
-use Rattle.semigroups.specs.Questions.{Refusal}
 use Rattle.numbers.specs.Words.{words}
 use Rattle.tables.specs.declared.Refusal.{Refusal as Numbers}
-
--- The sixteen numbers of a refusal.
-abbrev pub refusalWords : Refusal → List ℕ
-refusalWords r = words (r .number) (r .side) (r .values)
 
 -- The sixteen numbers of a refusal that is given as numbers.
 abbrev pub numbersWords : Numbers → List ℕ

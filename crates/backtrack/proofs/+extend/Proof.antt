@@ -4,17 +4,21 @@ use mathlib.Core.Path.{_≡_, sym, ap, subst, _∙_}
 use mathlib.Core.Logic.{⊎-elim}
 use mathlib.Core.Bool.{Bool, true, false, cond, not}
 use mathlib.Core.Option.{none}
+use mathlib.Core.List.{List}
 use Prim.Native.Nat.{_+_, _-_, _≤_, ℕ, _<_}
 use native.Mathlib.Omega.{arith}
 use borrow.Author.Needs.{needs}
 use borrow.Author.Tests.{not-true, not-false}
 use borrow.Fn.Kinds.{In}
 use borrow.Fn.PlainCycle.{Measures, is, falls, and}
-use Rattle.semigroups.specs.Tables.{product}
+use Rattle.semigroups.specs.Lists.{at}
+use Rattle.semigroups.specs.Tables.{Product, product}
 use Rattle.semigroups.proofs.Tables.{product-element}
 use Rattle.backtrack.specs.InnerState.{Remainder, exhausted, remaining, within}
+use Rattle.backtrack.specs.declared.Partial.{Partial}
 use Rattle.backtrack.specs.declared.Outcome.{Outcome}
-use Rattle.constraints.proofs.Placing.{as-trial}
+use Rattle.constraints.proofs.Placing.{as-trial, image-element}
+use Rattle.constraints.proofs.Noting.{newest-tracks}
 use Rattle.backtrack.proofs.Steps.{lowest}
 use Rattle.backtrack.proofs.Extending.{Ahead, Rest, Turn, Verdict, done-whole, begins, ends, row-marked, unused, skip, stop, refuse, onward, halt, found, fail}
 use Rattle.backtrack.proofs.extend.Reads as extend
@@ -24,44 +28,56 @@ use Rattle.backtrack.proofs.Partial.tried.Reads as tried-reads
 use Rattle.backtrack.proofs.no_map.Reads as no-map-reads
 use Rattle.backtrack.proofs.open.Reads as open-reads
 use Rattle.constraints.proofs.may_pass.Reads as may-pass-reads
+use Rattle.constraints.proofs.note_newest.Reads as note-newest-reads
 use Rattle.backtrack.proofs.pay.Reads as pay-reads
 use Rattle.backtrack.proofs.whole.Reads as whole-reads
 use Rattle.backtrack.proofs.+extend.{statement}
 use Rattle.backtrack.proofs.+extend.Tie.{close}
 
-abbrev μ-extend : Measures 4 extend-kinds.ps ℕ
-μ-extend κs a = a .1 .0 - a .1 .1 .1 .1 .1 .1 .1 .1 .0 .len
+abbrev μ-extend : Measures 6 extend-kinds.ps ℕ
+μ-extend κs a = a .1 .0 - a .1 .1 .1 .1 .1 .1 .1 .1 .1 .1 .0 .len
 
-abbrev extend-at : ℕ → In 4 extend-kinds.ps
-extend-at t = and 4 extend-kinds.ps (is 4 extend-kinds.ps μ-extend t) extend.Pre
+abbrev extend-at : ℕ → In 6 extend-kinds.ps
+extend-at t = and 6 extend-kinds.ps (is 6 extend-kinds.ps μ-extend t) extend.Pre
 
-abbrev extend-below : ℕ → In 4 extend-kinds.ps
-extend-below t = and 4 extend-kinds.ps (falls 4 extend-kinds.ps _<_ μ-extend t) extend.Pre
+abbrev extend-below : ℕ → In 6 extend-kinds.ps
+extend-below t = and 6 extend-kinds.ps (falls 6 extend-kinds.ps _<_ μ-extend t) extend.Pre
 
 abbrev extend-Inv-loop : extend-lts.InvT-loop
-extend-Inv-loop source m target n scratch after tight limit p at low left₀ x₀ left x =
+extend-Inv-loop source m target n scratch after tight limit known held p at forced owner low left₀ x₀ left x =
     (1 ≤ x) × (x ≤ n + 1) × (low ≡ lowest tight after (p .len)) × (within limit (Ahead (product m source) m (product n target) n scratch after tight p) ≡ within left (Rest (product m source) m (product n target) n scratch after tight p x))
 
 abbrev extend-μ-loop : extend-lts.MeasureT-loop
-extend-μ-loop source m target n scratch after tight limit p at low left₀ x₀ left x = n + 1 - x
+extend-μ-loop source m target n scratch after tight limit known held p at forced owner low left₀ x₀ left x = n + 1 - x
 
 -- What the calls ask and tell.
 abbrev calls : ℕ → extend-lts.Claims
 calls t =
-    (whole-reads.Asked, whole-reads.Learnt, open-reads.Asked, open-reads.Learnt, pay-reads.Asked, pay-reads.Learnt, no-map-reads.Asked, no-map-reads.Learnt, may-pass-reads.Asked, may-pass-reads.Learnt, tried-reads.Asked, tried-reads.Learnt, extend-below t, extend.Post)
+    (whole-reads.Asked, whole-reads.Learnt, note-newest-reads.Asked, note-newest-reads.Learnt, open-reads.Asked, open-reads.Learnt, pay-reads.Asked, pay-reads.Learnt, no-map-reads.Asked, no-map-reads.Learnt, may-pass-reads.Asked, may-pass-reads.Learnt, tried-reads.Asked, tried-reads.Learnt, extend-below t, extend.Post)
 
 abbrev Start : ℕ → Type 0
 Start t = extend-lts.Start (calls t) (extend-at t) extend.Post extend-Inv-loop extend-μ-loop
+
+-- What is known at the start.
+module _ (t : ℕ) (z : Start t) where
+  abbrev s : Product
+  s = product (z .args .m) (z .args .source .now)
+
+  abbrev r : Product
+  r = product (z .args .n) (z .args .target .now)
+
+  abbrev map : Partial
+  map = z .args .t11
 
 abbrev Opened : ℕ → Type 0
 Opened t = extend-lts.After-open (calls t) (extend-at t) extend.Post extend-Inv-loop extend-μ-loop
 
 abbrev start : (t : ℕ) → Opened t → Start t
-start t k = k .before .before .before .before .before .before .before .before .before .before .before
+start t k = k .before .before .before .before .before .before .before .before .before .before .before .before .before .before .before .before .before .before
 
 -- The turn, once `open` has answered.
-turn : (t : ℕ) (k : Opened t) → let a = start t k .args in
-    Turn (product (a .m) (a .source .now)) (a .m) (product (a .n) (a .target .now)) (a .n) (a .scratch .now) (a .after .now) (a .tight) (a .limit) (a .t9) (k .before .before .before .before .before .if2 .low) (k .before .before .before .before .loop .left) (k .before .before .before .before .loop .x) (k .«open» .result)
+turn : (t : ℕ) (k : Opened t) → let z = start t k in
+    Turn (s t z) (z .args .m) (r t z) (z .args .n) (z .args .scratch .now) (z .args .after .now) (z .args .tight) (z .args .limit) (z .args .known .now) (z .args .held .now) (map t z) (k .before .before .before .before .before .if2 .low) (k .before .before .before .before .loop .left) (k .before .before .before .before .loop .x) (k .«open» .result)
 turn t k =
     let z = start t k in
     let source = z .pre .1 .0 .0 in
@@ -71,7 +87,7 @@ turn t k =
       ready = z .pre .1 .1;
       closed = product-element (z .args .m) (z .args .source .now) (source .size) (source .in-range);
       orders = (source .order .1, z .pre .1 .0 .1 .order .1);
-      room = k .before .before .before .before .before .before .if1 .left;
+      room = k .before .before .before .before .before .before .before .before .before .before .before .before .before .if1 .left;
       bound = l .inv .2;
       element = (l .inv .0, omega arith);
       so-far = l .inv .3;
@@ -89,49 +105,48 @@ abbrev Tried : ℕ → Type 0
 Tried t = extend-lts.After-tried (calls t) (extend-at t) extend.Post extend-Inv-loop extend-μ-loop
 
 -- What is told of x, once it is tried.
-told : (t : ℕ) (k : Tried t) → let o = k .before .before .before .before .before .before .before .before .before .before .before .before in
-    Verdict (product (start t o .args .m) (start t o .args .source .now)) (product (start t o .args .n) (start t o .args .target .now)) (start t o .args .t9) (o .before .before .before .before .loop .x) (k .tried .result .partial) (k .tried .result .ok)
-told t k = let e = k .tried .ensures in record { longer = e .1 .0 .0; one-more = e .1 .0 .1; says = e .0 }
+told : (t : ℕ) (k : Tried t) → let o = k .before .before .before .before .before .before .before .before .before .before .before .before .before .before in
+    Verdict (s t (start t o)) (start t o .args .n) (r t (start t o)) (map t (start t o)) (o .before .before .before .before .loop .x) (k .tried .result .partial) (k .tried .result .ok)
+told t k = let e = k .tried .ensures in record { placing = e .1 .0; longer = e .1 .1 .0 .0; before = e .1 .1 .0 .1; one-more = e .1 .1 .0 .2; says = e .0 }
 
 extend-whole-requires : (t : ℕ) → extend-lts.Need-whole-requires (calls t) (extend-at t) extend.Post extend-Inv-loop extend-μ-loop
 extend-whole-requires t c κs = search needs
 
 extend-returns : (t : ℕ) → extend-lts.Need-returns (calls t) (extend-at t) extend.Post extend-Inv-loop extend-μ-loop
-extend-returns t c =
-    let z = c .before .before .before .before .before .before .before in
+extend-returns t c = let z = c .before .before .before .before .before .before .before in c .whole .ensures ∙ done-whole (s t z) (z .args .m) (r t z) (z .args .n) (z .args .scratch .now) (z .args .after .now) (z .args .tight) (z .args .known .now) (z .args .held .now) (map t z) (z .pre .1 .1) (z .args .limit) (c .before .before .if1 .taken)
+
+extend-note-newest-requires : (t : ℕ) → extend-lts.Need-note-newest-requires (calls t) (extend-at t) extend.Post extend-Inv-loop extend-μ-loop
+unfolding at
+extend-note-newest-requires t c κs =
+    let z = c .before .before .before .before .before .before .before .before .before .before .before in
     let a = z .args in
-    let s = product (a .m) (a .source .now) in
-    let r = product (a .n) (a .target .now) in
-    c .whole .ensures ∙ done-whole s (a .m) r (a .n) (a .scratch .now) (a .after .now) (a .tight) (a .t9) (z .pre .1 .1) (a .limit) (c .before .before .if1 .taken)
+    let p = map t z in
+    let source = z .pre .1 .0 .0 in
+    let Q = z .pre .1 .1 in
+    (z .pre .1 .0, ((Q .within, image-element (a .n) (p .image) (p .used) (p .len) (Q .placing)), newest-tracks (a .m) (s t z) (a .n) (r t z) (product-element (a .m) (a .source .now) (source .size) (source .in-range)) (p .image) (p .used) (p .len) (Q .placing) (Q .within) (a .known .now) (a .held .now) (Q .tracks)))
 
 extend-shared-slice-read-low : (t : ℕ) → extend-lts.Need-shared-slice-read-low (calls t) (extend-at t) extend.Post extend-Inv-loop extend-μ-loop
-extend-shared-slice-read-low t c = let b = c .before .before .before .before .before .before .before .pre .1 .1 .bound in let e = c .before .before .if1 .left in omega arith
+extend-shared-slice-read-low t c = let b = c .before .before .before .before .before .before .before .before .before .before .before .before .before .before .pre .1 .1 .bound in let e = c .before .before .before .before .before .before .before .before .before .if1 .left in omega arith
 
 extend-cast-low : (t : ℕ) → extend-lts.Need-cast-low (calls t) (extend-at t) extend.Post extend-Inv-loop extend-μ-loop
-extend-cast-low t c = omega (arith, c .shared-slice-known5 .given (c .before .before .before .before .before .before .before .args .t9 .len))
+extend-cast-low t c = omega (arith, c .shared-slice-known5 .given (map t (c .before .before .before .before .before .before .before .before .before .before .before .before .before .before) .len))
 
 extend-loop-holds : (t : ℕ) → extend-lts.Need-loop-holds (calls t) (extend-at t) extend.Post extend-Inv-loop extend-μ-loop
 extend-loop-holds t c =
-    let z = c .before .before .before .before .before .before in
-    let a = z .args in
-    let s = product (a .m) (a .source .now) in
-    let r = product (a .n) (a .target .now) in
-    (omega arith, omega arith, ⊎-elim (λ w. w .2 ∙ rw (w .0 .taken)) (λ w. w .1 ∙ rw (w .0 .left)) (c .if2 .came), ap (within (a .limit)) (begins s (a .m) r (a .n) (a .scratch .now) (a .after .now) (a .tight) (a .t9) (z .pre .1 .1) (c .before .if1 .left)))
+    let z = c .before .before .before .before .before .before .before .before .before .before .before .before .before in
+    (omega arith, omega arith, ⊎-elim (λ w. w .2 ∙ rw (w .0 .taken)) (λ w. w .1 ∙ rw (w .0 .left)) (c .if2 .came), ap (within (z .args .limit)) (begins (s t z) (z .args .m) (r t z) (z .args .n) (z .args .scratch .now) (z .args .after .now) (z .args .tight) (z .args .known .now) (z .args .held .now) (map t z) (z .pre .1 .1) (c .before .before .before .before .before .before .before .before .if1 .left)))
 
 extend-add-open : (t : ℕ) → extend-lts.Need-add-open (calls t) (extend-at t) extend.Post extend-Inv-loop extend-μ-loop
-extend-add-open t c = let m = c .before .before .before .before .before .before .before .before .before .before .pre .1 .0 .0 .order in let e = c .before .before .before .before .before .if1 .left in omega arith
+extend-add-open t c = let m = c .before .before .before .before .before .before .before .before .before .before .before .before .before .before .before .before .before .pre .1 .0 .0 .order in let e = c .before .before .before .before .before .before .before .before .before .before .before .before .if1 .left in omega arith
 
 extend-open-requires : (t : ℕ) → extend-lts.Need-open-requires (calls t) (extend-at t) extend.Post extend-Inv-loop extend-μ-loop
 extend-open-requires t c κs =
-    let z = c .before .before .before .before .before .before .before .before .before .before in
-    let a = z .args in
-    let s = product (a .m) (a .source .now) in
-    let r = product (a .n) (a .target .now) in
+    let z = c .before .before .before .before .before .before .before .before .before .before .before .before .before .before .before .before .before in
     let m = z .pre .1 .0 .0 .order in
     let n = z .pre .1 .0 .1 .order in
-    let e = c .before .before .before .before .before .if1 .left in
+    let e = c .before .before .before .before .before .before .before .before .before .before .before .before .if1 .left in
     let test = c .before .before .loop-test .taken in
-    ((omega arith, (c .before .before .before .loop .inv .0, omega arith), n .1), row-marked s (a .m) r (a .n) (a .scratch .now) (a .after .now) (a .tight) (a .t9) (z .pre .1 .1) e)
+    ((omega arith, (c .before .before .before .loop .inv .0, omega arith), n .1), row-marked (s t z) (z .args .m) (r t z) (z .args .n) (z .args .scratch .now) (z .args .after .now) (z .args .tight) (z .args .known .now) (z .args .held .now) (map t z) (z .pre .1 .1) e)
 
 extend-pay-requires : (t : ℕ) → extend-lts.Need-pay-requires (calls t) (extend-at t) extend.Post extend-Inv-loop extend-μ-loop
 extend-pay-requires t c κs = search needs
@@ -147,58 +162,51 @@ extend-returns-2 t c =
 extend-may-pass-requires : (t : ℕ) → extend-lts.Need-may-pass-requires (calls t) (extend-at t) extend.Post extend-Inv-loop extend-μ-loop
 extend-may-pass-requires t c κs =
     let k = c .before .before .before .before .before .before .before .before .before in
-    let a = start t k .args in
-    let p = a .t9 in
+    let z = start t k in
+    let p = map t z in
     let T = turn t k in
-    let holds = T .ready .holds in
-    (start t k .pre .1 .0, ((as-trial (a .n) (p .image) (p .used) (p .len) (holds .placing) (k .before .before .before .before .loop .x) (T .element) (omega arith), T .room, unused T (c .before .before .before .before .before .before .before .before .if3 .taken)), (holds .tracks, T .ready .passed)))
+    (z .pre .1 .0, ((as-trial (z .args .n) (p .image) (p .used) (p .len) (T .ready .placing) (k .before .before .before .before .loop .x) (T .element) (omega arith), T .room, unused T (c .before .before .before .before .before .before .before .before .if3 .taken)), (k .before .before .before .before .before .before .note-newest .ensures, T .ready .passed)))
 
 extend-tried-requires : (t : ℕ) → extend-lts.Need-tried-requires (calls t) (extend-at t) extend.Post extend-Inv-loop extend-μ-loop
 extend-tried-requires t c κs =
-    let k = c .before .before .before .before .before .before .before .before .before .before .before in
+    let k = c .before .before .before .before .before .before .before .before .before .before .before .before .before in
     let T = turn t k in
-    (start t k .pre .1 .0, ((T .ready .holds, T .ready .passed), (T .element, T .room, unused T (c .before .before .before .before .before .before .before .before .before .before .if3 .taken))))
+    (start t k .pre .1 .0, ((T .ready .placing, k .before .before .before .before .before .before .note-newest .ensures, T .ready .passed), (T .element, T .room, unused T (c .before .before .before .before .before .before .before .before .before .before .before .before .if3 .taken))))
 
 extend-extend-requires : (t : ℕ) → extend-lts.Need-extend-requires (calls t) (extend-at t) extend.Post extend-Inv-loop extend-μ-loop
 extend-extend-requires t c κs =
-    let w = c .before in
-    let k = w .before .before .before .before .before .before .before .before .before .before .before .before in
+    let w = c .before .before .before in
+    let k = w .before .before .before .before .before .before .before .before .before .before .before .before .before .before in
     let z = start t k in
     let T = turn t k in
-    let y = w .before .before .before .before .before .before .before .before .before .before .pay in
-    let p = paid (y .result .enough) (y .result .left) _ (y .ensures .0) (w .before .before .before .before .before .before .before .before .if4 .left) in
-    let o = w .before .before .before .before .before .before .before .before .before .before .before .if3 .taken in
+    let y = w .before .before .before .before .before .before .before .before .before .before .before .before .pay in
+    let p = paid (y .result .enough) (y .result .left) _ (y .ensures .0) (w .before .before .before .before .before .before .before .before .before .before .if4 .left) in
+    let o = w .before .before .before .before .before .before .before .before .before .before .before .before .before .if3 .taken in
     let room = T .room in
     let v = told t w in
     let one = v .one-more in
-    (subst (λ (j : ℕ). z .args .m - w .tried .result .partial .len < j) (z .pre .0) (omega arith), (z .pre .1 .0, onward T o (y .result .left) p (w .tried .result .partial) (w .tried .result .ok) v (c .if6 .taken) (w .tried .ensures .1 .1 .0 (c .if6 .taken))))
+    (subst (λ (j : ℕ). z .args .m - w .tried .result .partial .len < j) (z .pre .0) (omega arith), (z .pre .1 .0, onward T o (y .result .left) p (w .tried .result .partial) (w .tried .result .ok) v (c .before .before .if6 .taken) _ _ (k .before .before .before .before .before .before .note-newest .ensures)))
 
 extend-returns-3 : (t : ℕ) → extend-lts.Need-returns-3 (calls t) (extend-at t) extend.Post extend-Inv-loop extend-μ-loop
 extend-returns-3 t c =
-    let w = c .before .before .before in
-    let k = w .before .before .before .before .before .before .before .before .before .before .before .before in
-    let z = start t k in
-    let T = turn t k in
-    let y = w .before .before .before .before .before .before .before .before .before .before .pay in
-    let p = paid (y .result .enough) (y .result .left) _ (y .ensures .0) (w .before .before .before .before .before .before .before .before .if4 .left) in
-    let o = w .before .before .before .before .before .before .before .before .before .before .before .if3 .taken in
+    let w = c .before .before .before .before .before in
+    let T = turn t (w .before .before .before .before .before .before .before .before .before .before .before .before .before .before) in
+    let y = w .before .before .before .before .before .before .before .before .before .before .before .before .pay in
+    let p = paid (y .result .enough) (y .result .left) _ (y .ensures .0) (w .before .before .before .before .before .before .before .before .before .before .if4 .left) in
     let i = c .before .extend in
-    i .ensures ∙ halt T o (y .result .left) p (w .tried .result .partial) (w .tried .result .ok) (told t w) (c .before .before .if6 .taken) (ap (λ (r : Outcome). r .stopped) (sym (i .ensures)) ∙ c .if7 .taken)
+    i .ensures ∙ halt T (w .before .before .before .before .before .before .before .before .before .before .before .before .before .if3 .taken) (y .result .left) p (w .tried .result .partial) (w .tried .result .ok) (told t w) (c .before .before .before .before .if6 .taken) (ap (λ (r : Outcome). r .stopped) (sym (i .ensures)) ∙ c .if7 .taken)
 
 extend-returns-4 : (t : ℕ) → extend-lts.Need-returns-4 (calls t) (extend-at t) extend.Post extend-Inv-loop extend-μ-loop
 extend-returns-4 t c =
-    let w = c .before .before .before .before in
-    let k = w .before .before .before .before .before .before .before .before .before .before .before .before in
-    let z = start t k in
-    let T = turn t k in
-    let y = w .before .before .before .before .before .before .before .before .before .before .pay in
-    let p = paid (y .result .enough) (y .result .left) _ (y .ensures .0) (w .before .before .before .before .before .before .before .before .if4 .left) in
-    let o = w .before .before .before .before .before .before .before .before .before .before .before .if3 .taken in
+    let w = c .before .before .before .before .before .before in
+    let T = turn t (w .before .before .before .before .before .before .before .before .before .before .before .before .before .before) in
+    let y = w .before .before .before .before .before .before .before .before .before .before .before .before .pay in
+    let p = paid (y .result .enough) (y .result .left) _ (y .ensures .0) (w .before .before .before .before .before .before .before .before .before .before .if4 .left) in
     let i = c .before .before .extend in
-    i .ensures ∙ found T o (y .result .left) p (w .tried .result .partial) (w .tried .result .ok) (told t w) (c .before .before .before .if6 .taken) (ap (λ (r : Outcome). r .ok) (sym (i .ensures)) ∙ c .if8 .taken)
+    i .ensures ∙ found T (w .before .before .before .before .before .before .before .before .before .before .before .before .before .if3 .taken) (y .result .left) p (w .tried .result .partial) (w .tried .result .ok) (told t w) (c .before .before .before .before .before .if6 .taken) (ap (λ (r : Outcome). r .ok) (sym (i .ensures)) ∙ c .if8 .taken)
 
 extend-add-x : (t : ℕ) → extend-lts.Need-add-x (calls t) (extend-at t) extend.Post extend-Inv-loop extend-μ-loop
-extend-add-x t c = let n = c .before .before .before .before .before .before .before .before .before .before .before .before .pre .1 .0 .1 .order in let t = c .before .before .before .before .loop-test .taken in omega arith
+extend-add-x t c = let n = c .before .before .before .before .before .before .before .before .before .before .before .before .before .before .before .before .before .before .before .pre .1 .0 .1 .order in let t = c .before .before .before .before .loop-test .taken in omega arith
 
 extend-loop-less : (t : ℕ) → extend-lts.Need-loop-less (calls t) (extend-at t) extend.Post extend-Inv-loop extend-μ-loop
 extend-loop-less t c = let t = c .before .before .before .before .loop-test .taken in omega arith
@@ -214,13 +222,13 @@ extend-loop-again t c =
       l .inv .2,
       ⊎-elim
           (λ w.
-          let e = w .11 .ensures in
-          let v : Verdict _ _ _ _ (w .11 .result .partial) (w .11 .result .ok) = record { longer = e .1 .0 .0; one-more = e .1 .0 .1; says = e .0 } in
-          let r = w .13 in
-          fail T (w .0 .taken) (w .1 .result .left) (paid (w .1 .result .enough) (w .1 .result .left) _ (w .1 .ensures .0) (w .3 .left)) (w .11 .result .partial) (w .11 .result .ok) v (w .12 .taken) (ap (λ (q : Outcome). q .stopped) (sym (r .ensures)) ∙ w .14 .left) (ap (λ (q : Outcome). q .ok) (sym (r .ensures)) ∙ w .15 .left)
-          ∙ rw (w .16, ap (λ (q : Outcome). q .left) (r .ensures)))
+          let e = w .13 .ensures in
+          let v : Verdict _ _ _ _ _ (w .13 .result .partial) (w .13 .result .ok) = record { placing = e .1 .0; longer = e .1 .1 .0 .0; before = e .1 .1 .0 .1; one-more = e .1 .1 .0 .2; says = e .0 } in
+          let r = w .17 in
+          fail T (w .0 .taken) (w .1 .result .left) (paid (w .1 .result .enough) (w .1 .result .left) _ (w .1 .ensures .0) (w .3 .left)) (w .13 .result .partial) (w .13 .result .ok) v (w .14 .taken) (ap (λ (q : Outcome). q .stopped) (sym (r .ensures)) ∙ w .18 .left) (ap (λ (q : Outcome). q .ok) (sym (r .ensures)) ∙ w .19 .left)
+          ∙ rw (w .20, ap (λ (q : Outcome). q .left) (r .ensures)))
           (⊎-elim
-          (λ w. refuse T (w .0 .taken) (w .1 .result .left) (paid (w .1 .result .enough) (w .1 .result .left) _ (w .1 .ensures .0) (w .3 .left)) (sym (w .11 .ensures .0) ∙ w .12 .left) ∙ rw (w .13))
+          (λ w. refuse T (w .0 .taken) (w .1 .result .left) (paid (w .1 .result .enough) (w .1 .result .left) _ (w .1 .ensures .0) (w .3 .left)) (sym (w .13 .ensures .0) ∙ w .14 .left) ∙ rw (w .15))
           (⊎-elim
           (λ w. refuse T (w .0 .taken) (w .1 .result .left) (paid (w .1 .result .enough) (w .1 .result .left) _ (w .1 .ensures .0) (w .3 .left)) (w .9 .ensures .1 (w .10 .left)) ∙ rw (w .11))
           (λ w. skip T (w .0 .left) ∙ rw (w .1))))
@@ -232,12 +240,9 @@ extend-no-map-requires-2 t c κs = search needs
 
 extend-returns-5 : (t : ℕ) → extend-lts.Need-returns-5 (calls t) (extend-at t) extend.Post extend-Inv-loop extend-μ-loop
 extend-returns-5 t c =
-    let z = c .before .before .before .before .before .before .before .before .before in
-    let a = z .args in
-    let s = product (a .m) (a .source .now) in
-    let r = product (a .n) (a .target .now) in
+    let z = c .before .before .before .before .before .before .before .before .before .before .before .before .before .before .before .before in
     let l = c .before .before .loop in
-    c .no-map2 .ensures ∙ ends s (a .m) r (a .n) (a .scratch .now) (a .after .now) (a .tight) (a .t9) (z .pre .1 .1) (c .before .before .before .before .if1 .left) (a .limit) (l .left) (l .x) (c .before .loop-test .left) (l .inv .3)
+    c .no-map2 .ensures ∙ ends (s t z) (z .args .m) (r t z) (z .args .n) (z .args .scratch .now) (z .args .after .now) (z .args .tight) (z .args .known .now) (z .args .held .now) (map t z) (z .pre .1 .1) (c .before .before .before .before .before .before .before .before .before .before .before .if1 .left) (z .args .limit) (l .left) (l .x) (c .before .loop-test .left) (l .inv .3)
 
 pub +extend-spec : {M : Type 1} → statement M
 +extend-spec = close μ-extend λ t. extend-lts.spec (calls t)
@@ -247,6 +252,7 @@ pub +extend-spec : {M : Type 1} → statement M
     extend-μ-loop
     (extend-whole-requires t)
     (extend-returns t)
+    (extend-note-newest-requires t)
     (extend-shared-slice-read-low t)
     (extend-cast-low t)
     (extend-loop-holds t)

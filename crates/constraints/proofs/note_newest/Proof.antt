@@ -27,7 +27,7 @@ note-pair-requires c κs =
     let t = c .before .before .loop-test .taken in
     let m = z .pre .1 .0 .0 in
     let images = z .pre .1 .0 .1 in
-    (z .pre .0, ((omega arith, m), (images (l .j) (i .0, t), images (z .args .len) (omega arith))))
+    (z .pre .0, ((omega arith, omega arith), (images (l .j) (i .0, t), images (z .args .len) (omega arith))))
 
 note-pair-requires-2 : tie.Need-note-pair-requires-2 Inv-loop μ-loop
 note-pair-requires-2 c κs =
@@ -37,7 +37,7 @@ note-pair-requires-2 c κs =
     let t = c .before .before .before .before .before .loop-test .taken in
     let m = z .pre .1 .0 .0 in
     let images = z .pre .1 .0 .1 in
-    (z .pre .0, ((m, omega arith), (images (z .args .len) (omega arith), images (l .j) (i .0, t))))
+    (z .pre .0, ((omega arith, omega arith), (images (z .args .len) (omega arith), images (l .j) (i .0, t))))
 
 add-j : tie.Need-add-j Inv-loop μ-loop
 add-j c = let t = c .before .before .before .before .before .before .loop-test .taken in let h = c .before .before .before .before .before .before .before .before .before .before .pre .1 .0 .0 in let m = c .before .before .before .before .before .before .before .before .before .before .pre .0 .0 .order in omega arith
@@ -58,21 +58,14 @@ loop-again c =
       omega arith,
       omega arith,
       turn (a .m) (product (a .m) (a .source .now)) (a .n) (product (a .n) (a .target .now)) (product-element (a .m) (a .source .now) (source .size) (source .in-range)) (product-element (a .n) (a .target .now) (target .size) (target .in-range)) (source .order .1) (target .order .1)
-          (a .image .now) (a .len) (z .pre .1 .0 .1) (z .pre .1 .0 .0 .1) (l .j) (l .inv .0, t) (l .forced) (l .owner) _ _ _ _ (l .inv .2) (once .ensures .0) (once .ensures .1) (twice .ensures .0) (twice .ensures .1),
+          (a .image .now) (a .len) (z .pre .1 .0 .1) (z .pre .1 .0 .0) (l .j) (l .inv .0, t) (l .forced) (l .owner) _ _ _ _ (l .inv .2) (once .ensures .0) (once .ensures .1) (twice .ensures .0) (twice .ensures .1),
     )
 
 returns : tie.Need-returns Inv-loop μ-loop
 returns c =
-    let z = c .before .before .before .before in
-    let a = z .args in
     let l = c .before .loop in
-    let i = l .inv in
     let e = c .loop-test .left in
-    let source = z .pre .0 .0 in
-    let target = z .pre .0 .1 in
-    let m = z .pre .1 .0 .0 in
-    turns-done (a .m) (product (a .m) (a .source .now)) (a .n) (product (a .n) (a .target .now)) (product-element (a .m) (a .source .now) (source .size) (source .in-range)) (product-element (a .n) (a .target .now) (target .size) (target .in-range)) (source .order .1) (target .order .1)
-    (a .image .now) (a .len) (z .pre .1 .0 .1) (m .1) (a .len) (omega arith) (m .0) (l .j) (omega arith) (l .forced) (l .owner) (i .2)
+    turns-done _ _ _ (c .before .before .before .before .args .len) (l .j) (omega arith) (l .forced) (l .owner) (l .inv .2)
 
 pub note-newest-spec : {M : Type 1} → statement M
 note-newest-spec =

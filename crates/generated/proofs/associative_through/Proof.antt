@@ -10,7 +10,7 @@ use borrow.Author.Needs.{needs}
 use denote.Ref.{now}
 use lib.ListN.{getD}
 use Rattle.semigroups.specs.Questions.{Refusal}
-use Rattle.semigroups.specs.QuestionsLaws.{no}
+use Rattle.semigroups.specs.InnerQuestions.{no}
 use Rattle.semigroups.specs.Tables.{Product, Element, product}
 use Rattle.semigroups.specs.Light.{badTripleThrough}
 use Rattle.tables.specs.Answers.{verdictRefusal, placeOption}

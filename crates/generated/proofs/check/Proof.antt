@@ -3,7 +3,7 @@ use mathlib.Core.Path.{sym, ap, _∙_}
 use denote.Ref.{now}
 use borrow.Author.Needs.{needs}
 use Rattle.semigroups.specs.Tables.{product, Filled}
-use Rattle.semigroups.specs.GeneratedLaws.{Inside}
+use Rattle.semigroups.specs.InnerGenerated.{Inside}
 use Rattle.semigroups.specs.LightLaws.{Generates}
 use Rattle.semigroups.proofs.Tables.{filled}
 use Rattle.semigroups.proofs.Generated.{all-generated}

@@ -10,7 +10,7 @@ use lib.ListN.{length}
 use Rattle.semigroups.specs.Tables.{Accepted}
 use Rattle.semigroups.specs.Questions.{tableRefusal}
 use Rattle.semigroups.specs.Calls.{Answer, refused}
-use Rattle.semigroups.specs.GeneratedLaws.{Inside}
+use Rattle.semigroups.specs.InnerGenerated.{Inside}
 use Rattle.semigroups.proofs.Tables.{accepted}
 use Rattle.semigroups.proofs.Subsemigroups.{table-refused, none-chosen, not-inside}
 use Rattle.tables.specs.Answers.{verdictRefusal, placeOption}

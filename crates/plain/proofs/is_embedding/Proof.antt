@@ -6,7 +6,7 @@ use native.Mathlib.Omega.{arith}
 use denote.Ref.{now}
 use lib.ListN.{length}
 use Rattle.semigroups.specs.Lists.{find, lists}
-use Rattle.semigroups.specs.TablesLaws.{IsList}
+use Rattle.semigroups.specs.InnerTables.{IsList}
 use Rattle.semigroups.specs.Tables.{product}
 use Rattle.semigroups.proofs.Booleans.{clash, untrue, unfalse, not-of-true, not-of-false}
 use Rattle.plain.specs.InnerEnumeration.{numbered, keeps}

@@ -7,7 +7,7 @@ use denote.Ref.{now}
 use lib.ListN.{take}
 use Rattle.semigroups.specs.InnerSearch.{plainKind}
 use Rattle.semigroups.specs.Lists.{earlier}
-use Rattle.semigroups.specs.TablesLaws.{IsList}
+use Rattle.semigroups.specs.InnerTables.{IsList}
 use Rattle.semigroups.specs.Tables.{product}
 use Rattle.semigroups.specs.Maps.{isMap}
 use Rattle.plain.specs.InnerEnumeration.{numbered}

@@ -4,7 +4,7 @@ use mathlib.Core.List.{[], _∷_}
 use native.Mathlib.Omega.{arith}
 use borrow.Author.Needs.{needs}
 use Rattle.semigroups.specs.Lists.{at}
-use Rattle.semigroups.specs.QuestionsLaws.{no}
+use Rattle.semigroups.specs.InnerQuestions.{no}
 use Rattle.semigroups.proofs.Tables.{filled}
 use Rattle.tables.proofs.Questions.{square-small, order-low, order-high, wrong-size, right-size, cells-pass}
 use Rattle.plain.specs.InnerSaid.{saidOf}

@@ -5,9 +5,9 @@ use mathlib.Core.Option.{Option·map}
 use Prim.Native.Nat.{ℕ, _-_, _^_, _≤_, _<_}
 use native.Mathlib.Omega.{arith}
 use lib.ListN.{length, getD}
-use Rattle.semigroups.specs.TablesLaws.{IsList}
+use Rattle.semigroups.specs.InnerTables.{IsList}
 use Rattle.semigroups.specs.Tables.{product, badTriple}
-use Rattle.semigroups.specs.QuestionsLaws.{no}
+use Rattle.semigroups.specs.InnerQuestions.{no}
 use Rattle.semigroups.proofs.Booleans.{clash, untrue, unfalse, not-of-true, not-of-false}
 use Rattle.plain.specs.InnerEnumeration.{numbered}
 use Rattle.plain.specs.InnerSaid.{saidOf}

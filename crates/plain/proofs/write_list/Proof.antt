@@ -1,6 +1,6 @@
 -- `write_list` meets its contract. The invariant: the entries from i on are written, and what is left of k has the digits of those before. Assumes nothing.
 use mathlib.Core.Path.{refl}
-use Prim.Native.Nat.{_-_, _<_}
+use Prim.Native.Nat.{_<_}
 use native.Mathlib.Nat.{mod-lt}
 use native.Mathlib.Omega.{arith}
 use lib.ListN.{length}

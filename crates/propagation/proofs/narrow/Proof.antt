@@ -8,7 +8,7 @@ use borrow.Author.Needs.{needs}
 use Rattle.semigroups.specs.Lists.{at}
 use Rattle.semigroups.specs.Tables.{product, Element}
 use Rattle.semigroups.specs.TablesLaws.{Closed}
-use Rattle.semigroups.specs.MapsLaws.{Embedding, Among}
+use Rattle.semigroups.specs.InnerMaps.{Embedding, Among}
 use Rattle.semigroups.proofs.Booleans.{clash}
 use Rattle.semigroups.proofs.Tables.{product-element}
 use Rattle.rows.specs.InnerRows.{has, masked, Shrinks}

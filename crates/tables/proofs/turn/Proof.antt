@@ -6,7 +6,7 @@ use native.Mathlib.Omega.{arith}
 use denote.Ref.{now}
 use lib.ListN.{drop}
 use Rattle.semigroups.specs.Tables.{Element, product, turned}
-use Rattle.semigroups.specs.TablesLaws.{turnedCells}
+use Rattle.semigroups.specs.InnerTables.{turnedCells}
 use Rattle.semigroups.proofs.Turned.{length-turned-cells}
 use Rattle.semigroups.proofs.Writing.{AtRow, AtCell, grid-begin, row-begin, place-inside, cell-length, cell-next, row-length, row-end, grid-end}
 use Rattle.tables.proofs.Questions.{square-small}

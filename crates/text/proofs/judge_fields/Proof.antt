@@ -12,7 +12,7 @@ use denote.Ref.{now}
 use borrow.Author.Needs.{needs}
 use borrow.Author.Tests.{not-true, not-false}
 use Rattle.csv.specs.InnerCursor.{digits, commaFollows}
-use Rattle.csv.specs.QuestionsLaws.{fieldRefusal}
+use Rattle.csv.specs.InnerQuestions.{fieldRefusal}
 use Rattle.text.specs.declared.Field.{Field}
 use Rattle.text.specs.InnerFields.{fieldAt}
 use Rattle.text.specs.Answers.{judgedRefusal}

@@ -5,7 +5,7 @@ use mathlib.Core.Option.{none}
 use Prim.Native.Nat.{ℕ}
 use denote.Ref.{now}
 use borrow.Author.Needs.{needs}
-use Rattle.semigroups.specs.QuestionsLaws.{cellsRefusal}
+use Rattle.semigroups.specs.InnerQuestions.{cellsRefusal}
 use Rattle.semigroups.proofs.Tables.{filled}
 use Rattle.tables.specs.Answers.{verdictRefusal}
 use Rattle.semigroups.specs.Calls.{Answer, refused, gives}

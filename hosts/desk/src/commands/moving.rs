@@ -286,7 +286,7 @@ fn number_is_no_sheet(arguments: &MoveArguments) -> Result<(), Failure> {
         Some(number) => {
             let number = path_shown(number);
             Err(Failure::usage(format!(
-                "{number}: there is no such sheet; a number of ways goes behind =: {option}={number}"
+                "{number}: there is no such sheet; a number of ways goes after =: {option}={number}"
             )))
         }
         None => Ok(()),

@@ -55,7 +55,7 @@ struct Reading {
     cells: Vec<(usize, Cell)>,
     last_filled: usize,
     cell: Cell,
-    /// What is said behind its text, where that is no number.
+    /// What is said after its text, where that is no number.
     said: &'static str,
     cell_repeated: usize,
     /// How deep the cell stands, while it is read.

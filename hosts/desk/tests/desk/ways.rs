@@ -35,7 +35,7 @@ fn the_next_way() {
 #[test]
 fn a_number_of_ways_that_stands_apart() {
     for option in ["--all", "--next"] {
-        let words = format!("tickdrizzle: 5: there is no such sheet; a number of ways goes behind =: {option}=5\n");
+        let words = format!("tickdrizzle: 5: there is no such sheet; a number of ways goes after =: {option}=5\n");
         assert_eq!(run(&["move", "examples/found", option, "5"]), failure(&words, 64));
         assert_eq!(run(&["move", option, "5", "examples/found"]), failure(&words, 64));
     }

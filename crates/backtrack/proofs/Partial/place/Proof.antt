@@ -22,7 +22,7 @@ returns c =
     let a = c .args in
     let p = a .self in
     let h = c .pre .1 in
-    (more-placing (a .n) (p .image) (p .used) (p .len) (c .pre .0) (a .x) (h .0) (h .1) (h .2) (h .3), ((more-prefix (a .n) (p .image) (p .used) (p .len) (c .pre .0) (a .x) (h .0) (h .1) (h .2) (h .3), more-before (a .n) (p .image) (p .used) (p .len) (c .pre .0) (a .x) (h .0) (h .1) (h .2) (h .3), refl), (refl, refl, refl)))
+    (more-placing (a .n) (p .image) (p .used) (p .len) (c .pre .0) (a .x) (h .0) (h .1) (h .2) (h .3), ((more-prefix (a .n) (p .image) (p .used) (p .len) (c .pre .0) (a .x) (h .0) (h .1) (h .2) (h .3), more-before (a .n) (p .image) (p .used) (p .len) (c .pre .0) (a .x) (h .0) (h .1) (h .2) (h .3), refl), refl))
 
 pub place-spec : {M : Type 1} → statement M
 place-spec = tie.close (tie.spec cast-p element-write-p element-write-p-2 add-p returns)

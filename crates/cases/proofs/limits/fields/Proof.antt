@@ -10,8 +10,7 @@ use Rattle.csv.specs.Decimals.{isDigit, value, valueFrom}
 use Rattle.csv.specs.Records.{isBreak, onto, records, fields, rows}
 use Rattle.csv.specs.Tables.{fieldsOf, orderOf, cellsOf}
 use Rattle.csv.specs.Questions.{breakAt, inBreak, isAllowed, firstOther, isSquare, fieldsQuestions, loadRefusal}
-use Rattle.csv.specs.InnerQuestions.{bytesRefusal, fieldsRefusal}
-use Rattle.csv.specs.QuestionsLaws.{fieldRefusal}
+use Rattle.csv.specs.InnerQuestions.{bytesRefusal, fieldsRefusal, fieldRefusal}
 use Rattle.csv.specs.Calls.{loadAnswer, cellsAfter}
 use Rattle.plain.specs.declared.Said.{Said}
 use Rattle.judging.specs.InnerSaid.{sameSaid}

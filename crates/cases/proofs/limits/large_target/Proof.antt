@@ -8,7 +8,7 @@ use native.Mathlib.Omega.{arith}
 use lib.ListN.{length, drop, replicate}
 use Rattle.semigroups.specs.Lists.{range, elements, at, lists, find, firstOf}
 use Rattle.semigroups.specs.Tables.{Accepted, product, isElement, associates, badCell, badTriple}
-use Rattle.semigroups.specs.QuestionsLaws.{cellsRefusal}
+use Rattle.semigroups.specs.InnerQuestions.{cellsRefusal}
 use Rattle.semigroups.specs.Questions.{tableRefusal}
 use Rattle.semigroups.specs.Transformations.{transformationOrder, transformationCells, transformationRefusal}
 use Rattle.semigroups.proofs.Tables.{accepted}

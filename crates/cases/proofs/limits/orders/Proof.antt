@@ -7,7 +7,7 @@ use Prim.Native.Nat.{ℕ}
 use native.Mathlib.Omega.{arith}
 use lib.ListN.{replicate}
 use Rattle.semigroups.specs.Lists.{at}
-use Rattle.semigroups.specs.QuestionsLaws.{no}
+use Rattle.semigroups.specs.InnerQuestions.{no}
 use Rattle.semigroups.specs.Questions.{tableRefusal}
 use Rattle.tables.proofs.Questions.{order-high, cells-refused}
 use Rattle.plain.specs.declared.Said.{Said}

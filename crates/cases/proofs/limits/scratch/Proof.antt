@@ -4,7 +4,7 @@ use mathlib.Core.List.{[], _∷_, flatMap}
 use mathlib.Core.Option.{orElse}
 use Rattle.semigroups.specs.Lists.{range, elements, at, all, find, keep, member, distinct, sum, count, least, lists, firstOf}
 use Rattle.semigroups.specs.Tables.{product, grid, isElement, associates, badCell, badTriple}
-use Rattle.semigroups.specs.QuestionsLaws.{cellsRefusal, tablesRefusal}
+use Rattle.semigroups.specs.InnerQuestions.{cellsRefusal, tablesRefusal}
 use Rattle.semigroups.specs.Questions.{tableRefusal, checkRefusal, searchRefusal}
 use Rattle.semigroups.specs.Scratch.{packedByte, scratchSize, marks}
 use Rattle.semigroups.specs.InnerCalls.{scratchAfter}

@@ -1,112 +1,35 @@
--- `isomorphisms` meets its contract: each call agrees with what RULES 23.2 prints. Assumes nothing.
-use Rattle.judging.specs.InnerTally.{empty, agreed}
-use Rattle.judging.proofs.Counting.{two-more}
-use Rattle.cases.proofs.Told.{first-10, next-10, first-11, next-11, after-11, first-12, next-12}
+-- `isomorphisms` meets its contract: each case agrees with what RULES 23.2 prints. Assumes nothing.
+use mathlib.Core.Path.{ap, _∙_}
+use Rattle.judging.specs.InnerTally.{agreed}
 use borrow.Author.Needs.{needs}
 use Rattle.cases.proofs.printed.isomorphisms.Statement.{statement}
 use Rattle.cases.proofs.printed.isomorphisms.Tie as tie
 
-slice-aggregate-told : tie.Need-slice-aggregate-told
-slice-aggregate-told c = search needs
-
-slice-aggregate-told-2 : tie.Need-slice-aggregate-told-2
-slice-aggregate-told-2 c = search needs
-
 start-requires : tie.Need-start-requires
 start-requires c κs = search needs
 
-told-requires : tie.Need-told-requires
-told-requires c κs = search needs
+two-onto-two-requires : tie.Need-two-onto-two-requires
+two-onto-two-requires c κs = search needs
 
-slice-aggregate-told-3 : tie.Need-slice-aggregate-told-3
-slice-aggregate-told-3 c = search needs
+null3-onto-null3-requires : tie.Need-null3-onto-null3-requires
+null3-onto-null3-requires c κs = search needs
 
-slice-aggregate-told-4 : tie.Need-slice-aggregate-told-4
-slice-aggregate-told-4 c = search needs
-
-told-requires-2 : tie.Need-told-requires-2
-told-requires-2 c κs = search needs
-
-slice-aggregate-told-5 : tie.Need-slice-aggregate-told-5
-slice-aggregate-told-5 c = search needs
-
-slice-aggregate-told-6 : tie.Need-slice-aggregate-told-6
-slice-aggregate-told-6 c = search needs
-
-told-requires-3 : tie.Need-told-requires-3
-told-requires-3 c κs = search needs
-
-slice-aggregate-told-7 : tie.Need-slice-aggregate-told-7
-slice-aggregate-told-7 c = search needs
-
-slice-aggregate-told-8 : tie.Need-slice-aggregate-told-8
-slice-aggregate-told-8 c = search needs
-
-told-requires-4 : tie.Need-told-requires-4
-told-requires-4 c κs = search needs
-
-slice-aggregate-told-9 : tie.Need-slice-aggregate-told-9
-slice-aggregate-told-9 c = search needs
-
-slice-aggregate-told-10 : tie.Need-slice-aggregate-told-10
-slice-aggregate-told-10 c = search needs
-
-told-requires-5 : tie.Need-told-requires-5
-told-requires-5 c κs = search needs
-
-slice-aggregate-told-11 : tie.Need-slice-aggregate-told-11
-slice-aggregate-told-11 c = search needs
-
-slice-aggregate-told-12 : tie.Need-slice-aggregate-told-12
-slice-aggregate-told-12 c = search needs
-
-told-requires-6 : tie.Need-told-requires-6
-told-requires-6 c κs = search needs
-
-slice-aggregate-told-13 : tie.Need-slice-aggregate-told-13
-slice-aggregate-told-13 c = search needs
-
-slice-aggregate-told-14 : tie.Need-slice-aggregate-told-14
-slice-aggregate-told-14 c = search needs
-
-told-requires-7 : tie.Need-told-requires-7
-told-requires-7 c κs = search needs
+mat5-onto-mat5-requires : tie.Need-mat5-onto-mat5-requires
+mat5-onto-mat5-requires c κs = search needs
 
 returns : tie.Need-returns
 unfolding agreed
 returns c =
-    let e1 = two-more empty 0 _ _ (c .before .before .before .before .before .before .before .before .before .before .before .before .before .before .before .before .before .before .before .start .ensures) (first-10 .0) (first-10 .1) (c .before .before .before .before .before .before .before .before .before .before .before .before .before .before .before .before .before .before .told .ensures) in
-    let e2 = two-more empty 2 _ _ e1 (next-10 .0) (next-10 .1) (c .before .before .before .before .before .before .before .before .before .before .before .before .before .before .before .told2 .ensures) in
-    let e3 = two-more empty 4 _ _ e2 (first-11 .0) (first-11 .1) (c .before .before .before .before .before .before .before .before .before .before .before .before .told3 .ensures) in
-    let e4 = two-more empty 6 _ _ e3 (next-11 .0) (next-11 .1) (c .before .before .before .before .before .before .before .before .before .told4 .ensures) in
-    let e5 = two-more empty 8 _ _ e4 (after-11 .0) (after-11 .1) (c .before .before .before .before .before .before .told5 .ensures) in
-    let e6 = two-more empty 10 _ _ e5 (first-12 .0) (first-12 .1) (c .before .before .before .told6 .ensures) in
-    two-more empty 12 _ _ e6 (next-12 .0) (next-12 .1) (c .told7 .ensures)
+    let e1 = c .before .before .two-onto-two .ensures ∙ ap (agreed 4) (c .before .before .before .start .ensures) in
+    let e2 = c .before .null3-onto-null3 .ensures ∙ ap (agreed 6) e1 in
+    c .mat5-onto-mat5 .ensures ∙ ap (agreed 4) e2
 
 pub isomorphisms-spec : {M : Type 1} → statement M
 isomorphisms-spec =
     tie.close
     (tie.spec
-    slice-aggregate-told
-    slice-aggregate-told-2
     start-requires
-    told-requires
-    slice-aggregate-told-3
-    slice-aggregate-told-4
-    told-requires-2
-    slice-aggregate-told-5
-    slice-aggregate-told-6
-    told-requires-3
-    slice-aggregate-told-7
-    slice-aggregate-told-8
-    told-requires-4
-    slice-aggregate-told-9
-    slice-aggregate-told-10
-    told-requires-5
-    slice-aggregate-told-11
-    slice-aggregate-told-12
-    told-requires-6
-    slice-aggregate-told-13
-    slice-aggregate-told-14
-    told-requires-7
+    two-onto-two-requires
+    null3-onto-null3-requires
+    mat5-onto-mat5-requires
     returns)

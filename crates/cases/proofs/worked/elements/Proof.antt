@@ -5,7 +5,7 @@ use mathlib.Core.List.{flatMap}
 use mathlib.Core.Option.{orElse}
 use Rattle.semigroups.specs.Lists.{range, elements, at, find, sum, count, least, lists, firstOf}
 use Rattle.semigroups.specs.Tables.{product, isElement, associates, badCell, badTriple}
-use Rattle.semigroups.specs.QuestionsLaws.{cellsRefusal}
+use Rattle.semigroups.specs.InnerQuestions.{cellsRefusal}
 use Rattle.semigroups.specs.Questions.{tableRefusal, elementRefusal}
 use Rattle.semigroups.specs.Calls.{Answer, givenUnless}
 use Rattle.semigroups.specs.Invariants.{IndexPeriod, Profile, power, periodFrom, index, period, idempotentPower, indexPeriod, sameIndexPeriod, frequency, diagonalFrequency, rowFrequency, columnFrequency, commuting, profile, sameProfile}

@@ -5,7 +5,7 @@ use mathlib.Core.List.{[], _∷_, flatMap}
 use mathlib.Core.Option.{orElse}
 use Rattle.semigroups.specs.Lists.{range, elements, at, find, lists, firstOf}
 use Rattle.semigroups.specs.Tables.{product, isElement, associates, badCell, badTriple}
-use Rattle.semigroups.specs.QuestionsLaws.{cellsRefusal}
+use Rattle.semigroups.specs.InnerQuestions.{cellsRefusal}
 use Rattle.semigroups.specs.Questions.{tableRefusal}
 use Rattle.plain.specs.declared.Said.{Said}
 use Rattle.plain.specs.InnerSaid.{saidOf}

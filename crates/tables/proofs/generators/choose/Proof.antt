@@ -7,12 +7,12 @@ use native.Mathlib.Omega.{arith}
 use denote.Ref.{now}
 use lib.ListN.{length, take, set, length-set}
 use lib.Seq.{length-take-le}
-use Rattle.semigroups.specs.Tables.{Product, Element, product}
+use Rattle.semigroups.specs.Tables.{Product, product}
 use Rattle.semigroups.specs.Invariants.{frequency}
-use Rattle.semigroups.specs.GeneratedLaws.{LeftProduct}
+use Rattle.semigroups.specs.InnerGenerated.{LeftProduct}
 use Rattle.semigroups.proofs.Booleans.{clash}
-use Rattle.tables.specs.InnerChoice.{FoundProducts, Rarest, NextGenerator, RarestFirst}
-use Rattle.tables.proofs.Choice.{products-nil, next-generator, first-none, chosen-inside, chosen-next, chosen-before, next-rarest, no-generator}
+use Rattle.tables.specs.InnerChoice.{FoundProducts, Rarest, RarestFirst}
+use Rattle.tables.proofs.Choice.{products-nil, next-generator, first-none, chosen-inside, chosen-next, chosen-before, next-rarest, no-generator, NextGenerator}
 use Rattle.tables.proofs.generators.choose.Statement.{statement}
 use Rattle.tables.proofs.generators.choose.Tie as tie
 

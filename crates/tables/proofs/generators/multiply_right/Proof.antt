@@ -1,10 +1,10 @@
 -- `multiply_right` meets its contract. The invariant: the products with the entries so far are added. Assumes nothing.
 use mathlib.Core.List.{map}
-use Prim.Native.Nat.{_-_, _≤_, _<_}
+use Prim.Native.Nat.{_-_, _≤_}
 use native.Mathlib.Omega.{arith}
 use denote.Ref.{now}
 use lib.ListN.{length, take, drop, getD}
-use Rattle.semigroups.specs.Tables.{Product, Element, product}
+use Rattle.semigroups.specs.Tables.{Element, product}
 use Rattle.semigroups.proofs.NoRepeats.{place-mem}
 use Rattle.tables.specs.InnerFound.{addingAll, Found}
 use Rattle.tables.proofs.Found.{found-room, found-element, found-again}

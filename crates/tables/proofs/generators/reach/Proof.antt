@@ -1,14 +1,14 @@
 -- `reach` meets its contract. The invariants: the elements found before are multiplied with the last entry one by one; then every element is multiplied
 -- with every entry. The second loop ends since at most 120 elements are found. Assumes nothing.
-use mathlib.Core.Path.{_≡_, refl, sym}
+use mathlib.Core.Path.{refl, sym}
 use mathlib.Core.List.{List}
-use Prim.Native.Nat.{ℕ, _-_, _≤_, _<_}
+use Prim.Native.Nat.{ℕ, _-_, _≤_}
 use native.Mathlib.Omega.{arith}
 use denote.Ref.{now}
 use lib.ListN.{length, take, getD}
 use lib.Seq.{getD-take}
-use Rattle.semigroups.specs.Tables.{Element, Filled, product}
-use Rattle.semigroups.specs.GeneratedLaws.{Inside}
+use Rattle.semigroups.specs.Tables.{Filled, product}
+use Rattle.semigroups.specs.InnerGenerated.{Inside}
 use Rattle.semigroups.proofs.NoRepeats.{place-mem}
 use Rattle.semigroups.proofs.Tables.{filled-closed}
 use Rattle.tables.specs.InnerFound.{Found}

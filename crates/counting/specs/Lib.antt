@@ -1,0 +1,3 @@
+pub mod InnerAmong
+pub mod InnerNext
+pub mod InnerTrials
