@@ -88,3 +88,7 @@ Marked m n scratch old new = (c y : ℕ) → Element largestOrder c → Element 
 -- Row j loses the elements up to x; nothing else changes.
 abbrev pub Raised : ℕ → ℕ → (ℕ → ℕ → Bool) → (ℕ → ℕ → Bool) → Type 0
 Raised j x old new = (d y : ℕ) → Element largestOrder d → Element largestOrder y → (new d y ≡ true) ↔ ((old d y ≡ true) × (d ≡ j → x < y))
+
+-- Row j loses the elements from x on; nothing else changes.
+abbrev pub Lowered : ℕ → ℕ → (ℕ → ℕ → Bool) → (ℕ → ℕ → Bool) → Type 0
+Lowered j x old new = (d y : ℕ) → Element largestOrder d → Element largestOrder y → (new d y ≡ true) ↔ ((old d y ≡ true) × (d ≡ j → y < x))
