@@ -1,6 +1,7 @@
 -- What the contracts of the search with rows say of its state, a partial map with rows. Assumes nothing.
 use mathlib.Core.Path.{_≡_}
-use mathlib.Core.Bool.{Bool, true, _&&_, cond}
+use mathlib.Core.Bool.{Bool, true, false, _&&_, cond}
+use mathlib.Core.Logic.{_⊎_}
 use mathlib.Core.Option.{Option}
 use mathlib.Core.List.{List}
 use Prim.Native.Nat.{ℕ, _-_, _≤_, _<_}
@@ -14,7 +15,8 @@ use Rattle.semigroups.specs.Trials.{passes}
 use Rattle.semigroups.specs.InnerSearch.{Placed}
 use Rattle.backtrack.specs.InnerState.{bounded}
 use Rattle.rows.specs.InnerRows.{has, Only}
-use Rattle.propagation.specs.InnerRows.{Begins, Images}
+use Rattle.rows.specs.InnerRoom.{roomy}
+use Rattle.propagation.specs.InnerRows.{Begins, Images, Narrows, KeptOrEmptied}
 use Rattle.twins.specs.InnerTwins.{rises, earliestRising}
 use Rattle.narrowing.specs.declared.Partial.{Partial}
 
@@ -50,6 +52,15 @@ pub record PlacedImages (n : ℕ) (image : List ℕ) (len : ℕ) : Type 0 where
 pub record Settled (s t : Product) (image : List ℕ) (len paired : ℕ) (rows : List ℕ) : Type 0 where
   pub own : (i : ℕ) → Element len i → Only rows i (at image i)
   pub products : (i j : ℕ) → Element paired i → Element paired j → Only rows (s i j) (t (at image i) (at image j))
+
+-- What `ok` says of the rows that are left once x is placed for l and they are narrowed. It is set only if what is left passes `narrowed` over the old rows, and
+-- each of the first m rows has one of n elements and room for the rows inside it. It is unset only if `narrowed` leaves none for some source element, or some
+-- row has no room.
+pub record KeptWithRoom (m : ℕ) (s : Product) (n : ℕ) (t : Product) (l x : ℕ) (old : ℕ → ℕ → Bool) (p : Partial) : Type 0 where
+  pub narrows : p .ok ≡ true → Narrows m s n t l x old (rowsIn p)
+  pub kept : p .ok ≡ true → (c : ℕ) → Element m c → (y : ℕ) × Element n y × (rowsIn p c y ≡ true)
+  pub room : p .ok ≡ true → roomy (p .rows) m ≡ true
+  pub failed : p .ok ≡ false → KeptOrEmptied m s n t l x false (rowsIn p) ⊎ (roomy (p .rows) m ≡ false)
 
 -- What holds whenever the search goes on from a partial map. The images placed rise along the relation, and the rows of the elements that it leads to from a
 -- placed one are above the image of that one.

@@ -6,7 +6,8 @@ use Prim.Native.Nat.{ℕ, _+_, _≤_, _<_}
 use Rattle.semigroups.specs.Lists.{at}
 use Rattle.semigroups.specs.Tables.{Product, Element}
 use Rattle.semigroups.specs.InnerMaps.{Embedding, Among}
-use Rattle.rows.specs.InnerRows.{rowOf, masked, singleRow}
+use Rattle.rows.specs.InnerRows.{rowOf, has, masked, singleRow, Only}
+use Rattle.propagation.specs.InnerRows.{KeptOrEmptied}
 
 -- The new rows lose no embedding that sends l to x and is among the old rows.
 abbrev pub KeepsSending : ℕ → Product → ℕ → Product → ℕ → ℕ → (ℕ → ℕ → Bool) → (ℕ → ℕ → Bool) → Type 0
@@ -36,6 +37,20 @@ pub record ForcedWith (s : Product) (n : ℕ) (t : Product) (l x c : ℕ) (rows 
 pub data ForcedBefore (s : Product) (n : ℕ) (t : Product) (l x : ℕ) (rows : List ℕ) : ℕ → List ℕ → Type 0 where
   begun : ForcedBefore s n t l x rows 1 rows
   further : (c : ℕ) (mid newRows : List ℕ) → ForcedBefore s n t l x rows c mid → ForcedWith s n t l x c mid newRows → ForcedBefore s n t l x rows (c + 1) newRows
+
+-- What the answer of narrowing by row l says of the rows that it leaves. If the row holds one of n elements alone, it is what `KeptOrEmptied` says of placing
+-- that element for l; otherwise the answer is "yes" and no row changes.
+pub record KeptOrEmptiedFrom (m : ℕ) (s : Product) (n : ℕ) (t : Product) (l : ℕ) (rows : List ℕ) (ok : Bool) (newRows : List ℕ) : Type 0 where
+  pub alone : (x : ℕ) → Element n x → rowOf rows l ≡ singleRow x → KeptOrEmptied m s n t l x ok (has newRows)
+  pub otherwise : ((x : ℕ) → Element n x → rowOf rows l ≡ singleRow x → ⊥) → (ok ≡ true) × (newRows ≡ rows)
+
+-- What the answer of narrowing by each row that holds one element alone says of the rows that it leaves. Where some row held one of n elements alone, it is
+-- "yes" only if each of the first m rows has one of n elements. It is "no" only if some row has at most one element, and placing that leaves none for some
+-- source element. Where no row held one of n elements alone, the answer is "yes" and no row changes.
+pub record KeptOrEmptiedByAll (m : ℕ) (s : Product) (n : ℕ) (t : Product) (rows : List ℕ) (ok : Bool) (newRows : List ℕ) : Type 0 where
+  pub kept : ok ≡ true → (l x : ℕ) → Element m l → Element n x → rowOf rows l ≡ singleRow x → (c : ℕ) → Element m c → (y : ℕ) × Element n y × (has newRows c y ≡ true)
+  pub emptied : ok ≡ false → (l : ℕ) × (x : ℕ) × Element m l × Element n x × Only newRows l x × KeptOrEmptied m s n t l x false (has newRows)
+  pub otherwise : ((l x : ℕ) → Element m l → Element n x → rowOf rows l ≡ singleRow x → ⊥) → (ok ≡ true) × (newRows ≡ rows)
 
 -- The answer is whether row c holds one element alone and its mark of use is 0.
 pub record Waits (rows used : List ℕ) (c : ℕ) (r : Bool) : Type 0 where
