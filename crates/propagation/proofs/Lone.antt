@@ -22,7 +22,7 @@ use Rattle.rows.specs.declared.Row.{Row}
 use Rattle.rows.specs.InnerRows.{inRow, rowOf, has, singleRow, RowInside, Only, Shrinks, Forced}
 use Rattle.rows.proofs.Rows.{in-single, single-size, inside-single, inside-self, single-unique, shrinks-has, shrinks-none, shrinks-more, only-still}
 use Rattle.propagation.specs.InnerRows.{Narrows, KeptOrEmptied}
-use Rattle.propagation.specs.InnerLone.{KeepsOrFails, Lone, NextLone, KeptOrEmptiedFrom, KeptOrEmptiedByAll}
+use Rattle.propagation.specs.InnerLone.{KeepsOrFails, Lone, NextLone, KeptOrEmptiedFrom, PropagatedBy, begun, further, KeptOrEmptiedByAll}
 use Rattle.propagation.proofs.Narrowed.{narrowed-wider, forced-kept}
 
 -- ---- an embedding among the rows
@@ -107,6 +107,7 @@ module _ (m : ℕ) (s : Product) (n : ℕ) (t : Product) (rows₀ : List ℕ) wh
     pub shrinks : Shrinks rows₀ rows
     pub done : (c : ℕ) → Element m c → (at used c ≡ 0 → ⊥) → Used rows c
     pub effect : Effect rows used
+    pub steps : PropagatedBy m s n t rows₀ used rows
     pub next : NextLone rows used m l
 
 module _ (m : ℕ) (s : Product) (n : ℕ) (t : Product) (closed : Closed m s) (lm : m ≤ 120) where
@@ -148,6 +149,7 @@ module _ (m : ℕ) (s : Product) (n : ℕ) (t : Product) (closed : Closed m s) (
           shrinks = shrinks-none rows₀;
           done = λ c hc ne. absurd (ne (getD-replicate {A = ℕ} 120 (c - 1) 0 0 (omega arith)));
           effect = untouched refl (λ c x hc ne hx e. ne (getD-replicate {A = ℕ} 120 (c - 1) 0 0 (omega arith)));
+          steps = begun;
           next = next;
         }
 
@@ -208,6 +210,8 @@ module _ (m : ℕ) (s : Product) (n : ℕ) (t : Product) (closed : Closed m s) (
                   kept = λ e. absurd (false≢true e);
                   emptied = λ _. (l, h .0, hl, h .1, only-still rows newRows less l (h .0) (omega arith) (subst (RowInside (rowOf rows l)) (h .2) (inside-self (rowOf rows l))), told .alone (h .0) (h .1) (h .2));
                   otherwise = λ none. absurd (none (some .place) (some .image) (some .within) (some .element) (some .row));
+                  all = λ e. absurd (false≢true e);
+                  until = λ _. (used, rows, l, next-element, P .steps, P .next, told);
                 }
 
         pub propagating-more : (newRows : List ℕ) (then : ℕ) → KeepsOrFails m s n t (has rows) true (has newRows) → Shrinks rows newRows
@@ -220,6 +224,7 @@ module _ (m : ℕ) (s : Product) (n : ℕ) (t : Product) (closed : Closed m s) (
               shrinks = shrinks-more rows newRows rows₀ (P .shrinks) less;
               done = λ c hc ne. go c hc ne (equal-or-not c l);
               effect = effect-more newRows told;
+              steps = further used rows newRows l (P .steps) (next-element .0) (P .next) told;
               next = next;
             }
           where
@@ -251,18 +256,25 @@ module _ (m : ℕ) (s : Product) (n : ℕ) (t : Product) (closed : Closed m s) (
       pub told-yes : l ≡ 0 → n ≤ 120 → KeptOrEmptiedByAll m s n t rows₀ true rows
       told-yes none ln = go (P .effect)
         where
+          used-all : (u : List ℕ) × PropagatedBy m s n t rows₀ u rows × NextLone rows u m 0
+          used-all = (used, P .steps, subst (NextLone rows used m) none (P .next))
+
           go : Effect m s n t rows₀ rows used → KeptOrEmptiedByAll m s n t rows₀ true rows
           go (all-kept some each) =
               record {
                 kept = λ _ c x hc hx e. each;
                 emptied = λ e. absurd (false≢true (sym e));
                 otherwise = λ never. absurd (never (some .place) (some .image) (some .within) (some .element) (some .row));
+                all = λ _. used-all;
+                until = λ e. absurd (false≢true (sym e));
               }
           go (untouched same before) =
               record {
                 kept = λ _ c x hc hx e. absurd (alone c x hc hx e (equal-or-not (at used c) 0));
                 emptied = λ e. absurd (false≢true (sym e));
                 otherwise = λ _. (refl, same);
+                all = λ _. used-all;
+                until = λ e. absurd (false≢true (sym e));
               }
             where
               alone : (c x : ℕ) → Element m c → Element n x → rowOf rows₀ c ≡ singleRow x → (at used c ≡ 0) ⊎ (at used c ≡ 0 → ⊥) → ⊥

@@ -1,6 +1,7 @@
 -- `propagate_from` meets its contract: an embedding among the rows sends l to what row l holds alone. Assumes nothing.
 use mathlib.Core.Path.{_≡_, refl, sym, _∙_, subst}
-use Prim.Native.Nat.{ℕ}
+use mathlib.Core.List.{List}
+use Prim.Native.Nat.{ℕ, _+_}
 use native.Mathlib.Omega.{arith}
 use borrow.Author.Needs.{needs}
 use Rattle.semigroups.specs.Tables.{product, Element}
@@ -8,7 +9,8 @@ use Rattle.semigroups.specs.TablesLaws.{Closed}
 use Rattle.semigroups.proofs.Tables.{product-element}
 use Rattle.rows.specs.InnerRows.{rowOf, has, singleRow}
 use Rattle.rows.proofs.Rows.{shrinks-none, shrinks-more}
-use Rattle.propagation.specs.InnerRows.{Narrows, KeptOrEmptied}
+use Rattle.propagation.specs.InnerRows.{Narrows, KeptOrEmptied, NarrowedInTurn}
+use Rattle.propagation.specs.InnerLone.{ForcedBefore}
 use Rattle.propagation.proofs.Lone.{lone-image, narrows-wider}
 use Rattle.propagation.proofs.propagate_from.Statement.{statement}
 use Rattle.propagation.proofs.propagate_from.Tie as tie
@@ -36,14 +38,14 @@ returns c =
     let k = c .before in
     let a = start k .args in
     let none : (x : ℕ) → Element (a .n) x → Holds k x → ⊥ = λ x hx e. let q = found k x hx e in let zero = c .if1 .taken in omega arith in
-    ((λ f F h. (refl, h)), (shrinks-none (a .rows .now), ((λ _ x hx e. absurd (none x hx e)), record { alone = λ x hx e. absurd (none x hx e); otherwise = λ _. (refl, refl) })))
+    ((λ f F h. (refl, h)), (shrinks-none (a .rows .now), ((λ _ x hx e. absurd (none x hx e)), record { alone = λ x hx e. absurd (none x hx e); in-turn = λ x hx e. absurd (none x hx e); otherwise = λ _. (refl, refl) })))
 
 returns-2 : tie.Need-returns-2
 returns-2 c =
     let k = c .before .before in
     let a = start k .args in
     let none : (x : ℕ) → Element (a .n) x → Holds k x → ⊥ = λ x hx e. let q = found k x hx e in let above = c .if2 .taken in omega arith in
-    ((λ f F h. (refl, h)), (shrinks-none (a .rows .now), ((λ _ x hx e. absurd (none x hx e)), record { alone = λ x hx e. absurd (none x hx e); otherwise = λ _. (refl, refl) })))
+    ((λ f F h. (refl, h)), (shrinks-none (a .rows .now), ((λ _ x hx e. absurd (none x hx e)), record { alone = λ x hx e. absurd (none x hx e); in-turn = λ x hx e. absurd (none x hx e); otherwise = λ _. (refl, refl) })))
 
 force-all-requires : tie.Need-force-all-requires
 force-all-requires c κs = search needs
@@ -86,7 +88,8 @@ returns-3 c =
               subst (λ (i : ℕ). Narrows (a .m) s (a .n) t (a .l) i (has (a .rows .now)) (has (new .0))) (found k v hv e)
               (narrows-wider (a .m) s (a .n) t closed (so .1) (a .rows .now) (mid .0) (force .ensures .1 .0) (a .l) x hl (has (new .0)) (w .ensures .1 .1 .0 ok))),
           record {
-            alone = λ v hv e. subst (λ (i : ℕ). KeptOrEmptied (a .m) s (a .n) t (a .l) i (w .result) (has (new .0))) (found k v hv e) (w .ensures .1 .1 .1);
+            alone = λ v hv e. subst (λ (i : ℕ). KeptOrEmptied (a .m) s (a .n) t (a .l) i (w .result) (has (new .0))) (found k v hv e) (w .ensures .1 .1 .1 .0);
+            in-turn = λ v hv e. subst (λ (i : ℕ). (u : List ℕ) × ForcedBefore s (a .n) t (a .l) i (a .rows .now) (a .m + 1) u × NarrowedInTurn (a .m) s (a .n) t (a .l) i u (w .result) (new .0)) (found k v hv e) (mid .0, force .ensures .1 .1, w .ensures .1 .1 .1 .1);
             otherwise = λ none. absurd (none x (omega arith) row);
           },
         ),
