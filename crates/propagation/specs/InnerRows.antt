@@ -7,7 +7,7 @@ use lib.Dec.{eqb}
 use Rattle.semigroups.specs.Lists.{at}
 use Rattle.semigroups.specs.Tables.{Product, Element}
 use Rattle.semigroups.specs.InnerMaps.{Embedding, Among}
-use Rattle.rows.specs.InnerRows.{inRow, has, packedRow, isEmpty, masked, Only}
+use Rattle.rows.specs.InnerRows.{inRow, has, packedRow, isEmpty, masked, Only, Forced}
 use Rattle.rows.specs.declared.Row.{Row}
 
 -- The weight if the two are equal, else 0.
@@ -44,6 +44,12 @@ Keeps m s n t image len old new = (f : List ℕ) → Embedding m s n t f → Beg
 -- The rows of the products of l with the first k elements, on both sides, have at most the products of their images.
 abbrev pub Multiplied : Product → Product → List ℕ → ℕ → ℕ → List ℕ → Type 0
 Multiplied s t image l k rows = (i : ℕ) → Element k i → Only rows (s i l) (t (at image i) (at image l)) × Only rows (s l i) (t (at image l) (at image i))
+
+-- The rows after those of the products of l with each element before j in turn, on both sides, keep at most the products of their images.
+pub data MultipliedBefore (s t : Product) (image : List ℕ) (l : ℕ) (rows : List ℕ) : ℕ → List ℕ → Type 0 where
+  begun : MultipliedBefore s t image l rows 1 rows
+  further : (j : ℕ) (mid one newRows : List ℕ) → MultipliedBefore s t image l rows j mid → Forced (s j l) (t (at image j) (at image l)) mid one → Forced (s l j) (t (at image l) (at image j)) one newRows
+      → MultipliedBefore s t image l rows (j + 1) newRows
 
 -- What is left after placing x for l passes `narrowed` over the old rows.
 abbrev pub Narrows : ℕ → Product → ℕ → Product → ℕ → ℕ → (ℕ → ℕ → Bool) → (ℕ → ℕ → Bool) → Type 0
