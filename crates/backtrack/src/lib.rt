@@ -18,7 +18,7 @@ ghost use Rattle.backtrack.specs.InnerState.{prefix, Ready, bounded, exh
 use tables::limits::ORDER;
 use tables::limits::PLACES;
 
-// How many trials a search without a limit makes before it takes rows. They end nearly every easy search.
+// At most how many trials a search without a limit makes before it takes rows. They end nearly every easy search.
 pub const FIRST_TRIALS: u32 = 8000;
 
 // The map placed so far. The image of element i is image[i - 1]; used[y] is 1 where y is an image. The constraints, `forced` and `owner`, are no part of it:

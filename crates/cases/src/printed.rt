@@ -1,5 +1,6 @@
 // Cases 6 to 13 with the maps that RULES 23.2 prints, as constants. The comparison with the second search cannot tell whether both are wrong alike; this
-// one can.
+// one can. The contract of `told` says what is compared with what. Those of the functions below say only how many answers agree, which a tally without a
+// comparison would meet too: that the constants are compared is read from the code and seen in the run.
 ghost use mathlib.Core.Path.{_≡_};
 ghost use Prim.Native.Nat.{_≤_};
 ghost use Rattle.kinds.specs.Answers.{kindOf};
@@ -121,7 +122,7 @@ fn right_in_two(tally: Tally) -> Tally
     )
 }
 
-// Case 9: one in two has three embeddings.
+// Case 9: the embeddings of one in two, in turn.
 fn one_in_two(tally: Tally) -> Tally
     ensures answer { λ r. ⌜ r ≡ agreed 6 tally ⌝ }
 {
@@ -196,7 +197,7 @@ pub fn embeddings() -> Tally
     )
 }
 
-// Case 10: two has two isomorphisms onto itself.
+// Case 10: the isomorphisms of two onto itself, in turn.
 fn two_onto_two(tally: Tally) -> Tally
     ensures answer { λ r. ⌜ r ≡ agreed 4 tally ⌝ }
 {
@@ -226,7 +227,7 @@ fn two_onto_two(tally: Tally) -> Tally
     )
 }
 
-// Case 11: null3 has two isomorphisms onto itself; the second is also the next one after bytes that are no map.
+// Case 11: the isomorphisms of null3 onto itself, in turn; the second is also the next one after bytes that are no map.
 fn null3_onto_null3(tally: Tally) -> Tally
     ensures answer { λ r. ⌜ r ≡ agreed 6 tally ⌝ }
 {
