@@ -9,7 +9,7 @@ ghost use Prim.Native.Nat.{ℕ, _+_, _-_, _≤_, _<_};
 ghost use lib.Dec.{eqb, leb};
 ghost use lib.ListN.{length, getD, take, set, replicate};
 ghost use Rattle.semigroups.specs.Lists.{member};
-ghost use Rattle.semigroups.specs.Tables.{largestOrder, Product, product, Element, Filled};
+ghost use Rattle.semigroups.specs.Tables.{largestOrder, product, Element, Filled};
 ghost use Rattle.semigroups.specs.Scratch.{scratchSize, marked};
 ghost use Rattle.semigroups.specs.Trials.{passes, work};
 ghost use Rattle.semigroups.specs.InnerTrials.{counted};
