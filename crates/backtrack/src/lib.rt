@@ -9,7 +9,7 @@ ghost use Prim.Native.Nat.{ℕ, _+_, _-_, _≤_, _<_};
 ghost use lib.Dec.{eqb, leb};
 ghost use lib.ListN.{length, getD, take, set, replicate};
 ghost use Rattle.semigroups.specs.Lists.{member};
-ghost use Rattle.semigroups.specs.Tables.{largestOrder, Product, product, Element, Filled};
+ghost use Rattle.semigroups.specs.Tables.{largestOrder, product, Element, Filled};
 ghost use Rattle.semigroups.specs.Scratch.{scratchSize, marked};
 ghost use Rattle.semigroups.specs.Trials.{passes, work};
 ghost use Rattle.semigroups.specs.InnerTrials.{counted};
@@ -234,12 +234,23 @@ fn extend(
                 return no_map(true, 0);
             }
             left = paid.left;
-            // Looking by reference first, in constant time, avoids copying the map for most images that do not fit. The test decides.
+            // Looking first, in constant time, avoids the test of most images that do not fit. Both are done by reference: only an image that passes costs a copy of
+            // the map.
             let image = &p.image;
             let used = &p.used;
             if constraints::may_pass(source, m, target, n, image, used, &forced, &owner, at, x) {
-                let q = p.tried(source, m, target, n, &forced, &owner, x);
-                if q.ok {
+                if constraints::passes_with(
+                    source,
+                    m,
+                    target,
+                    n,
+                    image,
+                    used,
+                    &forced,
+                    &owner,
+                    at,
+                    x,
+                ) {
                     let r = extend(
                         source,
                         m,
@@ -251,7 +262,7 @@ fn extend(
                         left,
                         &forced,
                         &owner,
-                        q.partial,
+                        p.place(n, x),
                     );
                     if r.stopped {
                         return r;

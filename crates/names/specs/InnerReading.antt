@@ -11,7 +11,6 @@ use Rattle.sheets.specs.Grammar.{Row}
 use Rattle.sheets.specs.Readings.{rowsNames}
 use Rattle.sheets.specs.Names.{namesText, namesAt}
 use Rattle.sheets.specs.Questions.{rowsQuestions, namesQuestions}
-use Rattle.sheets.specs.InnerAutomaton as automaton
 use Rattle.names.specs.declared.Value.{Value}
 use Rattle.names.specs.declared.Judged.{Judged}
 use Rattle.names.specs.declared.Judged.the-variants.{Passed, Failed}
