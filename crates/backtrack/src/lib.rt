@@ -234,23 +234,12 @@ fn extend(
                 return no_map(true, 0);
             }
             left = paid.left;
-            // Looking first, in constant time, avoids the test of most images that do not fit. Both are done by reference: only an image that passes costs a copy of
-            // the map.
+            // Looking by reference first, in constant time, avoids copying the map for most images that do not fit. The test decides.
             let image = &p.image;
             let used = &p.used;
             if constraints::may_pass(source, m, target, n, image, used, &forced, &owner, at, x) {
-                if constraints::passes_with(
-                    source,
-                    m,
-                    target,
-                    n,
-                    image,
-                    used,
-                    &forced,
-                    &owner,
-                    at,
-                    x,
-                ) {
+                let q = p.tried(source, m, target, n, &forced, &owner, x);
+                if q.ok {
                     let r = extend(
                         source,
                         m,
@@ -262,7 +251,7 @@ fn extend(
                         left,
                         &forced,
                         &owner,
-                        p.place(n, x),
+                        q.partial,
                     );
                     if r.stopped {
                         return r;

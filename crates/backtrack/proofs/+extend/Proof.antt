@@ -10,11 +10,10 @@ use borrow.Author.Needs.{needs}
 use borrow.Author.Tests.{not-true, not-false}
 use borrow.Fn.Kinds.{In}
 use borrow.Fn.PlainCycle.{Measures, is, falls, and}
-use Rattle.semigroups.specs.Lists.{at, member}
+use Rattle.semigroups.specs.Lists.{at}
 use Rattle.semigroups.specs.Tables.{Product, product}
 use Rattle.semigroups.proofs.Tables.{product-element}
-use Rattle.constraints.specs.InnerTracking.{Trial}
-use Rattle.backtrack.specs.InnerState.{prefix, Remainder, exhausted, remaining, within}
+use Rattle.backtrack.specs.InnerState.{Remainder, exhausted, remaining, within}
 use Rattle.backtrack.specs.declared.Partial.{Partial}
 use Rattle.backtrack.specs.declared.Outcome.{Outcome}
 use Rattle.constraints.proofs.Placing.{as-trial, image-element}
@@ -24,11 +23,10 @@ use Rattle.backtrack.proofs.Extending.{Ahead, Rest, Turn, Verdict, done
 use Rattle.backtrack.proofs.extend.Reads as extend
 use Rattle.backtrack.proofs.extend.Kinds as extend-kinds
 use Rattle.backtrack.proofs.+extend.Lts-extend as extend-lts
-use Rattle.backtrack.proofs.Partial.place.Reads as place-reads
+use Rattle.backtrack.proofs.Partial.tried.Reads as tried-reads
 use Rattle.backtrack.proofs.no_map.Reads as no-map-reads
 use Rattle.backtrack.proofs.open.Reads as open-reads
 use Rattle.constraints.proofs.may_pass.Reads as may-pass-reads
-use Rattle.constraints.proofs.passes_with.Reads as passes-with-reads
 use Rattle.constraints.proofs.note_newest.Reads as note-newest-reads
 use Rattle.backtrack.proofs.pay.Reads as pay-reads
 use Rattle.backtrack.proofs.whole.Reads as whole-reads
@@ -54,7 +52,7 @@ extend-μ-loop source m target n scratch after tight limit known held p at force
 -- What the calls ask and tell.
 abbrev calls : ℕ → extend-lts.Claims
 calls t =
-    (whole-reads.Asked, whole-reads.Learnt, note-newest-reads.Asked, note-newest-reads.Learnt, open-reads.Asked, open-reads.Learnt, pay-reads.Asked, pay-reads.Learnt, no-map-reads.Asked, no-map-reads.Learnt, may-pass-reads.Asked, may-pass-reads.Learnt, passes-with-reads.Asked, passes-with-reads.Learnt, place-reads.Asked, place-reads.Learnt, extend-below t, extend.Post)
+    (whole-reads.Asked, whole-reads.Learnt, note-newest-reads.Asked, note-newest-reads.Learnt, open-reads.Asked, open-reads.Learnt, pay-reads.Asked, pay-reads.Learnt, no-map-reads.Asked, no-map-reads.Learnt, may-pass-reads.Asked, may-pass-reads.Learnt, tried-reads.Asked, tried-reads.Learnt, extend-below t, extend.Post)
 
 abbrev Start : ℕ → Type 0
 Start t = extend-lts.Start (calls t) (extend-at t) extend.Post extend-Inv-loop extend-μ-loop
@@ -102,13 +100,13 @@ unpaid enough left r e h = ap {B = Remainder} (λ (b : Bool). cond b (remaining 
 paid : (enough : Bool) (left : ℕ) (r : Remainder) → cond enough (remaining left none) exhausted ≡ r → not enough ≡ false → remaining left none ≡ r
 paid enough left r e h = ap {B = Remainder} (λ (b : Bool). cond b (remaining left none) exhausted) (sym (not-false enough h)) ∙ e
 
-abbrev Placed : ℕ → Type 0
-Placed t = extend-lts.After-place (calls t) (extend-at t) extend.Post extend-Inv-loop extend-μ-loop
+abbrev Tried : ℕ → Type 0
+Tried t = extend-lts.After-tried (calls t) (extend-at t) extend.Post extend-Inv-loop extend-μ-loop
 
--- What is told of x, once it passed and is placed.
-told : (t : ℕ) (k : Placed t) → let o = k .before .before .before .before .before .before .before .before .before .before .before .before .before .before .before .before .before .before in
-    Verdict (s t (start t o)) (start t o .args .n) (r t (start t o)) (map t (start t o)) (o .before .before .before .before .loop .x) (k .place .result) (k .before .before .before .before .passes-with .result)
-told t k = let e = k .place .ensures in record { placing = e .0; longer = e .1 .0 .0; before = e .1 .0 .1; one-more = e .1 .0 .2; says = k .before .before .before .before .passes-with .ensures }
+-- What is told of x, once it is tried.
+told : (t : ℕ) (k : Tried t) → let o = k .before .before .before .before .before .before .before .before .before .before .before .before .before .before in
+    Verdict (s t (start t o)) (start t o .args .n) (r t (start t o)) (map t (start t o)) (o .before .before .before .before .loop .x) (k .tried .result .partial) (k .tried .result .ok)
+told t k = let e = k .tried .ensures in record { placing = e .1 .0; longer = e .1 .1 .0 .0; before = e .1 .1 .0 .1; one-more = e .1 .1 .0 .2; says = e .0 }
 
 extend-whole-requires : (t : ℕ) → extend-lts.Need-whole-requires (calls t) (extend-at t) extend.Post extend-Inv-loop extend-μ-loop
 extend-whole-requires t c κs = search needs
@@ -160,58 +158,51 @@ extend-returns-2 t c =
     let y = c .before .before .before .pay in
     c .no-map .ensures ∙ stop (turn t (c .before .before .before .before .before)) (c .before .before .before .before .if3 .taken) (unpaid (y .result .enough) (y .result .left) _ (y .ensures .0) (c .before .if4 .taken))
 
--- What is asked of x where it is looked at, once it is open.
-trial : (t : ℕ) (k : Opened t) → k .«open» .result ≡ true → let z = start t k in
-    let p = map t z in
-    let x = k .before .before .before .before .loop .x in Trial (z .args .n) (p .image) (p .used) (p .len) x × (p .len < z .args .m) × (member x (prefix p) ≡ false)
-trial t k o =
+extend-may-pass-requires : (t : ℕ) → extend-lts.Need-may-pass-requires (calls t) (extend-at t) extend.Post extend-Inv-loop extend-μ-loop
+extend-may-pass-requires t c κs =
+    let k = c .before .before .before .before .before .before .before .before .before in
     let z = start t k in
     let p = map t z in
     let T = turn t k in
-    (as-trial (z .args .n) (p .image) (p .used) (p .len) (T .ready .placing) (k .before .before .before .before .loop .x) (T .element) (omega arith), T .room, unused T o)
+    (z .pre .1 .0, ((as-trial (z .args .n) (p .image) (p .used) (p .len) (T .ready .placing) (k .before .before .before .before .loop .x) (T .element) (omega arith), T .room, unused T (c .before .before .before .before .before .before .before .before .if3 .taken)), (k .before .before .before .before .before .before .note-newest .ensures, T .ready .passed)))
 
-extend-may-pass-requires : (t : ℕ) → extend-lts.Need-may-pass-requires (calls t) (extend-at t) extend.Post extend-Inv-loop extend-μ-loop
-extend-may-pass-requires t c κs = let k = c .before .before .before .before .before .before .before .before .before in (start t k .pre .1 .0, (trial t k (c .before .before .before .before .before .before .before .before .if3 .taken), (k .before .before .before .before .before .before .note-newest .ensures, turn t k .ready .passed)))
-
-extend-passes-with-requires : (t : ℕ) → extend-lts.Need-passes-with-requires (calls t) (extend-at t) extend.Post extend-Inv-loop extend-μ-loop
-extend-passes-with-requires t c κs = let k = c .before .before .before .before .before .before .before .before .before .before .before .before .before in (start t k .pre .1 .0, (trial t k (c .before .before .before .before .before .before .before .before .before .before .before .before .if3 .taken), (k .before .before .before .before .before .before .note-newest .ensures, turn t k .ready .passed)))
-
-extend-place-requires : (t : ℕ) → extend-lts.Need-place-requires (calls t) (extend-at t) extend.Post extend-Inv-loop extend-μ-loop
-extend-place-requires t c κs =
-    let T = turn t (c .before .before .before .before .before .before .before .before .before .before .before .before .before .before .before .before .before) in
-    let room = T .room in
-    let orders = T .orders in
-    (T .ready .placing, (T .element, orders .1, omega arith, unused T (c .before .before .before .before .before .before .before .before .before .before .before .before .before .before .before .before .if3 .taken)))
+extend-tried-requires : (t : ℕ) → extend-lts.Need-tried-requires (calls t) (extend-at t) extend.Post extend-Inv-loop extend-μ-loop
+extend-tried-requires t c κs =
+    let k = c .before .before .before .before .before .before .before .before .before .before .before .before .before in
+    let T = turn t k in
+    (start t k .pre .1 .0, ((T .ready .placing, k .before .before .before .before .before .before .note-newest .ensures, T .ready .passed), (T .element, T .room, unused T (c .before .before .before .before .before .before .before .before .before .before .before .before .if3 .taken))))
 
 extend-extend-requires : (t : ℕ) → extend-lts.Need-extend-requires (calls t) (extend-at t) extend.Post extend-Inv-loop extend-μ-loop
 extend-extend-requires t c κs =
-    let k = c .before .before .before .before .before .before .before .before .before .before .before .before .before .before .before .before .before .before in
+    let w = c .before .before .before in
+    let k = w .before .before .before .before .before .before .before .before .before .before .before .before .before .before in
     let z = start t k in
     let T = turn t k in
-    let y = c .before .before .before .before .before .before .before .before .before .before .before .before .before .before .before .before .pay in
-    let p = paid (y .result .enough) (y .result .left) _ (y .ensures .0) (c .before .before .before .before .before .before .before .before .before .before .before .before .before .before .if4 .left) in
+    let y = w .before .before .before .before .before .before .before .before .before .before .before .before .pay in
+    let p = paid (y .result .enough) (y .result .left) _ (y .ensures .0) (w .before .before .before .before .before .before .before .before .before .before .if4 .left) in
+    let o = w .before .before .before .before .before .before .before .before .before .before .before .before .before .if3 .taken in
     let room = T .room in
-    let v = told t c in
+    let v = told t w in
     let one = v .one-more in
-    (subst (λ (j : ℕ). z .args .m - c .place .result .len < j) (z .pre .0) (omega arith), (z .pre .1 .0, onward T (c .before .before .before .before .before .before .before .before .before .before .before .before .before .before .before .before .before .if3 .taken) (y .result .left) p (c .place .result) (c .before .before .before .before .passes-with .result) v (c .before .before .before .if6 .taken) _ _ (k .before .before .before .before .before .before .note-newest .ensures)))
+    (subst (λ (j : ℕ). z .args .m - w .tried .result .partial .len < j) (z .pre .0) (omega arith), (z .pre .1 .0, onward T o (y .result .left) p (w .tried .result .partial) (w .tried .result .ok) v (c .before .before .if6 .taken) _ _ (k .before .before .before .before .before .before .note-newest .ensures)))
 
 extend-returns-3 : (t : ℕ) → extend-lts.Need-returns-3 (calls t) (extend-at t) extend.Post extend-Inv-loop extend-μ-loop
 extend-returns-3 t c =
-    let w = c .before .before in
-    let T = turn t (w .before .before .before .before .before .before .before .before .before .before .before .before .before .before .before .before .before .before) in
-    let y = w .before .before .before .before .before .before .before .before .before .before .before .before .before .before .before .before .pay in
-    let p = paid (y .result .enough) (y .result .left) _ (y .ensures .0) (w .before .before .before .before .before .before .before .before .before .before .before .before .before .before .if4 .left) in
+    let w = c .before .before .before .before .before in
+    let T = turn t (w .before .before .before .before .before .before .before .before .before .before .before .before .before .before) in
+    let y = w .before .before .before .before .before .before .before .before .before .before .before .before .pay in
+    let p = paid (y .result .enough) (y .result .left) _ (y .ensures .0) (w .before .before .before .before .before .before .before .before .before .before .if4 .left) in
     let i = c .before .extend in
-    i .ensures ∙ halt T (w .before .before .before .before .before .before .before .before .before .before .before .before .before .before .before .before .before .if3 .taken) (y .result .left) p (w .place .result) (w .before .before .before .before .passes-with .result) (told t w) (w .before .before .before .if6 .taken) (ap (λ (r : Outcome). r .stopped) (sym (i .ensures)) ∙ c .if7 .taken)
+    i .ensures ∙ halt T (w .before .before .before .before .before .before .before .before .before .before .before .before .before .if3 .taken) (y .result .left) p (w .tried .result .partial) (w .tried .result .ok) (told t w) (c .before .before .before .before .if6 .taken) (ap (λ (r : Outcome). r .stopped) (sym (i .ensures)) ∙ c .if7 .taken)
 
 extend-returns-4 : (t : ℕ) → extend-lts.Need-returns-4 (calls t) (extend-at t) extend.Post extend-Inv-loop extend-μ-loop
 extend-returns-4 t c =
-    let w = c .before .before .before in
-    let T = turn t (w .before .before .before .before .before .before .before .before .before .before .before .before .before .before .before .before .before .before) in
-    let y = w .before .before .before .before .before .before .before .before .before .before .before .before .before .before .before .before .pay in
-    let p = paid (y .result .enough) (y .result .left) _ (y .ensures .0) (w .before .before .before .before .before .before .before .before .before .before .before .before .before .before .if4 .left) in
+    let w = c .before .before .before .before .before .before in
+    let T = turn t (w .before .before .before .before .before .before .before .before .before .before .before .before .before .before) in
+    let y = w .before .before .before .before .before .before .before .before .before .before .before .before .pay in
+    let p = paid (y .result .enough) (y .result .left) _ (y .ensures .0) (w .before .before .before .before .before .before .before .before .before .before .if4 .left) in
     let i = c .before .before .extend in
-    i .ensures ∙ found T (w .before .before .before .before .before .before .before .before .before .before .before .before .before .before .before .before .before .if3 .taken) (y .result .left) p (w .place .result) (w .before .before .before .before .passes-with .result) (told t w) (w .before .before .before .if6 .taken) (ap (λ (r : Outcome). r .ok) (sym (i .ensures)) ∙ c .if8 .taken)
+    i .ensures ∙ found T (w .before .before .before .before .before .before .before .before .before .before .before .before .before .if3 .taken) (y .result .left) p (w .tried .result .partial) (w .tried .result .ok) (told t w) (c .before .before .before .before .before .if6 .taken) (ap (λ (r : Outcome). r .ok) (sym (i .ensures)) ∙ c .if8 .taken)
 
 extend-add-x : (t : ℕ) → extend-lts.Need-add-x (calls t) (extend-at t) extend.Post extend-Inv-loop extend-μ-loop
 extend-add-x t c = let n = c .before .before .before .before .before .before .before .before .before .before .before .before .before .before .before .before .before .before .before .pre .1 .0 .1 .order in let t = c .before .before .before .before .loop-test .taken in omega arith
@@ -230,13 +221,13 @@ extend-loop-again t c =
       l .inv .2,
       ⊎-elim
           (λ w.
-          let e = w .17 .ensures in
-          let v : Verdict _ _ _ _ _ (w .17 .result) (w .13 .result) = record { placing = e .0; longer = e .1 .0 .0; before = e .1 .0 .1; one-more = e .1 .0 .2; says = w .13 .ensures } in
-          let r = w .18 in
-          fail T (w .0 .taken) (w .1 .result .left) (paid (w .1 .result .enough) (w .1 .result .left) _ (w .1 .ensures .0) (w .3 .left)) (w .17 .result) (w .13 .result) v (w .14 .taken) (ap (λ (q : Outcome). q .stopped) (sym (r .ensures)) ∙ w .19 .left) (ap (λ (q : Outcome). q .ok) (sym (r .ensures)) ∙ w .20 .left)
-          ∙ rw (w .21, ap (λ (q : Outcome). q .left) (r .ensures)))
+          let e = w .13 .ensures in
+          let v : Verdict _ _ _ _ _ (w .13 .result .partial) (w .13 .result .ok) = record { placing = e .1 .0; longer = e .1 .1 .0 .0; before = e .1 .1 .0 .1; one-more = e .1 .1 .0 .2; says = e .0 } in
+          let r = w .17 in
+          fail T (w .0 .taken) (w .1 .result .left) (paid (w .1 .result .enough) (w .1 .result .left) _ (w .1 .ensures .0) (w .3 .left)) (w .13 .result .partial) (w .13 .result .ok) v (w .14 .taken) (ap (λ (q : Outcome). q .stopped) (sym (r .ensures)) ∙ w .18 .left) (ap (λ (q : Outcome). q .ok) (sym (r .ensures)) ∙ w .19 .left)
+          ∙ rw (w .20, ap (λ (q : Outcome). q .left) (r .ensures)))
           (⊎-elim
-          (λ w. refuse T (w .0 .taken) (w .1 .result .left) (paid (w .1 .result .enough) (w .1 .result .left) _ (w .1 .ensures .0) (w .3 .left)) (sym (w .13 .ensures) ∙ w .14 .left) ∙ rw (w .15))
+          (λ w. refuse T (w .0 .taken) (w .1 .result .left) (paid (w .1 .result .enough) (w .1 .result .left) _ (w .1 .ensures .0) (w .3 .left)) (sym (w .13 .ensures .0) ∙ w .14 .left) ∙ rw (w .15))
           (⊎-elim
           (λ w. refuse T (w .0 .taken) (w .1 .result .left) (paid (w .1 .result .enough) (w .1 .result .left) _ (w .1 .ensures .0) (w .3 .left)) (w .9 .ensures .1 (w .10 .left)) ∙ rw (w .11))
           (λ w. skip T (w .0 .left) ∙ rw (w .1))))
@@ -270,8 +261,7 @@ pub +extend-spec : {M : Type 1} → statement M
     (extend-no-map-requires t)
     (extend-returns-2 t)
     (extend-may-pass-requires t)
-    (extend-passes-with-requires t)
-    (extend-place-requires t)
+    (extend-tried-requires t)
     (extend-extend-requires t)
     (extend-returns-3 t)
     (extend-returns-4 t)
