@@ -21,7 +21,7 @@ use Rattle.semigroups.proofs.Sums.{sum-same, sum-add, count-element}
 use Rattle.rows.specs.declared.Row.{Row}
 use Rattle.rows.specs.InnerRows.{inRow, rowOf, has, singleRow, RowInside, Only, Shrinks, Forced}
 use Rattle.rows.proofs.Rows.{in-single, single-size, inside-single, inside-self, single-unique, shrinks-has, shrinks-none, shrinks-more, only-still}
-use Rattle.propagation.specs.InnerRows.{Narrows, KeptOrEmptied}
+use Rattle.propagation.specs.InnerRows.{Narrows}
 use Rattle.propagation.specs.InnerLone.{KeepsOrFails, Lone, NextLone, KeptOrEmptiedFrom, PropagatedBy, begun, further, KeptOrEmptiedByAll}
 use Rattle.propagation.proofs.Narrowed.{narrowed-wider, forced-kept}
 
