@@ -140,8 +140,8 @@ fn search_turned(
     search_straight(true, next, limit, source, m, &room[..size], n, map, scratch)
 }
 
-// Searches for reversed isomorphisms and returns the outcome. Small tables take a small array, because clearing the large one would take longer
-// than the search.
+// Searches for reversed isomorphisms and returns the outcome. Tables up to order 30, which have at most 900 cells, take a small array, because clearing the
+// large one would take longer than the search.
 fn search_reversed(
     next: bool,
     limit: Limit,
