@@ -199,7 +199,7 @@ fn near_fits<'a>(
 
 // Returns whether x is worth a test as the image of the next element: the constraints allow x, and the newest element and the next one fit as a pair. This
 // takes constant time. The list placed does not pass with an x that is not worth a test. It looks at one pair only, so that the compiler can put it into the
-// loops of both searches that call it.
+// loop of the search that calls it.
 pub fn may_pass<'a>(
     source: &[u8],
     m: usize,
