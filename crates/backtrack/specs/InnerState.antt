@@ -15,7 +15,7 @@ use Rattle.constraints.specs.InnerTracking.{Placing, Tracks}
 use Rattle.backtrack.specs.declared.Partial.{Partial}
 use Rattle.backtrack.specs.declared.Outcome.{Outcome}
 
--- How many trials a search without a limit makes before it takes rows.
+-- At most how many trials a search without a limit makes before it takes rows.
 abbrev pub firstTrials : ℕ
 firstTrials = 8000
 

@@ -9,7 +9,7 @@ ghost use Prim.Native.Nat.{ℕ, _+_, _-_, _≤_, _<_};
 ghost use lib.Dec.{eqb, leb};
 ghost use lib.ListN.{length, getD, take, set, replicate};
 ghost use Rattle.semigroups.specs.Lists.{member};
-ghost use Rattle.semigroups.specs.Tables.{largestOrder, Product, product, Element, Filled};
+ghost use Rattle.semigroups.specs.Tables.{largestOrder, product, Element, Filled};
 ghost use Rattle.semigroups.specs.Scratch.{scratchSize, marked};
 ghost use Rattle.semigroups.specs.Trials.{passes, work};
 ghost use Rattle.semigroups.specs.InnerTrials.{counted};
@@ -18,7 +18,7 @@ ghost use Rattle.backtrack.specs.InnerState.{prefix, Ready, bounded, exh
 use tables::limits::ORDER;
 use tables::limits::PLACES;
 
-// How many trials a search without a limit makes before it takes rows. They end nearly every easy search.
+// At most how many trials a search without a limit makes before it takes rows. They end nearly every easy search.
 pub const FIRST_TRIALS: u32 = 8000;
 
 // The map placed so far. The image of element i is image[i - 1]; used[y] is 1 where y is an image. The constraints, `forced` and `owner`, are no part of it:

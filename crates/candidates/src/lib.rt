@@ -1,5 +1,5 @@
-// Candidates and their marks in the scratch buffer. Only this crate knows where a mark stands and how many bytes the marks take. What is compared of an
-// element is packed into one number, its key, once for each element; a pair of elements then takes one comparison.
+// Candidates and their marks in the scratch buffer. Where a mark stands, and how many bytes the marks take, is known here and in `rows::write_marks` alone.
+// What is compared of an element is packed into one number, its key, once for each element; a pair of elements then takes one comparison.
 ghost use mathlib.Core.Path.{_≡_};
 ghost use Prim.Native.Nat.{_+_, _*_, _≤_, _<_};
 ghost use lib.ListN.{length, getD};

@@ -1,5 +1,5 @@
 -- One call of a search, compared with what RULES 23.2 prints of it, as constants. Assumes nothing.
-use mathlib.Core.Bool.{Bool}
+use mathlib.Core.Bool.{Bool, true, false}
 use mathlib.Core.List.{List, _++_}
 use Prim.Native.Nat.{ℕ}
 use lib.Dec.{eqb}
@@ -21,3 +21,7 @@ module _ (kind : Kind) (next : Bool) (source : List ℕ) (m : ℕ) (target : Lis
   -- Whether it says this, and whether the array is this afterwards.
   abbrev pub toldTally : ℕ → List ℕ → Tally → Tally
   toldTally said after t = counted (counted t (eqb (saidNumber (toldCall .says)) said)) (sameList (toldCall .mapBytes ++ drop m before) after)
+
+-- The first call, which finds a map and leaves it in the array, and the next one, which starts from that map.
+abbrev pub firstTwo : Kind → List ℕ → ℕ → List ℕ → ℕ → List ℕ → ℕ → List ℕ → Tally → Tally
+firstTwo kind source m target n first said second t = toldTally kind true source m target n first said second (toldTally kind false source m target n (replicate 5 0) 100 first t)

@@ -1,4 +1,5 @@
-// The limits: the largest table and one above, degrees, buffers, fields, and a larger target.
+// The limits: the largest table and one above, degrees, buffers, fields, and a larger target. The contracts of `degree`, `embedded` and `field` say what is
+// compared with what; those of the functions that call them say only how many answers agree, which a tally without a comparison would meet too.
 ghost use mathlib.Core.Path.{_≡_};
 ghost use mathlib.Core.List.{_∷_, []};
 ghost use Prim.Native.Nat.{_≤_, suc};

@@ -1,4 +1,4 @@
-// Runs the cases of RULES 23.4, which are not proved one by one, and the thirteen worked ones again, through the compiled functions of the library against
+// Runs the cases of RULES 23.4, which are run alone, and the thirteen worked ones again, through the compiled functions of the library against
 // a second search that is written separately. Each group prints how many answers agree and how many differ.
 mod limits;
 mod printed;

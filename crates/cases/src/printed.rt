@@ -1,10 +1,11 @@
 // Cases 6 to 13 with the maps that RULES 23.2 prints, as constants. The comparison with the second search cannot tell whether both are wrong alike; this
-// one can.
+// one can. The contract of `told` says what is compared with what. Those of the functions below say only how many answers agree, which a tally without a
+// comparison would meet too: that the constants are compared is read from the code and seen in the run.
 ghost use mathlib.Core.Path.{_≡_};
 ghost use Prim.Native.Nat.{_≤_};
 ghost use Rattle.kinds.specs.Answers.{kindOf};
 ghost use Rattle.judging.specs.InnerTally.{empty, agreed};
-ghost use Rattle.cases.specs.InnerPrinted.{toldTally};
+ghost use Rattle.cases.specs.InnerPrinted.{toldTally, firstTwo};
 use crate::limits::same_bytes;
 use crate::worked::MAT5;
 use crate::worked::SWAP;
@@ -48,34 +49,31 @@ fn told(
     counted(answered, same_bytes(&buffer, &after))
 }
 
+// Compares the first call, which finds `first`, and the next one, which is told `said` and leaves `second` in the map buffer. Returns the tally.
+fn first_two(
+    kind: Kind,
+    source: &[u8],
+    m: usize,
+    target: &[u8],
+    n: usize,
+    first: [u8; 5],
+    said: usize,
+    second: [u8; 5],
+    tally: Tally,
+) -> Tally
+    requires { ⌜ m ≤ 5 ⌝ }
+    ensures answer { λ r. ⌜ r ≡ firstTwo (kindOf kind) (now (source .entry)) m (now (target .entry)) n first said second tally ⌝ }
+{
+    let a = told(kind, false, source, m, target, n, [0; 5], 100, first, tally);
+    told(kind, true, source, m, target, n, first, said, second, a)
+}
+
 // Case 6: swap in two has one embedding.
 fn swap_in_two(tally: Tally) -> Tally
     ensures answer { λ r. ⌜ r ≡ agreed 4 tally ⌝ }
 {
-    let a = told(
-        Kind::Embeddings,
-        false,
-        &SWAP,
-        2,
-        &TWO,
-        4,
-        [0; 5],
-        100,
-        [2, 3, 0, 0, 0],
-        tally,
-    );
-    told(
-        Kind::Embeddings,
-        true,
-        &SWAP,
-        2,
-        &TWO,
-        4,
-        [2, 3, 0, 0, 0],
-        0,
-        [2, 3, 0, 0, 0],
-        a,
-    )
+    let map = [2, 3, 0, 0, 0];
+    first_two(Kind::Embeddings, &SWAP, 2, &TWO, 4, map, 0, map, tally)
 }
 
 // Case 7: right in two has two embeddings.
@@ -83,72 +81,37 @@ fn right_in_two(tally: Tally) -> Tally
     ensures answer { λ r. ⌜ r ≡ agreed 6 tally ⌝ }
 {
     let right = [1u8, 2, 1, 2];
-    let a = told(
+    let last = [4, 1, 0, 0, 0];
+    let a = first_two(
         Kind::Embeddings,
-        false,
         &right,
         2,
         &TWO,
         4,
-        [0; 5],
-        100,
         [1, 4, 0, 0, 0],
+        100,
+        last,
         tally,
     );
-    let b = told(
-        Kind::Embeddings,
-        true,
-        &right,
-        2,
-        &TWO,
-        4,
-        [1, 4, 0, 0, 0],
-        100,
-        [4, 1, 0, 0, 0],
-        a,
-    );
-    told(
-        Kind::Embeddings,
-        true,
-        &right,
-        2,
-        &TWO,
-        4,
-        [4, 1, 0, 0, 0],
-        0,
-        [4, 1, 0, 0, 0],
-        b,
-    )
+    told(Kind::Embeddings, true, &right, 2, &TWO, 4, last, 0, last, a)
 }
 
-// Case 9: one in two has three embeddings.
+// Case 9: the embeddings of one in two, in turn.
 fn one_in_two(tally: Tally) -> Tally
     ensures answer { λ r. ⌜ r ≡ agreed 6 tally ⌝ }
 {
     let one = [1u8];
-    let a = told(
+    let second = [2, 0, 0, 0, 0];
+    let a = first_two(
         Kind::Embeddings,
-        false,
         &one,
         1,
         &TWO,
         4,
-        [0; 5],
-        100,
         [1, 0, 0, 0, 0],
+        100,
+        second,
         tally,
-    );
-    let b = told(
-        Kind::Embeddings,
-        true,
-        &one,
-        1,
-        &TWO,
-        4,
-        [1, 0, 0, 0, 0],
-        100,
-        [2, 0, 0, 0, 0],
-        a,
     );
     told(
         Kind::Embeddings,
@@ -157,10 +120,10 @@ fn one_in_two(tally: Tally) -> Tally
         1,
         &TWO,
         4,
-        [2, 0, 0, 0, 0],
+        second,
         100,
         [4, 0, 0, 0, 0],
-        b,
+        a,
     )
 }
 
@@ -196,25 +159,12 @@ pub fn embeddings() -> Tally
     )
 }
 
-// Case 10: two has two isomorphisms onto itself.
+// Case 10: the isomorphisms of two onto itself, in turn.
 fn two_onto_two(tally: Tally) -> Tally
     ensures answer { λ r. ⌜ r ≡ agreed 4 tally ⌝ }
 {
-    let a = told(
+    first_two(
         Kind::Isomorphisms,
-        false,
-        &TWO,
-        4,
-        &TWO,
-        4,
-        [0; 5],
-        100,
-        [1, 2, 3, 4, 0],
-        tally,
-    );
-    told(
-        Kind::Isomorphisms,
-        true,
         &TWO,
         4,
         &TWO,
@@ -222,38 +172,26 @@ fn two_onto_two(tally: Tally) -> Tally
         [1, 2, 3, 4, 0],
         100,
         [4, 2, 3, 1, 0],
-        a,
+        tally,
     )
 }
 
-// Case 11: null3 has two isomorphisms onto itself; the second is also the next one after bytes that are no map.
+// Case 11: the isomorphisms of null3 onto itself, in turn; the second is also the next one after bytes that are no map.
 fn null3_onto_null3(tally: Tally) -> Tally
     ensures answer { λ r. ⌜ r ≡ agreed 6 tally ⌝ }
 {
     let null = [1u8; 9];
-    let a = told(
+    let second = [1, 3, 2, 0, 0];
+    let a = first_two(
         Kind::Isomorphisms,
-        false,
         &null,
         3,
         &null,
         3,
-        [0; 5],
-        100,
         [1, 2, 3, 0, 0],
+        100,
+        second,
         tally,
-    );
-    let b = told(
-        Kind::Isomorphisms,
-        true,
-        &null,
-        3,
-        &null,
-        3,
-        [1, 2, 3, 0, 0],
-        100,
-        [1, 3, 2, 0, 0],
-        a,
     );
     told(
         Kind::Isomorphisms,
@@ -264,8 +202,8 @@ fn null3_onto_null3(tally: Tally) -> Tally
         3,
         [1, 2, 200, 0, 0],
         100,
-        [1, 3, 2, 0, 0],
-        b,
+        second,
+        a,
     )
 }
 
@@ -273,30 +211,8 @@ fn null3_onto_null3(tally: Tally) -> Tally
 fn mat5_onto_mat5(tally: Tally) -> Tally
     ensures answer { λ r. ⌜ r ≡ agreed 4 tally ⌝ }
 {
-    let a = told(
-        Kind::Isomorphisms,
-        false,
-        &MAT5,
-        5,
-        &MAT5,
-        5,
-        [0; 5],
-        100,
-        [1, 2, 3, 4, 5],
-        tally,
-    );
-    told(
-        Kind::Isomorphisms,
-        true,
-        &MAT5,
-        5,
-        &MAT5,
-        5,
-        [1, 2, 3, 4, 5],
-        0,
-        [1, 2, 3, 4, 5],
-        a,
-    )
+    let map = [1, 2, 3, 4, 5];
+    first_two(Kind::Isomorphisms, &MAT5, 5, &MAT5, 5, map, 0, map, tally)
 }
 
 // Compares cases 10 to 12, which are about isomorphisms, and returns the tally.

@@ -1,6 +1,7 @@
 // Reads 01.csv, 02.csv and so on from the folder that it is run in, and prints which of them hold isomorphic tables, or why a file is refused. Crate
 // `classification` proves, from the bytes of the files, which file is read next and what is printed; this file only reads the files and writes the text.
 ghost use mathlib.Core.Path.{_≡_};
+ghost use mathlib.Core.Bool.{false};
 ghost use Prim.Native.Nat.{_<_};
 ghost use lib.ListN.{length};
 ghost use Rattle.io.specs.Counts.{Counts};
@@ -17,11 +18,12 @@ struct Reading {
     length: usize,
 }
 
-// Reads file k to `text`. Returns whether it could be opened and how many bytes were read; a file that is opened and can't be read counts as empty.
+// Reads file k to `text`. Returns whether it could be opened and how many bytes were read; of a file whose reading fails, the bytes read before count.
 fn read_file(k: usize, text: &mut [u8; FILE]) -> Reading
     requires room { ⌜ longestText < length (now text) ⌝ }
     ensures count { λ r. ⌜ Counts (r .length) (now (text .exit)) ⌝ }
     ensures size { λ _. ⌜ length (now (text .exit)) ≡ length (now (text .entry)) ⌝ }
+    ensures unopened { λ r. ⌜ (r .opened ≡ false → (r .length ≡ 0) × (now (text .exit) ≡ now (text .entry))) ⌝ }
 {
     let name = file_name(k);
     let fd = os::open_read(&name);

@@ -1,4 +1,5 @@
-// Every table of order 1 to 3.
+// Every table of order 1 to 3. Both sides of a comparison equal one definition, so no contract here can tell whether they are compared at all; the program
+// `cases` compares the answers that RULES 23.2 prints with constants too.
 ghost use mathlib.Core.Path.{_≡_};
 ghost use Prim.Native.Nat.{_*_, _^_, _≤_};
 ghost use Rattle.semigroups.specs.Tables.{Element, Accepted};

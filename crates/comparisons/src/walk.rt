@@ -120,7 +120,7 @@ fn step(
 }
 
 // Asks for the first map of the kind, on a map buffer that holds `before`; then for all maps later than `before` by next, until the answer is none. Returns
-// the tally, in which every call agrees.
+// the tally, in which every call agrees; as at `step`, its contract cannot tell whether they are compared.
 pub fn walk(
     isomorphisms: bool,
     source: &[u8],

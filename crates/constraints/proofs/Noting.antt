@@ -1,22 +1,58 @@
 -- The constraints as pairs are noted and an element is placed, and what they decide of the next image. Assumes nothing.
-use mathlib.Core.Path.{_≡_, sym, ap, ap₂, subst, subst₂, _∙_}
-use mathlib.Core.Bool.{Bool, true, false, _&&_, and-true, and-assoc}
+use mathlib.Core.Path.{_≡_, refl, sym, ap, ap₂, subst, subst₂, _∙_}
+use mathlib.Core.Bool.{Bool, true, false, _&&_, and-true, and-assoc, cond}
+use mathlib.Core.Logic.{_⊎_, inl, inr}
 use mathlib.Core.List.{List, [], _∷_, _++_}
 use Prim.Native.Nat.{ℕ, zero, suc, _+_, _-_, _≤_, _<_}
 use native.Mathlib.Numerals.{add-one}
 use native.Mathlib.Omega.{arith}
-use lib.ListN.{length, getD, take, length-set, replicate, length-replicate, getD-replicate}
-use lib.Seq.{length-take-le, getD-take}
+use lib.ListN.{length, getD, take, set, length-set, replicate, length-replicate, getD-replicate, List·getD-eq-default}
+use lib.Seq.{length-take-le, getD-take, getD-set-same, getD-set-other}
 use Rattle.semigroups.specs.Lists.{range, elements, at, all, member}
 use Rattle.semigroups.specs.Tables.{Product, Element}
 use Rattle.semigroups.specs.TablesLaws.{Closed}
 use Rattle.semigroups.specs.Trials.{passes}
-use Rattle.semigroups.proofs.Booleans.{clash, untrue, both, and-left, and-right}
+use Rattle.semigroups.proofs.Booleans.{clash, untrue, both, and-left, and-right, equal-or-not, at-most-or-above}
 use Rattle.semigroups.proofs.Lists.{length-snoc}
-use Rattle.constraints.specs.InnerConstraints.{permits, merge, askedAt, imageProduct, asks, agreeOn, cross, newFits, nearFits, Reads}
+use Rattle.constraints.specs.InnerConstraints.{permits, merge, askedAt, imageProduct, asks, agreeOn, cross, newFits, nearFits, Written, Reads}
 use Rattle.constraints.specs.InnerTracking.{Placing, Tracks}
 use Rattle.constraints.proofs.Placing.{newest-prefix}
 use Rattle.constraints.proofs.Constraints.{note-reads, each-more, agreeOn-more, agreeOn-forced, agreeOn-owner, settle, near-of-new}
+
+-- ---- what stands in an array of constraints
+
+merge-value : (b : Bool) (y : ℕ) → y ≤ 120 → (cond b y 255 ≤ 120) ⊎ (cond b y 255 ≡ 255)
+merge-value true y h = inl h
+merge-value false y h = inr refl
+
+written-more : (constraints : List ℕ) (place y : ℕ) → Element 120 place → Element 120 y → Written constraints → Written (askedAt constraints place y)
+written-more constraints place y hp hy W =
+    record {
+      none = getD-set-other constraints place 0 (merge (getD constraints place 0) y) 0 (λ (e : 0 ≡ place). let z : ⊥ = omega arith in z) ∙ W .none;
+      values = λ c. go c (equal-or-not c place) (at-most-or-above (length constraints) place);
+    }
+  where
+    x : ℕ
+    x = merge (getD constraints place 0) y
+
+    now : ℕ → ℕ
+    now c = getD (set constraints place x) c 0
+
+    go : (c : ℕ) → (c ≡ place) ⊎ (c ≡ place → ⊥) → (length constraints ≤ place) ⊎ (place < length constraints) → (now c ≤ 120) ⊎ (now c ≡ 255)
+    go c (inr ne) k = subst (λ (v : ℕ). (v ≤ 120) ⊎ (v ≡ 255)) (sym (getD-set-other constraints place c x 0 ne)) (W .values c)
+    go c (inl e) (inr room) =
+        subst (λ (v : ℕ). (v ≤ 120) ⊎ (v ≡ 255)) (sym (ap now e ∙ getD-set-same constraints place x 0 room)) (merge-value (permits (getD constraints place 0) y) y (hy .1))
+    go c (inl e) (inl short) = inl (let z = List·getD-eq-default (set constraints place x) 0 (let l = length-set constraints place x in let w : length (set constraints place x) ≤ c = omega arith in w) in omega arith)
+
+nothing-written : Written (replicate 121 0)
+nothing-written = record { none = refl; values = λ c. inl (zeros c (at-most-or-above 121 c)) }
+  where
+    free : List ℕ
+    free = replicate 121 0
+
+    zeros : (c : ℕ) → (121 ≤ c) ⊎ (c < 121) → getD free c 0 ≤ 120
+    zeros c (inl h) = let e = List·getD-eq-default free 0 (let l = length-replicate {A = ℕ} 121 0 in let w : length free ≤ c = omega arith in w) in omega arith
+    zeros c (inr h) = let e = getD-replicate {A = ℕ} 121 c 0 0 h in omega arith
 
 -- ---- the pairs of the newest element
 
@@ -52,6 +88,8 @@ module _ (s t : Product) (f : List ℕ) (k : ℕ) where
       record {
         long = simp length-set (W .long);
         wide = simp length-set (W .wide);
+        forced-written = written-more _ _ _ c d (written-more forced _ _ a b (W .forced-written));
+        owner-written = written-more _ _ _ d c (written-more owner _ _ b a (W .owner-written));
         required = both-noted s v k j forced (W .long) a b c d (W .required);
         reserved = both-noted v s k j owner (W .wide) b a d c (W .reserved);
       }
@@ -63,6 +101,8 @@ module _ (s t : Product) (f : List ℕ) (k : ℕ) where
       record {
         long = W .long;
         wide = W .wide;
+        forced-written = W .forced-written;
+        owner-written = W .owner-written;
         required = λ c y hc hy. W .required c y hc hy ∙ sym (and-true (agreeOn s v (suc k) c y) ∙ agreeOn-more s v k c y);
         reserved = λ c y hc hy. W .reserved c y hc hy ∙ sym (and-true (agreeOn v s (suc k) c y) ∙ agreeOn-more v s k c y);
       }
@@ -74,6 +114,8 @@ nothing-noted s t =
     record {
       long = length-replicate {A = ℕ} 121 0;
       wide = length-replicate {A = ℕ} 121 0;
+      forced-written = nothing-written;
+      owner-written = nothing-written;
       required = λ c y hc hy. ap (λ (w : ℕ). permits w y) (getD-replicate 121 c 0 0 (omega arith));
       reserved = λ c y hc hy. ap (λ (w : ℕ). permits w y) (getD-replicate 121 c 0 0 (omega arith));
     }
@@ -86,6 +128,8 @@ module _ (m : ℕ) (s t : Product) (closed : Closed m s) (f : List ℕ) (x : ℕ
       record {
         long = W .long;
         wide = W .wide;
+        forced-written = W .forced-written;
+        owner-written = W .owner-written;
         required = λ c y hc hy. W .required c y hc hy ∙ ap (λ (b : Bool). b && true) (agreeOn-forced m s t closed f x short c y);
         reserved = λ c y hc hy. W .reserved c y hc hy ∙ ap (λ (b : Bool). b && true) (agreeOn-owner m s t closed f x short c y);
       }

@@ -2,8 +2,9 @@
 -- pairs require as its image, and for each target element the source element for which they reserve it. Values are at most 120. Assumes nothing.
 use mathlib.Core.Path.{_≡_}
 use mathlib.Core.Bool.{Bool, not, _&&_, _||_, cond}
+use mathlib.Core.Logic.{_⊎_}
 use mathlib.Core.List.{List}
-use Prim.Native.Nat.{ℕ, _-_, max}
+use Prim.Native.Nat.{ℕ, _-_, _≤_, max}
 use lib.Dec.{eqb}
 use lib.ListN.{length, getD, set}
 use Rattle.semigroups.specs.Lists.{elements, at, all}
@@ -43,9 +44,14 @@ cross p k j = p j k && p k j
 unfoldable pub newFits : Product → Product → List ℕ → Bool
 newFits s t p = all (λ j. cross (fits s t p) (length p) j) (elements (length p))
 
--- The newest element of p and the one before it fit as a pair; a first element has only itself.
+-- The pair of the element of p before the newest and the newest fits; a first element has only itself.
 unfoldable pub nearFits : Product → Product → List ℕ → Bool
 nearFits s t p = fits s t p (max 1 (length p - 1)) (length p)
+
+-- What stands in an array of constraints: 0 at place 0, which stands for no element, and at each place 0, an element, or 255.
+pub record Written (constraints : List ℕ) : Type 0 where
+  pub none : getD constraints 0 0 ≡ 0
+  pub values : (c : ℕ) → (getD constraints c 0 ≤ largestOrder) ⊎ (getD constraints c 0 ≡ 255)
 
 -- For each place c and value y, the constraint at c permits y exactly if q says so.
 abbrev pub Reads : List ℕ → (ℕ → ℕ → Bool) → Type 0

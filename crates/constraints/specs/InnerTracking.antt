@@ -7,7 +7,7 @@ use lib.ListN.{length, getD, take, drop, replicate}
 use Rattle.semigroups.specs.Lists.{elements, at, all, member}
 use Rattle.semigroups.specs.Tables.{largestOrder, Product, Element}
 use Rattle.semigroups.specs.InnerSearch.{Placed}
-use Rattle.constraints.specs.InnerConstraints.{imageProduct, asks, agreeOn, cross, Reads}
+use Rattle.constraints.specs.InnerConstraints.{imageProduct, asks, agreeOn, cross, Written, Reads}
 
 -- The images of the first `len` elements, followed by zeros, and which target elements they use.
 pub record Placing (n : ℕ) (image used : List ℕ) (len : ℕ) : Type 0 where
@@ -27,9 +27,12 @@ pub record Trial (n : ℕ) (image used : List ℕ) (len x : ℕ) : Type 0 where
   pub element : Element n x
   pub uses : (y : ℕ) → y ≤ largestOrder → (y ≡ x → ⊥) → getD used y 0 ≡ cond (member y (take len image)) 1 0
 
--- The constraints hold what the pairs of the first k elements require, and what the first j of the pairs with element k + 1 require.
+-- The constraints hold what the pairs of the first k elements require, and what the first j of the pairs with element k + 1 require. This says what stands at
+-- each place: 0 permits every element, an element itself alone, and 255 none.
 pub record Tracks (s t : Product) (f : List ℕ) (k j : ℕ) (forced owner : List ℕ) : Type 0 where
   pub long : length forced ≡ 121
   pub wide : length owner ≡ 121
+  pub forced-written : Written forced
+  pub owner-written : Written owner
   pub required : Reads forced (λ c y. agreeOn s (imageProduct t f) k c y && all (λ i. cross (asks s (imageProduct t f) c y) (suc k) i) (elements j))
   pub reserved : Reads owner (λ y c. agreeOn (imageProduct t f) s k y c && all (λ i. cross (asks (imageProduct t f) s y c) (suc k) i) (elements j))

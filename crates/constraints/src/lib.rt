@@ -1,6 +1,6 @@
 // The constraints by which the backtrack search of arXiv 1603.06204, section 3, tests a placing through the products of the new element alone: forced[c] is
 // the target element that the placed pairs require as the image of source element c, and owner[y] is the source element for which they reserve target element
-// y.
+// y. Both are 0 where nothing is required, and 255, which no element has, where two values are. Place 0 stands for no element.
 ghost use mathlib.Core.Path.{_≡_};
 ghost use mathlib.Core.Bool.{true, false, _&&_};
 ghost use mathlib.Core.List.{[], _∷_, _++_};
@@ -198,8 +198,8 @@ fn near_fits<'a>(
 }
 
 // Returns whether x is worth a test as the image of the next element: the constraints allow x, and the newest element and the next one fit as a pair. This
-// takes constant time. The list placed does not pass with an x that is not worth a test. With more pairs it would be too long to stand inside the loops of the
-// two searches that call it, and would take longer.
+// takes constant time. The list placed does not pass with an x that is not worth a test. It looks at one pair only, so that the compiler can put it into the
+// loop of the search that calls it.
 pub fn may_pass<'a>(
     source: &[u8],
     m: usize,

@@ -1,9 +1,6 @@
 pub mod Leaders
 pub mod Orbits
 pub mod Counting
-pub mod Bounds
-pub mod Going
-pub mod Trying
 pub mod Totals
 pub mod Answering
 pub mod Absence

@@ -1,3 +1,4 @@
 pub mod Next
 pub mod Among
-pub mod Trials
+pub mod Alike
+pub mod Memory

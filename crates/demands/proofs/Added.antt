@@ -65,6 +65,8 @@ added-calls =
       degree-refused = positions-kept;
       copies-refused = copies-keep;
       among-refused = among-laws .refused-unchanged;
+      limited-none-keeps-map = limits-theorem .none-keeps-map;
+      among-none-keeps-map = among-laws .none-keeps-map;
     }
 
 -- ---- instances, to show that it is not empty

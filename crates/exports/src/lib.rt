@@ -396,7 +396,7 @@ pub extern "C" fn tickdrizzle_least_degree(
 // ---- name sheets
 
 // Loads the names on the sheet `text`: writes them, one after another, to the start of `names` and their lengths to the start of `lengths`. Value: how many
-// there are.
+// there are. The contract holds for every reading of the text; each text has one, and all of them say the same (`Readable`, `SameReading`).
 #[no_mangle]
 pub extern "C" fn tickdrizzle_load_names(
     text: &[u8],

@@ -1,6 +1,6 @@
 // Searches by kind between accepted tables, for callers that have asked the questions: the first map of a kind, or the next one after the bytes of the map
-// buffer, with or without a limit of trials; and the same for embeddings among given pairs. A reversed
-// isomorphism is searched for as an isomorphism onto the target with rows and columns exchanged.
+// buffer, with or without a limit of trials; and the same for embeddings among given pairs. A reversed isomorphism is searched for as an isomorphism onto the target
+// with rows and columns exchanged.
 ghost use mathlib.Core.Path.{_≡_};
 ghost use mathlib.Core.Bool.{cond};
 ghost use Prim.Native.Nat.{_*_, _≤_};
@@ -140,8 +140,8 @@ fn search_turned(
     search_straight(true, next, limit, source, m, &room[..size], n, map, scratch)
 }
 
-// Searches for reversed isomorphisms and returns the outcome. Small tables take a small array, because clearing the large one would take longer
-// than the search.
+// Searches for reversed isomorphisms and returns the outcome. Tables up to order 30, which have at most 900 cells, take a small array, because clearing the
+// large one would take longer than the search.
 fn search_reversed(
     next: bool,
     limit: Limit,

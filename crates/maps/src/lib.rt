@@ -106,7 +106,7 @@ fn examine(source: &[u8], m: usize, target: &[u8], n: usize, map: &[u8]) -> MapA
     }
 }
 
-// Returns whether m bytes are an embedding of one table in another. The cells of both tables must be elements.
+// Returns whether m bytes are an embedding of one table in another. Both tables must be filled, and the map must have m bytes.
 pub fn embeds(source: &[u8], m: usize, target: &[u8], n: usize, map: &[u8]) -> bool
     requires { ⌜ Filled m (now source) ⌝ ∗ ⌜ Filled n (now target) ⌝ ∗ ⌜ length (now map) ≡ m ⌝ }
     ensures answer { λ r. ⌜ r ≡ isEmbedding m (product m (now (source .entry))) n (product n (now (target .entry))) (now (map .entry)) ⌝ }

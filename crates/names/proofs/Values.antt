@@ -3,11 +3,11 @@
 use mathlib.Core.Path.{_≡_, ap, sym, subst, _∙_}
 use mathlib.Core.List.{List, [], _∷_, _++_, append-assoc}
 use mathlib.Core.Logic.{_⊎_, inl, inr}
-use Prim.Native.Nat.{ℕ, _+_, _≤_, _<_}
+use Prim.Native.Nat.{ℕ, suc, _+_, _-_, _≤_, _<_}
 use native.Mathlib.Numerals.{add-one}
 use native.Mathlib.Omega.{arith}
-use lib.ListN.{length, take, drop, set, length-set, length-append, take-append-drop}
-use lib.Seq.{take-all, take-at, length-take-le, take-suc-set}
+use lib.ListN.{length, take, drop, set, length-set, length-append, take-append-drop, replicate}
+use lib.Seq.{take-all, take-at, length-take-le, take-suc-set, drop-set-lt, drop-drop}
 use Rattle.semigroups.proofs.Booleans.{at-most-or-above}
 use Rattle.sheets.proofs.Numbers.{cut-length}
 use Rattle.sheets.proofs.Cursor.{Gathering, gather-first, gather-next, gather-last}
@@ -34,11 +34,17 @@ cut-more s b h = go (at-most-or-above (length s) 40)
 
 -- ---- one byte more
 
+-- Zeros still follow the bytes held.
+padded-more : (bytes : List ℕ) (size : ℕ) → drop size bytes ≡ replicate (41 - size) 0 → (b : ℕ) → size < 41 → drop (size + 1) (set bytes size b) ≡ replicate (41 - (size + 1)) 0
+padded-more bytes size padded b room =
+    drop-set-lt (size + 1) bytes size b (omega arith) ∙ sym (drop-drop 1 size bytes) ∙ ap (drop 1) padded
+    ∙ ap (λ (k : ℕ). drop 1 (replicate k 0)) (let z : 41 - size ≡ suc (41 - (size + 1)) = omega arith in z)
+
 pub holds-full : (s : List ℕ) (v : Value) (b : ℕ) → 41 ≤ v .size → HoldsValue s v → HoldsValue (s ++ b ∷ []) v
 holds-full s v b h g =
     let z = g .size in
     let e = cut-full s b (omega arith) in
-    record { bytes = g .bytes ∙ sym e; size = g .size ∙ ap length (sym e); room = g .room }
+    record { bytes = g .bytes ∙ sym e; size = g .size ∙ ap length (sym e); room = g .room; padded = g .padded }
 
 pub holds-more : (s : List ℕ) (v : Value) (b : ℕ) → v .size < 41 → HoldsValue s v → HoldsValue (s ++ b ∷ []) (record { bytes = set (v .bytes) (v .size) b; size = v .size + 1; end = v .end })
 holds-more s v b h g =
@@ -50,10 +56,11 @@ holds-more s v b h g =
       bytes = ap (λ (k : ℕ). take k (set (v .bytes) (v .size) b)) (add-one (v .size)) ∙ take-suc-set (v .bytes) (v .size) b (omega arith) ∙ ap (λ (l : List ℕ). l ++ b ∷ []) (g .bytes) ∙ sym e;
       size = let y : v .size + 1 ≡ length (take 41 s ++ b ∷ []) = omega arith in y ∙ ap length (sym e);
       room = length-set (v .bytes) (v .size) b ∙ r;
+      padded = padded-more (v .bytes) (v .size) (g .padded) b h;
     }
 
 pub holds-ended : (s : List ℕ) (v : Value) (e : ℕ) → HoldsValue s v → HoldsValue s (record { bytes = v .bytes; size = v .size; end = e })
-holds-ended s v e g = record { bytes = g .bytes; size = g .size; room = g .room }
+holds-ended s v e g = record { bytes = g .bytes; size = g .size; room = g .room; padded = g .padded }
 
 -- No value has more than 41 bytes.
 pub too-many : (s : List ℕ) (v : Value) → HoldsValue s v → 41 < v .size → ⊥

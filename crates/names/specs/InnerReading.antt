@@ -2,8 +2,8 @@
 use mathlib.Core.Path.{_≡_}
 use mathlib.Core.List.{List, flatten}
 use mathlib.Core.Option.{none, some}
-use Prim.Native.Nat.{ℕ, _≤_}
-use lib.ListN.{length, take}
+use Prim.Native.Nat.{ℕ, _-_, _≤_}
+use lib.ListN.{length, take, drop, replicate}
 use Rattle.semigroups.specs.Tables.{largestOrder}
 use Rattle.semigroups.specs.Questions.{firstNo}
 use Rattle.tables.specs.Answers.{noRefusal}
@@ -11,18 +11,18 @@ use Rattle.sheets.specs.Grammar.{Row}
 use Rattle.sheets.specs.Readings.{rowsNames}
 use Rattle.sheets.specs.Names.{namesText, namesAt}
 use Rattle.sheets.specs.Questions.{rowsQuestions, namesQuestions}
-use Rattle.sheets.specs.InnerAutomaton as automaton
 use Rattle.names.specs.declared.Value.{Value}
 use Rattle.names.specs.declared.Judged.{Judged}
 use Rattle.names.specs.declared.Judged.the-variants.{Passed, Failed}
 
 -- ---- a field
 
--- A value holds the bytes s, or the first 41 of them.
+-- A value holds the bytes s, or the first 41 of them, and then zeros.
 pub record HoldsValue (s : List ℕ) (v : Value) : Type 0 where
   pub bytes : take (v .size) (v .bytes) ≡ take 41 s
   pub size : v .size ≡ length (take 41 s)
   pub room : length (v .bytes) ≡ 41
+  pub padded : drop (v .size) (v .bytes) ≡ replicate (41 - v .size) 0
 
 -- ---- the records of a sheet, the names in memory
 

@@ -2,8 +2,9 @@
 // in one buffer, and their lengths, a byte each, in another. `load` asks questions 40, 42, 41 and 27 of a text, `save` asks 42, 41 and 28; a refusal changes
 // no byte. The definitions that the contracts cite, and the proof that loading and saving undo each other, are in the crate `sheets`.
 ghost use mathlib.Core.Path.{_≡_};
+ghost use mathlib.Core.Bool.{false};
 ghost use mathlib.Core.List.{List, [], _∷_, _++_, map, flatten};
-ghost use Prim.Native.Nat.{ℕ, _+_, _≤_};
+ghost use Prim.Native.Nat.{ℕ, _+_, _≤_, _<_};
 ghost use lib.ListN.{length, drop};
 ghost use lib.Seq.{sets};
 ghost use Rattle.semigroups.specs.Tables.{largestOrder};
@@ -70,6 +71,7 @@ impl Value {
     // Returns whether the value is the number k.
     fn is_number(self, k: usize) -> bool
         ensures answer { λ r. ⌜ ((s : List ℕ) → HoldsValue s self → r ≡ isNumber k s) ⌝ }
+        ensures long { λ r. ⌜ (41 < self .size → r ≡ false) ⌝ }
     {
         let bytes = self.bytes;
         let size = self.size;
@@ -82,6 +84,7 @@ impl Value {
     // Returns whether the value is a name.
     fn is_name(self) -> bool
         ensures answer { λ r. ⌜ ((s : List ℕ) → HoldsValue s self → r ≡ isName s) ⌝ }
+        ensures long { λ r. ⌜ (41 < self .size → r ≡ false) ⌝ }
     {
         let bytes = self.bytes;
         let size = self.size;

@@ -1,9 +1,10 @@
 -- What the contracts of the search with rows say of its state, a partial map with rows. Assumes nothing.
 use mathlib.Core.Path.{_≡_}
-use mathlib.Core.Bool.{Bool, true, _&&_, cond}
+use mathlib.Core.Bool.{Bool, true, false, _&&_, cond}
+use mathlib.Core.Logic.{_⊎_}
 use mathlib.Core.Option.{Option}
 use mathlib.Core.List.{List}
-use Prim.Native.Nat.{ℕ, _-_, _≤_, _<_}
+use Prim.Native.Nat.{ℕ, _+_, _-_, _≤_, _<_}
 use lib.Dec.{leb}
 use lib.ListN.{length, take, drop, replicate}
 use Rattle.semigroups.specs.Lists.{at}
@@ -13,9 +14,10 @@ use Rattle.semigroups.specs.InnerMaps.{Embedding, Among}
 use Rattle.semigroups.specs.Trials.{passes}
 use Rattle.semigroups.specs.InnerSearch.{Placed}
 use Rattle.backtrack.specs.InnerState.{bounded}
-use Rattle.rows.specs.InnerRows.{has, Only}
-use Rattle.propagation.specs.InnerRows.{Begins, Images}
-use Rattle.twins.specs.InnerTwins.{rises, earliestRising}
+use Rattle.rows.specs.InnerRows.{has, masked, singleRow, Only, Shrinks}
+use Rattle.rows.specs.InnerRoom.{roomy}
+use Rattle.propagation.specs.InnerRows.{Begins, Images, MultipliedBefore, Narrows, KeptOrEmptied, NarrowedInTurn}
+use Rattle.twins.specs.InnerTwins.{rises, Lifted, earliestRising}
 use Rattle.narrowing.specs.declared.Partial.{Partial}
 
 -- The list placed so far.
@@ -26,7 +28,7 @@ placedList p = take (p .len) (p .image)
 abbrev pub rowsIn : Partial → ℕ → ℕ → Bool
 rowsIn p = has (p .rows)
 
--- Each of the first m rows has exactly those of its elements that are at most n and pass; the rows above m are as they were.
+-- Of the elements 1 to 120, each of the first m rows has exactly those of its own that are at most n and pass; the rows above m have theirs.
 abbrev pub KeepsExactly : ℕ → ℕ → (ℕ → ℕ → Bool) → (ℕ → ℕ → Bool) → (ℕ → ℕ → Bool) → Type 0
 KeepsExactly m n p old new = (c y : ℕ) → Element 120 c → Element 120 y → new c y ≡ (old c y && cond (leb c m) (leb y n && p c y) true)
 
@@ -50,6 +52,31 @@ pub record PlacedImages (n : ℕ) (image : List ℕ) (len : ℕ) : Type 0 where
 pub record Settled (s t : Product) (image : List ℕ) (len paired : ℕ) (rows : List ℕ) : Type 0 where
   pub own : (i : ℕ) → Element len i → Only rows i (at image i)
   pub products : (i j : ℕ) → Element paired i → Element paired j → Only rows (s i j) (t (at image i) (at image j))
+
+-- What `ok` says of the rows that are left once x is placed for l and they are narrowed. It is set only if what is left passes `narrowed` over the old rows, and
+-- each of the first m rows has one of n elements and room for the rows inside it. It is unset only if `narrowed` leaves none for some source element, or some
+-- row has no room.
+pub record KeptWithRoom (m : ℕ) (s : Product) (n : ℕ) (t : Product) (l x : ℕ) (old : ℕ → ℕ → Bool) (p : Partial) : Type 0 where
+  pub narrows : p .ok ≡ true → Narrows m s n t l x old (rowsIn p)
+  pub kept : p .ok ≡ true → (c : ℕ) → Element m c → (y : ℕ) × Element n y × (rowsIn p c y ≡ true)
+  pub room : p .ok ≡ true → roomy (p .rows) m ≡ true
+  pub failed : p .ok ≡ false → KeptOrEmptied m s n t l x false (rowsIn p) ⊎ (roomy (p .rows) m ≡ false)
+
+-- The rows and `ok` after the test of element l, from these rows: those of its products with the elements placed keep at most the products of the images, then
+-- the rows are narrowed in turn. `ok` is set if none of them would be empty and each has room for the rows inside it.
+pub record Tested (m : ℕ) (s : Product) (n : ℕ) (t : Product) (image : List ℕ) (l : ℕ) (rows : List ℕ) (p : Partial) : Type 0 where
+  pub mid : List ℕ
+  pub kept : Bool
+  pub multiplied : MultipliedBefore s t image l rows (l + 1) mid
+  pub narrowed : NarrowedInTurn m s n t l (at image l) mid kept (p .rows)
+  pub verdict : p .ok ≡ (kept && roomy (p .rows) m)
+
+-- The rows and `ok` after x is placed for l, in rows where the later elements that the relation leads to from l were raised above x, and tested.
+pub record TestedRaised (m : ℕ) (s : Product) (n : ℕ) (t : Product) (relation : ℕ → ℕ → Bool) (image : List ℕ) (l x : ℕ) (rows : List ℕ) (p : Partial) : Type 0 where
+  pub raised : List ℕ
+  pub lifted : Lifted m relation l x (has rows) (has raised)
+  pub shrinks : Shrinks rows raised
+  pub tested : Tested m s n t image l (masked raised l (singleRow x)) p
 
 -- What holds whenever the search goes on from a partial map. The images placed rise along the relation, and the rows of the elements that it leads to from a
 -- placed one are above the image of that one.

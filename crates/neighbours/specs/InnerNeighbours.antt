@@ -22,11 +22,11 @@ pub record Neighbours (n : ℕ) (s : Product) (c : ℕ) (found : List ℕ) : Typ
   pub long : length found ≡ 64
   pub each : (k : ℕ) → k < 64 → getD found k 0 ≡ neighbours n s c k
 
--- Whether no count is greater than the other for the same pattern.
+-- Whether for each pattern the count in `few` is at most the one in `many`.
 abbrev pub noMore : List ℕ → List ℕ → Bool
 noMore few many = all (λ k. leb (at few k) (at many k)) (elements 64)
 
--- Whether y has at least so many neighbours of each pattern.
+-- Whether y has at least as many neighbours of each pattern as `few` says.
 unfoldable pub enough : ℕ → Product → List ℕ → ℕ → Bool
 enough n t few y = all (λ k. leb (at few k) (neighbours n t y (k - 1))) (elements 64)
 
@@ -34,6 +34,7 @@ enough n t few y = all (λ k. leb (at few k) (neighbours n t y (k - 1))) (elemen
 unfoldable pub hasAsMany : ℕ → Product → ℕ → Product → ℕ → ℕ → Bool
 hasAsMany m s n t c y = all (λ k. leb (neighbours m s c (k - 1)) (neighbours n t y (k - 1))) (elements 64)
 
--- Each of the first m rows keeps, of its elements, those of n that have at least as many neighbours; the rows after these are as they were.
+-- Of the elements 1 to 120, each of the first m rows keeps those of its own that are at most n and have at least as many neighbours of each pattern as the
+-- element whose row it is; the rows after these keep theirs.
 abbrev pub KeptByNeighbours : ℕ → Product → ℕ → Product → (ℕ → ℕ → Bool) → (ℕ → ℕ → Bool) → Type 0
 KeptByNeighbours m s n t old new = (c y : ℕ) → Element 120 c → Element 120 y → new c y ≡ (old c y && cond (leb c m) (leb y n && hasAsMany m s n t c y) true)

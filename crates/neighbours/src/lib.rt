@@ -28,7 +28,7 @@ fn neighbours(cells: &[u8], n: usize, c: usize) -> [u8; 64]
     found
 }
 
-// Returns whether no count is greater than the other for the same pattern.
+// Returns whether for each pattern the count in `few` is at most the one in `many`.
 fn no_more<'a>(few: &'a [u8; 64], many: &'a [u8; 64]) -> bool
     ensures answer { λ r. ⌜ r ≡ noMore (now (few .entry)) (now (many .entry)) ⌝ }
 {
@@ -42,7 +42,7 @@ fn no_more<'a>(few: &'a [u8; 64], many: &'a [u8; 64]) -> bool
     true
 }
 
-// Returns whether y is in the row and has at least so many neighbours of each pattern.
+// Returns whether y is in the row and has at least as many neighbours of each pattern as `few` says.
 fn has_enough(target: &[u8], n: usize, few: &[u8; 64], row: Row, y: usize) -> bool
     requires { ⌜ Filled n (now target) × Element n y ⌝ }
     ensures answer { λ r. ⌜ r ≡ (inRow row y && enough n (product n (now (target .entry))) (now (few .entry)) y) ⌝ }
@@ -54,7 +54,7 @@ fn has_enough(target: &[u8], n: usize, few: &[u8; 64], row: Row, y: usize) -> bo
     no_more(few, &many)
 }
 
-// Returns the word of those `count` elements from `from` on that are in the row and have at least so many neighbours of each pattern.
+// Returns the word of those `count` elements from `from` on that are in the row and have at least as many neighbours of each pattern as `few` says.
 fn enough_word(target: &[u8], n: usize, few: &[u8; 64], row: Row, from: usize, count: usize) -> u64
     requires { ⌜ Filled n (now target) ⌝ }
     requires { ⌜ (1 ≤ from) × (from ≤ 61) × (count ≤ 60) × (1 ≤ count → from + count ≤ n + 1) ⌝ }
@@ -71,7 +71,7 @@ fn enough_word(target: &[u8], n: usize, few: &[u8; 64], row: Row, from: usize, c
     w
 }
 
-// Returns the row with only those of n elements that have at least so many neighbours of each pattern.
+// Returns the row with only those of n elements that have at least as many neighbours of each pattern as `few` says.
 fn enough_row(target: &[u8], n: usize, few: &[u8; 64], row: Row) -> Row
     requires { ⌜ Filled n (now target) ⌝ }
     ensures answer { λ r. ⌜ r ≡ packedRow n (λ y. inRow row y && enough n (product n (now (target .entry))) (now (few .entry)) y) ⌝ }
@@ -83,7 +83,8 @@ fn enough_row(target: &[u8], n: usize, few: &[u8; 64], row: Row) -> Row
     }
 }
 
-// Takes out of each of the first m rows the elements that have fewer neighbours of some pattern than the element whose row it is. No embedding is lost.
+// Takes out of each of the first m rows the elements above n, and those that have fewer neighbours of some pattern than the element whose row it is. No embedding
+// is lost.
 pub fn keep_neighbours(source: &[u8], m: usize, target: &[u8], n: usize, rows: &mut [u64; WORDS])
     requires { ⌜ Filled m (now source) × Filled n (now target) ⌝ }
     ensures kept { λ _. ⌜ KeptByNeighbours m (product m (now (source .entry))) n (product n (now (target .entry))) (has (now (rows .entry))) (has (now (rows .exit))) ⌝ }

@@ -1,10 +1,10 @@
 -- Narrowing by rows that hold one element alone: no embedding among the rows is lost, each row is used once, and what is left at the end is narrowed by each
 -- of them. Assumes nothing.
 use mathlib.Core.Path.{_≡_, refl, sym, ap, ap₂, _∙_, subst}
-use mathlib.Core.Bool.{Bool, true, false, cond}
+use mathlib.Core.Bool.{Bool, true, false, false≢true, cond}
 use mathlib.Core.Logic.{_⊎_, inl, inr}
 use mathlib.Core.List.{List}
-use Prim.Native.Nat.{ℕ, _+_, _-_, _≤_}
+use Prim.Native.Nat.{ℕ, _+_, _-_, _≤_, _<_}
 use native.Mathlib.Omega.{arith}
 use borrow.Author.Tests.{eqb-true, eq-eqb, ne-eqb}
 use lib.Count.{ones}
@@ -15,14 +15,14 @@ use Rattle.semigroups.specs.Lists.{elements, at, count}
 use Rattle.semigroups.specs.Tables.{Product, Element}
 use Rattle.semigroups.specs.TablesLaws.{Closed}
 use Rattle.semigroups.specs.InnerMaps.{Embedding, Among}
-use Rattle.semigroups.proofs.Booleans.{equal-or-not}
+use Rattle.semigroups.proofs.Booleans.{equal-or-not, at-most-or-above}
 use Rattle.semigroups.proofs.Lists.{mem-elements}
 use Rattle.semigroups.proofs.Sums.{sum-same, sum-add, count-element}
 use Rattle.rows.specs.declared.Row.{Row}
 use Rattle.rows.specs.InnerRows.{inRow, rowOf, has, singleRow, RowInside, Only, Shrinks, Forced}
 use Rattle.rows.proofs.Rows.{in-single, single-size, inside-single, inside-self, single-unique, shrinks-has, shrinks-none, shrinks-more, only-still}
 use Rattle.propagation.specs.InnerRows.{Narrows}
-use Rattle.propagation.specs.InnerLone.{KeepsOrFails, Lone, NextLone}
+use Rattle.propagation.specs.InnerLone.{KeepsOrFails, Lone, NextLone, KeptOrEmptiedFrom, PropagatedBy, begun, further, KeptOrEmptiedByAll}
 use Rattle.propagation.proofs.Narrowed.{narrowed-wider, forced-kept}
 
 -- ---- an embedding among the rows
@@ -87,12 +87,27 @@ module _ (m : ℕ) (s : Product) (n : ℕ) (t : Product) (rows₀ : List ℕ) wh
     pub only : Only rows c image
     pub narrows : Element n image → Narrows m s n t c image (has rows₀) (has rows)
 
+  -- Some row held one of n elements alone.
+  pub record SomeLone : Type 0 where
+    pub place : ℕ
+    pub image : ℕ
+    pub within : Element m place
+    pub element : Element n image
+    pub row : rowOf rows₀ place ≡ singleRow image
+
+  -- What narrowing by the rows that were used did: nothing, since none of them held one of n elements alone; or some did, and each row keeps an element.
+  pub data Effect (rows used : List ℕ) : Type 0 where
+    untouched : rows ≡ rows₀ → ((c x : ℕ) → Element m c → (at used c ≡ 0 → ⊥) → Element n x → rowOf rows₀ c ≡ singleRow x → ⊥) → Effect rows used
+    all-kept : SomeLone → ((c : ℕ) → Element m c → (y : ℕ) × Element n y × (has rows c y ≡ true)) → Effect rows used
+
   -- What holds while rows are used, where l is the next to be used, or 0.
   pub record Propagating (rows used : List ℕ) (l : ℕ) : Type 0 where
     pub long : length used ≡ 120
     pub keeps : (f : List ℕ) → Embedding m s n t f → Among m (has rows₀) f → Among m (has rows) f
     pub shrinks : Shrinks rows₀ rows
     pub done : (c : ℕ) → Element m c → (at used c ≡ 0 → ⊥) → Used rows c
+    pub effect : Effect rows used
+    pub steps : PropagatedBy m s n t rows₀ used rows
     pub next : NextLone rows used m l
 
 module _ (m : ℕ) (s : Product) (n : ℕ) (t : Product) (closed : Closed m s) (lm : m ≤ 120) where
@@ -133,6 +148,8 @@ module _ (m : ℕ) (s : Product) (n : ℕ) (t : Product) (closed : Closed m s) (
           keeps = λ f F h. h;
           shrinks = shrinks-none rows₀;
           done = λ c hc ne. absurd (ne (getD-replicate {A = ℕ} 120 (c - 1) 0 0 (omega arith)));
+          effect = untouched refl (λ c x hc ne hx e. ne (getD-replicate {A = ℕ} 120 (c - 1) 0 0 (omega arith)));
+          steps = begun;
           next = next;
         }
 
@@ -144,15 +161,70 @@ module _ (m : ℕ) (s : Product) (n : ℕ) (t : Product) (closed : Closed m s) (
         pub fewer : unused m used ≡ unused m (set used (l - 1) 1) + 1
         fewer = let h = next-element in let e = P .long in one-fewer used l 1 (h .0) (omega arith) (omega arith) m h (P .next .waits (h .0) .0)
 
+        -- Row l holds one of n elements alone, or it does not.
+        held : ((x : ℕ) × Element n x × (rowOf rows l ≡ singleRow x)) ⊎ ((x : ℕ) → Element n x → rowOf rows l ≡ singleRow x → ⊥)
+        held = go (at-most-or-above (w .image) n)
+          where
+            w : Lone rows l
+            w = P .next .waits (next-element .0) .1
+
+            go : (w .image ≤ n) ⊎ (n < w .image) → ((x : ℕ) × Element n x × (rowOf rows l ≡ singleRow x)) ⊎ ((x : ℕ) → Element n x → rowOf rows l ≡ singleRow x → ⊥)
+            go (inl h) = inl (w .image, (w .element .0, h), w .row)
+            go (inr h) = inr (λ x hx e. let within = w .element in let same : w .image ≡ x = single-unique (w .image) x (w .element) (omega arith) (sym (w .row) ∙ e) in omega arith)
+
+        some-lone : (x : ℕ) → Element n x → rowOf rows l ≡ singleRow x → Effect m s n t rows₀ rows used → SomeLone m s n t rows₀
+        some-lone x hx e (untouched same none) = record { place = l; image = x; within = next-element; element = hx; row = ap (λ (u : List ℕ). rowOf u l) (sym same) ∙ e }
+        some-lone x hx e (all-kept some each) = some
+
+        effect-more : (newRows : List ℕ) → KeptOrEmptiedFrom m s n t l rows true newRows → Effect m s n t rows₀ newRows (set used (l - 1) 1)
+        effect-more newRows told = go held
+          where
+            go : ((x : ℕ) × Element n x × (rowOf rows l ≡ singleRow x)) ⊎ ((x : ℕ) → Element n x → rowOf rows l ≡ singleRow x → ⊥) → Effect m s n t rows₀ newRows (set used (l - 1) 1)
+            go (inl h) = all-kept (some-lone (h .0) (h .1) (h .2) (P .effect)) (told .alone (h .0) (h .1) (h .2) .kept refl)
+            go (inr none) = still (P .effect)
+              where
+                same : newRows ≡ rows
+                same = told .otherwise none .1
+
+                still : Effect m s n t rows₀ rows used → Effect m s n t rows₀ newRows (set used (l - 1) 1)
+                still (all-kept some each) = all-kept some (subst (λ (u : List ℕ). (c : ℕ) → Element m c → (y : ℕ) × Element n y × (has u c y ≡ true)) (sym same) each)
+                still (untouched q before) = untouched (same ∙ q) (λ c x hc ne hx e. each c x hc ne hx e (equal-or-not c l))
+                  where
+                    each : (c x : ℕ) → Element m c → (at (set used (l - 1) 1) c ≡ 0 → ⊥) → Element n x → rowOf rows₀ c ≡ singleRow x → (c ≡ l) ⊎ (c ≡ l → ⊥) → ⊥
+                    each c x hc ne hx e (inl p) = none x hx (ap₂ rowOf q (sym p) ∙ e)
+                    each c x hc ne hx e (inr apart) =
+                        let h = next-element in
+                        let long = P .long in
+                        before c x hc (λ z. ne (marked-other used l 1 (h .0) (omega arith) (omega arith) c (hc .0) apart ∙ z)) hx e
+
+        -- Narrowing by row l would have left some row without an element.
+        pub told-no : (newRows : List ℕ) → Shrinks rows newRows → KeptOrEmptiedFrom m s n t l rows false newRows → KeptOrEmptiedByAll m s n t rows₀ false newRows
+        told-no newRows less told = go held
+          where
+            go : ((x : ℕ) × Element n x × (rowOf rows l ≡ singleRow x)) ⊎ ((x : ℕ) → Element n x → rowOf rows l ≡ singleRow x → ⊥) → KeptOrEmptiedByAll m s n t rows₀ false newRows
+            go (inr none) = absurd (false≢true (told .otherwise none .0))
+            go (inl h) =
+                let hl = next-element in
+                let some = some-lone (h .0) (h .1) (h .2) (P .effect) in
+                record {
+                  kept = λ e. absurd (false≢true e);
+                  emptied = λ _. (l, h .0, hl, h .1, only-still rows newRows less l (h .0) (omega arith) (subst (RowInside (rowOf rows l)) (h .2) (inside-self (rowOf rows l))), told .alone (h .0) (h .1) (h .2));
+                  otherwise = λ none. absurd (none (some .place) (some .image) (some .within) (some .element) (some .row));
+                  all = λ e. absurd (false≢true e);
+                  until = λ _. (used, rows, l, next-element, P .steps, P .next, told);
+                }
+
         pub propagating-more : (newRows : List ℕ) (then : ℕ) → KeepsOrFails m s n t (has rows) true (has newRows) → Shrinks rows newRows
-            → ((x : ℕ) → Element n x → rowOf rows l ≡ singleRow x → Narrows m s n t l x (has rows) (has newRows)) → NextLone newRows (set used (l - 1) 1) m then
-            → Propagating m s n t rows₀ newRows (set used (l - 1) 1) then
-        propagating-more newRows then kept less N next =
+            → ((x : ℕ) → Element n x → rowOf rows l ≡ singleRow x → Narrows m s n t l x (has rows) (has newRows)) → KeptOrEmptiedFrom m s n t l rows true newRows
+            → NextLone newRows (set used (l - 1) 1) m then → Propagating m s n t rows₀ newRows (set used (l - 1) 1) then
+        propagating-more newRows then kept less N told next =
             record {
               long = length-set used (l - 1) 1 ∙ P .long;
               keeps = λ f F h. kept f F (P .keeps f F h) .1;
               shrinks = shrinks-more rows newRows rows₀ (P .shrinks) less;
               done = λ c hc ne. go c hc ne (equal-or-not c l);
+              effect = effect-more newRows told;
+              steps = further used rows newRows l (P .steps) (next-element .0) (P .next) told;
               next = next;
             }
           where
@@ -179,3 +251,32 @@ module _ (m : ℕ) (s : Product) (n : ℕ) (t : Product) (closed : Closed m s) (
               let size : ones (rowOf rows c .lo) + ones (rowOf rows c .hi) ≡ 1 = ap (λ (r : Row). ones (r .lo) + ones (r .hi)) e ∙ single-size x inside in
               let same : u .image ≡ x = single-unique (u .image) x (u .element) inside (sym (inside-single (u .image) (u .element) (rowOf rows c) (u .only) (omega arith)) ∙ e) in
               subst (λ (v : ℕ). Narrows m s n t c v (has rows₀) (has rows)) same (u .narrows (subst (Element n) (sym same) hx))
+
+      -- No row is left to be used: each row keeps an element, if some row held one of n elements alone.
+      pub told-yes : l ≡ 0 → n ≤ 120 → KeptOrEmptiedByAll m s n t rows₀ true rows
+      told-yes none ln = go (P .effect)
+        where
+          used-all : (u : List ℕ) × PropagatedBy m s n t rows₀ u rows × NextLone rows u m 0
+          used-all = (used, P .steps, subst (NextLone rows used m) none (P .next))
+
+          go : Effect m s n t rows₀ rows used → KeptOrEmptiedByAll m s n t rows₀ true rows
+          go (all-kept some each) =
+              record {
+                kept = λ _ c x hc hx e. each;
+                emptied = λ e. absurd (false≢true (sym e));
+                otherwise = λ never. absurd (never (some .place) (some .image) (some .within) (some .element) (some .row));
+                all = λ _. used-all;
+                until = λ e. absurd (false≢true (sym e));
+              }
+          go (untouched same before) =
+              record {
+                kept = λ _ c x hc hx e. absurd (alone c x hc hx e (equal-or-not (at used c) 0));
+                emptied = λ e. absurd (false≢true (sym e));
+                otherwise = λ _. (refl, same);
+                all = λ _. used-all;
+                until = λ e. absurd (false≢true (sym e));
+              }
+            where
+              alone : (c x : ℕ) → Element m c → Element n x → rowOf rows₀ c ≡ singleRow x → (at used c ≡ 0) ⊎ (at used c ≡ 0 → ⊥) → ⊥
+              alone c x hc hx e (inl z) = P .next .before c hc (λ h. absurd (let w : ⊥ = omega arith in w)) z (record { image = x; element = omega arith; row = ap (λ (u : List ℕ). rowOf u c) same ∙ e })
+              alone c x hc hx e (inr ne) = before c x hc ne hx e

@@ -2,11 +2,13 @@
 use mathlib.Core.Path.{_≡_}
 use mathlib.Core.Bool.{Bool, true, false}
 use mathlib.Core.List.{List}
-use Prim.Native.Nat.{ℕ, _+_, _≤_, _<_}
+use Prim.Native.Nat.{ℕ, _+_, _-_, _≤_, _<_}
+use lib.ListN.{set, replicate}
 use Rattle.semigroups.specs.Lists.{at}
 use Rattle.semigroups.specs.Tables.{Product, Element}
 use Rattle.semigroups.specs.InnerMaps.{Embedding, Among}
-use Rattle.rows.specs.InnerRows.{rowOf, masked, singleRow}
+use Rattle.rows.specs.InnerRows.{rowOf, has, masked, singleRow, Only}
+use Rattle.propagation.specs.InnerRows.{KeptOrEmptied, NarrowedInTurn}
 
 -- The new rows lose no embedding that sends l to x and is among the old rows.
 abbrev pub KeepsSending : ℕ → Product → ℕ → Product → ℕ → ℕ → (ℕ → ℕ → Bool) → (ℕ → ℕ → Bool) → Type 0
@@ -37,6 +39,13 @@ pub data ForcedBefore (s : Product) (n : ℕ) (t : Product) (l x : ℕ) (rows : 
   begun : ForcedBefore s n t l x rows 1 rows
   further : (c : ℕ) (mid newRows : List ℕ) → ForcedBefore s n t l x rows c mid → ForcedWith s n t l x c mid newRows → ForcedBefore s n t l x rows (c + 1) newRows
 
+-- What the answer of narrowing by row l says of the rows that it leaves. If the row holds one of n elements alone, it is what `KeptOrEmptied` says of placing
+-- that element for l, and the rows are narrowed in turn, once the products are forced; otherwise the answer is "yes" and no row changes.
+pub record KeptOrEmptiedFrom (m : ℕ) (s : Product) (n : ℕ) (t : Product) (l : ℕ) (rows : List ℕ) (ok : Bool) (newRows : List ℕ) : Type 0 where
+  pub alone : (x : ℕ) → Element n x → rowOf rows l ≡ singleRow x → KeptOrEmptied m s n t l x ok (has newRows)
+  pub in-turn : (x : ℕ) → Element n x → rowOf rows l ≡ singleRow x → (mid : List ℕ) × ForcedBefore s n t l x rows (m + 1) mid × NarrowedInTurn m s n t l x mid ok newRows
+  pub otherwise : ((x : ℕ) → Element n x → rowOf rows l ≡ singleRow x → ⊥) → (ok ≡ true) × (newRows ≡ rows)
+
 -- The answer is whether row c holds one element alone and its mark of use is 0.
 pub record Waits (rows used : List ℕ) (c : ℕ) (r : Bool) : Type 0 where
   pub unused : r ≡ true → at used c ≡ 0
@@ -48,3 +57,20 @@ pub record NextLone (rows used : List ℕ) (m r : ℕ) : Type 0 where
   pub most : r ≤ m
   pub waits : 1 ≤ r → (at used r ≡ 0) × Lone rows r
   pub before : (c : ℕ) → Element m c → (1 ≤ r → c < r) → at used c ≡ 0 → Lone rows c → ⊥
+
+-- The rows after narrowing by rows that hold one element alone, each of them the first that was not used then; `used` marks those that were used.
+pub data PropagatedBy (m : ℕ) (s : Product) (n : ℕ) (t : Product) (rows : List ℕ) : List ℕ → List ℕ → Type 0 where
+  begun : PropagatedBy m s n t rows (replicate 120 0) rows
+  further : (used mid newRows : List ℕ) (l : ℕ) → PropagatedBy m s n t rows used mid → 1 ≤ l → NextLone mid used m l → KeptOrEmptiedFrom m s n t l mid true newRows
+      → PropagatedBy m s n t rows (set used (l - 1) 1) newRows
+
+-- What the answer of narrowing by each row that holds one element alone says of the rows that it leaves. Where some row held one of n elements alone, it is
+-- "yes" only if each of the first m rows has one of n elements. It is "no" only if some row has at most one element, and placing that leaves none for some
+-- source element. Where no row held one of n elements alone, the answer is "yes" and no row changes. The rows are narrowed by the rows that hold one element alone
+-- in turn, with "yes" until each was used, with "no" until one would leave a row without an element.
+pub record KeptOrEmptiedByAll (m : ℕ) (s : Product) (n : ℕ) (t : Product) (rows : List ℕ) (ok : Bool) (newRows : List ℕ) : Type 0 where
+  pub kept : ok ≡ true → (l x : ℕ) → Element m l → Element n x → rowOf rows l ≡ singleRow x → (c : ℕ) → Element m c → (y : ℕ) × Element n y × (has newRows c y ≡ true)
+  pub emptied : ok ≡ false → (l : ℕ) × (x : ℕ) × Element m l × Element n x × Only newRows l x × KeptOrEmptied m s n t l x false (has newRows)
+  pub otherwise : ((l x : ℕ) → Element m l → Element n x → rowOf rows l ≡ singleRow x → ⊥) → (ok ≡ true) × (newRows ≡ rows)
+  pub all : ok ≡ true → (used : List ℕ) × PropagatedBy m s n t rows used newRows × NextLone newRows used m 0
+  pub until : ok ≡ false → (used : List ℕ) × (mid : List ℕ) × (l : ℕ) × Element m l × PropagatedBy m s n t rows used mid × NextLone mid used m l × KeptOrEmptiedFrom m s n t l mid false newRows

@@ -7,7 +7,7 @@ use lib.Dec.{eqb}
 use Rattle.semigroups.specs.Lists.{at}
 use Rattle.semigroups.specs.Tables.{Product, Element}
 use Rattle.semigroups.specs.InnerMaps.{Embedding, Among}
-use Rattle.rows.specs.InnerRows.{inRow, Only}
+use Rattle.rows.specs.InnerRows.{inRow, has, packedRow, isEmpty, masked, Only, Forced}
 use Rattle.rows.specs.declared.Row.{Row}
 
 -- The weight if the two are equal, else 0.
@@ -45,6 +45,12 @@ Keeps m s n t image len old new = (f : List ℕ) → Embedding m s n t f → Beg
 abbrev pub Multiplied : Product → Product → List ℕ → ℕ → ℕ → List ℕ → Type 0
 Multiplied s t image l k rows = (i : ℕ) → Element k i → Only rows (s i l) (t (at image i) (at image l)) × Only rows (s l i) (t (at image l) (at image i))
 
+-- The rows after those of the products of l with each element before j in turn, on both sides, keep at most the products of their images.
+pub data MultipliedBefore (s t : Product) (image : List ℕ) (l : ℕ) (rows : List ℕ) : ℕ → List ℕ → Type 0 where
+  begun : MultipliedBefore s t image l rows 1 rows
+  further : (j : ℕ) (mid one newRows : List ℕ) → MultipliedBefore s t image l rows j mid → Forced (s j l) (t (at image j) (at image l)) mid one → Forced (s l j) (t (at image l) (at image j)) one newRows
+      → MultipliedBefore s t image l rows (j + 1) newRows
+
 -- What is left after placing x for l passes `narrowed` over the old rows.
 abbrev pub Narrows : ℕ → Product → ℕ → Product → ℕ → ℕ → (ℕ → ℕ → Bool) → (ℕ → ℕ → Bool) → Type 0
 Narrows m s n t l x old new = (c y : ℕ) → Element m c → Element n y → new c y ≡ true → narrowed s t old l x c y ≡ true
@@ -54,3 +60,15 @@ Narrows m s n t l x old new = (c y : ℕ) → Element m c → Element n y → ne
 pub record KeptOrEmptied (m : ℕ) (s : Product) (n : ℕ) (t : Product) (l x : ℕ) (ok : Bool) (rows : ℕ → ℕ → Bool) : Type 0 where
   pub kept : ok ≡ true → (c : ℕ) → Element m c → (y : ℕ) × Element n y × (rows c y ≡ true)
   pub emptied : ok ≡ false → (c : ℕ) × Element m c × ((y : ℕ) → Element n y → narrowed s t rows l x c y ≡ false)
+
+-- The rows are those that placing x for l leaves of each source element before c in turn: its row keeps the elements that pass `narrowed` over the rows as they
+-- are then, and there is one.
+pub data NarrowedBefore (s : Product) (n : ℕ) (t : Product) (l x : ℕ) (rows : List ℕ) : ℕ → List ℕ → Type 0 where
+  begun : NarrowedBefore s n t l x rows 1 rows
+  further : (c : ℕ) (mid : List ℕ) (row : Row) → NarrowedBefore s n t l x rows c mid → row ≡ packedRow n (narrowed s t (has mid) l x c) → isEmpty row ≡ false
+      → NarrowedBefore s n t l x rows (c + 1) (masked mid c row)
+
+-- The rows that a narrowing by x for l leaves: with "yes" those of all m source elements in turn, with "no" those before the first element for which none would be left.
+pub record NarrowedInTurn (m : ℕ) (s : Product) (n : ℕ) (t : Product) (l x : ℕ) (rows : List ℕ) (ok : Bool) (newRows : List ℕ) : Type 0 where
+  pub all : ok ≡ true → NarrowedBefore s n t l x rows (m + 1) newRows
+  pub until : ok ≡ false → (c : ℕ) × Element m c × NarrowedBefore s n t l x rows c newRows × (isEmpty (packedRow n (narrowed s t (has newRows) l x c)) ≡ true)

@@ -8,7 +8,8 @@ use libc::STDOUT_FILENO;
 use tables::limits::FILE;
 use tables::limits::OUTPUT;
 
-// Reads a file to `text` and returns how many bytes were read. A file that can't be opened or read counts as empty.
+// Reads a file to `text` and returns how many bytes were read. A file that can't be opened counts as empty; of a file whose reading fails, the bytes read
+// before count.
 fn read_file(name: &[u8], text: &mut [u8; FILE]) -> usize
     requires room { ⌜ longestText < length (now text) ⌝ }
     ensures count { λ r. ⌜ Counts r (now (text .exit)) ⌝ }

@@ -3,3 +3,4 @@ pub mod Masks
 pub mod Rows
 pub mod Room
 pub mod Raising
+pub mod Lowering

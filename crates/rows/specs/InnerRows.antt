@@ -85,6 +85,10 @@ Forced c v rows newRows = newRows ≡ masked rows c (singleRow v)
 abbrev pub Marked : ℕ → ℕ → List ℕ → (ℕ → ℕ → Bool) → (ℕ → ℕ → Bool) → Type 0
 Marked m n scratch old new = (c y : ℕ) → Element largestOrder c → Element largestOrder y → new c y ≡ (old c y && cond (leb c m) (leb y n && marked n scratch c y) true)
 
--- Row j loses the elements up to x; nothing else changes.
+-- Of the elements 1 to 120, row j loses those up to x, and no other row changes.
 abbrev pub Raised : ℕ → ℕ → (ℕ → ℕ → Bool) → (ℕ → ℕ → Bool) → Type 0
 Raised j x old new = (d y : ℕ) → Element largestOrder d → Element largestOrder y → (new d y ≡ true) ↔ ((old d y ≡ true) × (d ≡ j → x < y))
+
+-- Of the elements 1 to 120, row j loses those from x on, and no other row changes.
+abbrev pub Lowered : ℕ → ℕ → (ℕ → ℕ → Bool) → (ℕ → ℕ → Bool) → Type 0
+Lowered j x old new = (d y : ℕ) → Element largestOrder d → Element largestOrder y → (new d y ≡ true) ↔ ((old d y ≡ true) × (d ≡ j → y < x))

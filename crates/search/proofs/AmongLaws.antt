@@ -26,7 +26,7 @@ use Rattle.semigroups.proofs.ListOrder.{earliest-same, earliest-unique}
 use Rattle.semigroups.proofs.Maps.{maps-increasing, mem-maps, maps-mem}
 use Rattle.semigroups.proofs.Calls.{found-ne-nothing, gives-ne-refused}
 use Rattle.candidates.proofs.Marks.{scratch-same}
-use Rattle.calls.specs.Calls.{Lent, Called, called, refusalOf, answerOf, marksOf, call}
+use Rattle.calls.specs.Calls.{Lent, lend, Called, called, refusalOf, answerOf, marksOf, call}
 use Rattle.search.specs.WantedLaws.{Wanted}
 use Rattle.calls.specs.Allowed.{allows, allowed}
 use Rattle.calls.specs.Among.{refusalAmong, answerAmong, marksAmong, callAmong}
@@ -104,12 +104,12 @@ module _ (ask : Ask) (pairs : List ℕ) (l : Lent) where
       go none none e = absurd (found-ne-nothing (sym e))
       go (some r) o e = absurd (gives-ne-refused found r (sym e))
 
-  nothing-answer : callAmong ask pairs l .says ≡ gives nothing → answerAmong ask pairs l ≡ none
+  nothing-answer : callAmong ask pairs l .says ≡ gives nothing → (answerAmong ask pairs l ≡ none) × (callAmong ask pairs l .mapBytes ≡ l .mapBytes)
   unfolding callAmong
   nothing-answer = go (refusalAmong pairs l) (answerAmong ask pairs l)
     where
-      go : (q : Option Refusal) (o : Option (List ℕ)) → leavingAmong pairs l q o .says ≡ gives nothing → o ≡ none
-      go none none e = refl
+      go : (q : Option Refusal) (o : Option (List ℕ)) → leavingAmong pairs l q o .says ≡ gives nothing → (o ≡ none) × (leavingAmong pairs l q o .mapBytes ≡ l .mapBytes)
+      go none none e = (refl, refl)
       go none (some f) e = absurd (found-ne-nothing e)
       go (some r) o e = absurd (gives-ne-refused nothing r (sym e))
 
@@ -135,7 +135,7 @@ module _ (ask : Ask) (pairs : List ℕ) (l : Lent) where
           (ap (λ (c : Called (Answer Sought)). c .says) e, ap (λ (c : Called (Answer Sought)). c .mapBytes) e)
 
   nothing-exactly : PassesAmong pairs l → (callAmong ask pairs l .says ≡ gives nothing) ↔ ((f : List ℕ) → WantedAmong pairs l ask f → ⊥)
-  nothing-exactly p = ((λ e f w. late-none (l .m) s (l .n) t pairs ask (nothing-answer e) f (late-wanted f .1 w)), λ h. ap (λ (c : Called (Answer Sought)). c .says) (answered p none (without h (answerAmong ask pairs l) refl)))
+  nothing-exactly p = ((λ e f w. late-none (l .m) s (l .n) t pairs ask (nothing-answer e .0) f (late-wanted f .1 w)), λ h. ap (λ (c : Called (Answer Sought)). c .says) (answered p none (without h (answerAmong ask pairs l) refl)))
     where
       without : ((f : List ℕ) → WantedAmong pairs l ask f → ⊥) → (o : Option (List ℕ)) → answerAmong ask pairs l ≡ o → answerAmong ask pairs l ≡ none
       without h none e = e
@@ -144,6 +144,19 @@ module _ (ask : Ask) (pairs : List ℕ) (l : Lent) where
   -- A map that is wanted and allowed is found, or an earlier one.
   wanted-found : PassesAmong pairs l → (f : List ℕ) → WantedAmong pairs l ask f → callAmong ask pairs l .says ≡ gives found
   wanted-found p f w = let r = late-found (l .m) s (l .n) t pairs ask f (late-wanted f .1 w) in ap (λ (c : Called (Answer Sought)). c .says) (answered p (some (r .0)) (r .1))
+
+-- The map asked for does not depend on the scratch buffer.
+scratch-apart : (ask : Ask) (pairs source : List ℕ) (m : ℕ) (target : List ℕ) (n : ℕ) (bytes one other : List ℕ) → PassesAmong pairs (lend source m target n bytes one) → PassesAmong pairs (lend source m target n bytes other)
+    → (callAmong ask pairs (lend source m target n bytes one) .says ≡ callAmong ask pairs (lend source m target n bytes other) .says)
+    × (callAmong ask pairs (lend source m target n bytes one) .mapBytes ≡ callAmong ask pairs (lend source m target n bytes other) .mapBytes)
+scratch-apart ask pairs source m target n bytes one other p q =
+    let a = lend source m target n bytes one in
+    let b = lend source m target n bytes other in
+    let e = answered ask pairs a p (answerAmong ask pairs a) refl in
+    let f = answered ask pairs b q (answerAmong ask pairs b) refl in (
+      ap (λ (c : Called (Answer Sought)). c .says) e ∙ sym (ap (λ (c : Called (Answer Sought)). c .says) f),
+      ap (λ (c : Called (Answer Sought)). c .mapBytes) e ∙ sym (ap (λ (c : Called (Answer Sought)). c .mapBytes) f),
+    )
 
 -- A map that is wanted is an embedding.
 wanted-embedding : (ask : Ask) (l : Lent) (f : List ℕ) → Wanted embeddings l ask f → Embedding (l .m) (product (l .m) (l .source)) (l .n) (product (l .n) (l .target)) f
@@ -276,6 +289,8 @@ among-laws =
       refused-unchanged = refused-among;
       found-exactly = found-exactly;
       nothing-exactly = nothing-exactly;
+      none-keeps-map = λ ask pairs l e. nothing-answer ask pairs l e .1;
+      scratch-apart = scratch-apart;
       all-pairs = λ ask pairs l h. all-pairs pairs l h ask;
       one-embedding = one-embedding;
       fewer-pairs = fewer-pairs;

@@ -15,7 +15,7 @@ use Rattle.semigroups.specs.Questions.{Refusal}
 use Rattle.semigroups.specs.Calls.{refused, gives}
 use Rattle.semigroups.specs.InnerMaps.{Embedding}
 use Rattle.semigroups.specs.Maps.{embeddings, Ask, first, found, nothing}
-use Rattle.calls.specs.Calls.{Lent, call}
+use Rattle.calls.specs.Calls.{Lent, lend, call}
 use Rattle.search.specs.WantedLaws.{Passes, Wanted}
 use Rattle.calls.specs.Among.{refusalAmong, callAmong}
 
@@ -61,6 +61,13 @@ pub record AmongLaws : Type 0 where
   -- The answer is none exactly if no embedding is wanted and allowed.
   pub nothing-exactly : (ask : Ask) (pairs : List ℕ) (l : Lent) → PassesAmong pairs l
       → (callAmong ask pairs l .says ≡ gives nothing) ↔ ((f : List ℕ) → WantedAmong pairs l ask f → ⊥)
+  -- "None" changes no byte of the map.
+  pub none-keeps-map : (ask : Ask) (pairs : List ℕ) (l : Lent) → callAmong ask pairs l .says ≡ gives nothing → callAmong ask pairs l .mapBytes ≡ l .mapBytes
+  -- Two calls that lend different scratch buffers, both long enough, say the same and leave the same map.
+  pub scratch-apart : (ask : Ask) (pairs source : List ℕ) (m : ℕ) (target : List ℕ) (n : ℕ) (bytes one other : List ℕ)
+      → PassesAmong pairs (lend source m target n bytes one) → PassesAmong pairs (lend source m target n bytes other)
+      → (callAmong ask pairs (lend source m target n bytes one) .says ≡ callAmong ask pairs (lend source m target n bytes other) .says)
+      × (callAmong ask pairs (lend source m target n bytes one) .mapBytes ≡ callAmong ask pairs (lend source m target n bytes other) .mapBytes)
   -- If all pairs are marked, the call is that of a search for embeddings, to the byte, whatever else is lent.
   pub all-pairs : (ask : Ask) (pairs : List ℕ) (l : Lent) → AllMarked pairs l → callAmong ask pairs l ≡ call embeddings ask l
   -- If only the pairs of one embedding are marked, that embedding is found.

@@ -3,13 +3,14 @@
 use mathlib.Core.Path.{_≡_}
 use mathlib.Core.Logic.{_↔_}
 use mathlib.Core.Bool.{false}
+use mathlib.Core.List.{List}
 use mathlib.Core.Option.{some}
 use Prim.Native.Nat.{ℕ, _≤_, _<_}
 use Rattle.semigroups.specs.Questions.{Refusal}
 use Rattle.semigroups.specs.Calls.{Answer, refused, gives}
 use Rattle.semigroups.specs.Maps.{Kind, first, Sought, nothing}
 use Rattle.semigroups.specs.Trials.{Limited, stopped, ended}
-use Rattle.calls.specs.Calls.{Lent, refusalOf, call}
+use Rattle.calls.specs.Calls.{Lent, lend, refusalOf, call}
 use Rattle.search.specs.WantedLaws.{Passes}
 use Rattle.calls.specs.Kinds.{orderFits}
 use Rattle.calls.specs.Limited.{firstWork, limitedCall}
@@ -33,8 +34,13 @@ pub record Limits (kind : Kind) (l : Lent) (trials : ℕ) : Type 0 where
   -- If the orders rule a map out, the answer is none, with 0 trials.
   pub unfit : orderFits kind (l .m) (l .n) ≡ false → (trials ≡ 0) × ((limit : ℕ) → limitedCall kind limit l .says ≡ gives (ended nothing 0))
 
--- What `Limits` claims holds for every call that no question refuses, of every kind; a refused call says its refusal and changes no byte.
+-- What `Limits` claims holds for every call that no question refuses, of every kind; a refused call says its refusal and changes no byte. "None" changes no
+-- byte of the map. Two calls that lend different scratch buffers, both long enough, say the same and leave the same map.
 pub record LimitsTheorem : Type 0 where
   pub answered : (kind : Kind) (l : Lent) → Passes l → Limits kind l (firstWork kind l .trials)
   pub refused-unchanged : (kind : Kind) (limit : ℕ) (l : Lent) (r : Refusal) → refusalOf l ≡ some r
       → limitedCall kind limit l ≡ record { says = refused r; mapBytes = l .mapBytes; scratch = l .scratch }
+  pub none-keeps-map : (kind : Kind) (limit trials : ℕ) (l : Lent) → limitedCall kind limit l .says ≡ gives (ended nothing trials) → limitedCall kind limit l .mapBytes ≡ l .mapBytes
+  pub scratch-apart : (kind : Kind) (limit : ℕ) (source : List ℕ) (m : ℕ) (target : List ℕ) (n : ℕ) (bytes one other : List ℕ) → Passes (lend source m target n bytes one) → Passes (lend source m target n bytes other)
+      → (limitedCall kind limit (lend source m target n bytes one) .says ≡ limitedCall kind limit (lend source m target n bytes other) .says)
+      × (limitedCall kind limit (lend source m target n bytes one) .mapBytes ≡ limitedCall kind limit (lend source m target n bytes other) .mapBytes)

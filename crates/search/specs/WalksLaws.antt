@@ -1,4 +1,4 @@
--- Walks of "next" calls for isomorphisms, and demand 3 about them, at the call that the contract of `next_isomorphism` cites (RULES 13).
+-- Walks of "next" calls for isomorphisms, and demand 3 about them, at the call that the contract of `search::next` cites (RULES 13).
 -- Assumes nothing.
 use mathlib.Core.Path.{_≡_}
 use mathlib.Core.Logic.{_⊎_, _↔_}

@@ -22,7 +22,7 @@ Wanted kind l first f = IsMap kind (l .m) (product (l .m) (l .source)) (l .n) (p
 Wanted kind l (next bytes) f = IsMap kind (l .m) (product (l .m) (l .source)) (l .n) (product (l .n) (l .target)) f × (earlier bytes f ≡ true)
 
 -- The answer and the map that is left depend only on the tables and the map buffer (RULES 8.4): two calls that lend different scratch buffers, both long
--- enough, say the same and leave the same map.
+-- enough, say the same and leave the same map. `LimitsTheorem` and `AmongLaws` say it of a search with a limit and of one among pairs.
 abbrev pub ScratchApart : Type 0
 ScratchApart =
     (kind : Kind) (ask : Ask) (source : List ℕ) (m : ℕ) (target : List ℕ) (n : ℕ) (bytes one other : List ℕ) → Passes (lend source m target n bytes one) → Passes (lend source m target n bytes other)

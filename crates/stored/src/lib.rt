@@ -2,7 +2,7 @@
 ghost use mathlib.Core.Path.{_≡_};
 ghost use Rattle.semigroups.specs.Transformations.{transformationCells};
 
-// The table of degree 3. Each row begins with the number and the images of its s.
+// The table of degree 3. Before each row a comment gives the number and the images of its s.
 const PRODUCTS: [u8; 729] = [
     // 1: 1 1 1
     1,

@@ -69,7 +69,7 @@ loop-again c =
     let v = l .inv in
     let t = c .before .before .before .before .before .before .before .loop-test .taken in
     let st = c .before .before .step in (
-      c .before .before .before .before .before .read-file .ensures .1 ∙ v .0,
+      c .before .before .before .before .before .read-file .ensures .1 .0 ∙ v .0,
       st .kept .1 .1 .1 .0 ∙ v .1,
       later-sound (progressOf (l .classifier) (l .cells)) (v .2) (λ e. t (v .3 _ ∙ e)) (came (c .before .before .before .before .before)) (st .ensures .0),
       c .wanted2 .ensures,

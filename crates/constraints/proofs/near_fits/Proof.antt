@@ -4,7 +4,6 @@ use mathlib.Core.Logic.{⊎-elim}
 use Prim.Native.Nat.{ℕ, _+_, max}
 use native.Mathlib.Nat.{max-eq-right}
 use native.Mathlib.Omega.{arith}
-use borrow.Author.Needs.{needs}
 use Rattle.semigroups.specs.Tables.{Element}
 use Rattle.constraints.proofs.Constraints.{near-is}
 use Rattle.constraints.proofs.Placing.{next-length}

@@ -78,7 +78,7 @@ Tried t = extend-lts.After-tried-rising (calls t) (extend-at t) extend.Post exte
 -- What is told of x, once it is tried.
 told : (t : ℕ) (k : Tried t) → let a = start t (k .before .before) .args in
     Verdict (product (a .m) (a .source .now)) (a .m) (product (a .n) (a .target .now)) (a .n) (sharesLater (a .group .now)) (a .t9) (k .before .before .before .before .before .before .loop .x) (k .tried-rising .result)
-told t k = let e = k .tried-rising .ensures in record { keeps = e .0; longer = e .1 .0 .0; one-more = e .1 .0 .1; settled = e .1 .1 .0; sound = e .1 .1 .1 .0; shrinks = e .1 .1 .1 .1 .0; above = e .1 .1 .1 .1 .1 }
+told t k = let e = k .tried-rising .ensures in record { keeps = e .0; longer = e .1 .0 .0; one-more = e .1 .0 .1; settled = e .1 .1 .0; sound = e .1 .1 .1 .0; shrinks = e .1 .1 .1 .1 .0; above = e .1 .1 .1 .1 .1 .0 }
 
 extend-nothing-requires : (t : ℕ) → extend-lts.Need-nothing-requires (calls t) (extend-at t) extend.Post extend-Inv-loop extend-μ-loop
 extend-nothing-requires t c κs = search needs
@@ -170,7 +170,7 @@ extend-loop-again t c =
       ⊎-elim
           (λ w.
           let e = w .1 .ensures in
-          let v : Verdict _ _ _ _ _ _ _ (w .1 .result) = record { keeps = e .0; longer = e .1 .0 .0; one-more = e .1 .0 .1; settled = e .1 .1 .0; sound = e .1 .1 .1 .0; shrinks = e .1 .1 .1 .1 .0; above = e .1 .1 .1 .1 .1 } in
+          let v : Verdict _ _ _ _ _ _ _ (w .1 .result) = record { keeps = e .0; longer = e .1 .0 .0; one-more = e .1 .0 .1; settled = e .1 .1 .0; sound = e .1 .1 .1 .0; shrinks = e .1 .1 .1 .1 .0; above = e .1 .1 .1 .1 .1 .0 } in
           fail T (w .0 .taken) (w .1 .result) v (ap (λ (f : Outcome). f .ok) (sym (w .2 .ensures)) ∙ w .3 .left) (i .3))
           (λ w. shut T (w .left) (i .3))
           (c .if5 .came),

@@ -1,11 +1,8 @@
 -- `keep_neighbours` meets its contract: the rows before c keep what has neighbours enough, and no embedding is lost. Assumes nothing.
-use mathlib.Core.Path.{_≡_, refl, sym, ap, _∙_, subst}
-use mathlib.Core.Bool.{Bool, _&&_}
+use mathlib.Core.Path.{sym, subst}
 use mathlib.Core.List.{List}
 use Prim.Native.Nat.{ℕ, _+_, _-_, _≤_}
 use native.Mathlib.Omega.{arith}
-use borrow.Author.Needs.{needs}
-use Rattle.semigroups.specs.Lists.{at}
 use Rattle.semigroups.specs.Tables.{product, Element}
 use Rattle.semigroups.specs.TablesLaws.{Closed}
 use Rattle.semigroups.specs.InnerMaps.{Embedding, Among}

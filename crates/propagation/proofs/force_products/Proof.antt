@@ -1,6 +1,7 @@
 -- `force_products` meets its contract. The invariant: the rows lost no embedding that begins with the images, and the products
 -- with the elements before j are forced. Assumes nothing.
-use Prim.Native.Nat.{_+_, _-_, _≤_}
+use mathlib.Core.Path.{_≡_, subst}
+use Prim.Native.Nat.{ℕ, _+_, _-_, _≤_}
 use native.Mathlib.Omega.{arith}
 use Rattle.semigroups.specs.Lists.{at}
 use Rattle.semigroups.specs.Tables.{product, Element}
@@ -8,7 +9,7 @@ use Rattle.semigroups.specs.TablesLaws.{Closed}
 use Rattle.semigroups.proofs.Tables.{product-element}
 use Rattle.rows.specs.InnerRows.{has, Shrinks}
 use Rattle.rows.proofs.Rows.{shrinks-none, shrinks-more, forced-shrinks}
-use Rattle.propagation.specs.InnerRows.{Keeps, Multiplied}
+use Rattle.propagation.specs.InnerRows.{Keeps, Multiplied, MultipliedBefore, begun, further}
 use Rattle.propagation.proofs.Narrowed.{pair-kept, multiplied-more}
 use Rattle.propagation.proofs.force_products.Statement.{statement}
 use Rattle.propagation.proofs.force_products.Tie as tie
@@ -16,13 +17,13 @@ use Rattle.propagation.proofs.force_products.Tie as tie
 abbrev Inv-loop : tie.InvT-loop
 Inv-loop source m target n image rows₀ len j₀ rows j =
     (1 ≤ j) × (j ≤ len + 1) × Keeps m (product m source) n (product n target) image len (has rows₀) (has rows)
-    × Multiplied (product m source) (product n target) image len (j - 1) rows × Shrinks rows₀ rows
+    × Multiplied (product m source) (product n target) image len (j - 1) rows × Shrinks rows₀ rows × MultipliedBefore (product m source) (product n target) image len rows₀ j rows
 
 abbrev μ-loop : tie.MeasureT-loop
 μ-loop source m target n image rows₀ len j₀ rows j = len + 1 - j
 
 loop-holds : tie.Need-loop-holds Inv-loop μ-loop
-loop-holds c = let a = c .before .before .args in (omega arith, omega arith, (λ f F b h. h), (λ i h. absurd (let z : ⊥ = omega arith in z)), shrinks-none (a .rows .now))
+loop-holds c = let a = c .before .before .args in (omega arith, omega arith, (λ f F b h. h), (λ i h. absurd (let z : ⊥ = omega arith in z)), shrinks-none (a .rows .now), begun)
 
 force-pair-requires : tie.Need-force-pair-requires Inv-loop μ-loop
 force-pair-requires c κs =
@@ -93,13 +94,18 @@ loop-again c =
       shrinks-more rows₁ rows₂ (a .rows .now)
           (shrinks-more (l .rows) rows₁ (a .rows .now) (i .4) (forced-shrinks (l .rows) rows₁ (s (l .j) (a .len)) (r x y) (omega arith) (one .ensures)))
           (forced-shrinks rows₁ rows₂ (s (a .len) (l .j)) (r y x) (omega arith) (two .ensures)),
+      further (l .j) (l .rows) rows₁ rows₂ (i .5) (one .ensures) (two .ensures),
     )
 
 returns : tie.Need-returns Inv-loop μ-loop
 returns c =
-    let i = c .before .loop .inv in
+    let a = c .before .before .before .before .args in
+    let l = c .before .loop in
+    let i = l .inv in
+    let i1 = i .1 in
     let t = c .loop-test .left in
-    (i .2, ((λ k hk. i .3 k (omega arith)), i .4))
+    let end : l .j ≡ a .len + 1 = omega arith in
+    (i .2, ((λ k hk. i .3 k (omega arith)), (i .4, subst (λ (k : ℕ). MultipliedBefore (product (a .m) (a .source .now)) (product (a .n) (a .target .now)) (a .image .now) (a .len) (a .rows .now) k (l .rows)) end (i .5))))
 
 pub force-products-spec : {M : Type 1} → statement M
 force-products-spec =

@@ -1,5 +1,5 @@
 -- `narrow` meets its contract. The invariant: the rows lost no embedding that sends l to x, gained nothing, and those before c are narrowed. Assumes nothing.
-use mathlib.Core.Path.{_≡_, refl, sym, subst, _∙_}
+use mathlib.Core.Path.{_≡_, refl, sym, ap, subst, _∙_}
 use mathlib.Core.Bool.{true, false≢true}
 use mathlib.Core.List.{List}
 use Prim.Native.Nat.{ℕ, _+_, _-_}
@@ -11,10 +11,10 @@ use Rattle.semigroups.specs.TablesLaws.{Closed}
 use Rattle.semigroups.specs.InnerMaps.{Embedding, Among}
 use Rattle.semigroups.proofs.Booleans.{clash}
 use Rattle.semigroups.proofs.Tables.{product-element}
-use Rattle.rows.specs.InnerRows.{has, masked, Shrinks}
+use Rattle.rows.specs.InnerRows.{has, masked, isEmpty, Shrinks}
 use Rattle.rows.proofs.Rows.{shrinks-none, shrinks-more, masked-shrinks}
 use Rattle.propagation.proofs.Narrowed.{not-empty, mask-kept, narrows-more, kept-more, none-narrowed}
-use Rattle.propagation.specs.InnerRows.{Narrows}
+use Rattle.propagation.specs.InnerRows.{Narrows, NarrowedBefore, begun, further}
 use Rattle.propagation.proofs.narrow.Statement.{statement}
 use Rattle.propagation.proofs.narrow.Tie as tie
 
@@ -24,13 +24,13 @@ Rows source m target n rows₀ l x rows = (f : List ℕ) → Embedding m (produc
 
 abbrev Inv-loop : tie.InvT-loop
 Inv-loop source m target n rows₀ l x c₀ rows c = Element (m + 1) c × Rows source m target n rows₀ l x rows × Shrinks rows₀ rows × Narrows (c - 1) (product m source) n (product n target) l x (has rows₀) (has rows)
-    × ((d : ℕ) → Element (c - 1) d → (y : ℕ) × Element n y × (has rows d y ≡ true))
+    × ((d : ℕ) → Element (c - 1) d → (y : ℕ) × Element n y × (has rows d y ≡ true)) × NarrowedBefore (product m source) n (product n target) l x rows₀ c rows
 
 abbrev μ-loop : tie.MeasureT-loop
 μ-loop source m target n rows₀ l x c₀ rows c = m + 1 - c
 
 loop-holds : tie.Need-loop-holds Inv-loop μ-loop
-loop-holds c = let a = c .before .before .args in (omega arith, (λ f F e h. h), shrinks-none (a .rows .now), (λ d y hd hy e. absurd (let z : ⊥ = omega arith in z)), λ d hd. absurd (let z : ⊥ = omega arith in z))
+loop-holds c = let a = c .before .before .args in (omega arith, (λ f F e h. h), shrinks-none (a .rows .now), (λ d y hd hy e. absurd (let z : ⊥ = omega arith in z)), (λ d hd. absurd (let z : ⊥ = omega arith in z)), begun)
 
 narrow-row-requires : tie.Need-narrow-row-requires Inv-loop μ-loop
 narrow-row-requires c κs =
@@ -58,10 +58,16 @@ returns c =
         l .inv .2,
         (
           (λ e. absurd (false≢true e)),
-          record {
-            kept = λ e. absurd (false≢true e);
-            emptied = λ _. (l .c, (l .inv .0 .0, t), none-narrowed (product (a .m) (a .source .now)) (a .n) (product (a .n) (a .target .now)) (l .rows) (a .l) (a .x) (l .c) (r .result) (r .ensures) (sym (w .ensures) ∙ c .if1 .taken));
-          },
+          (
+            record {
+              kept = λ e. absurd (false≢true e);
+              emptied = λ _. (l .c, (l .inv .0 .0, t), none-narrowed (product (a .m) (a .source .now)) (a .n) (product (a .n) (a .target .now)) (l .rows) (a .l) (a .x) (l .c) (r .result) (r .ensures) (sym (w .ensures) ∙ c .if1 .taken));
+            },
+            record {
+              all = λ e. absurd (false≢true e);
+              until = λ _. (l .c, (l .inv .0 .0, t), l .inv .5, ap isEmpty (sym (r .ensures)) ∙ sym (w .ensures) ∙ c .if1 .taken);
+            },
+          ),
         ),
       ),
     )
@@ -105,6 +111,8 @@ loop-again c =
           (narrows-more (a .m) s (a .n) (product (a .n) (a .target .now)) closed (source .order .1) (a .rows .now) (l .rows) (l .inv .2) (a .l) (a .x) (l .c) (z .pre .1 .0) (i .0, t) (r .result) (r .ensures) (l .inv .3)),
       subst (λ (u : List ℕ). (d : ℕ) → Element (l .c + 1 - 1) d → (y : ℕ) × Element (a .n) y × (has u d y ≡ true)) (sym p)
           (kept-more (a .m) s (a .n) (product (a .n) (a .target .now)) (l .rows) (a .l) (a .x) (l .c) (source .order .1) (i .0, t) (r .result) (r .ensures) (sym (c .before .before .before .is-empty .ensures) ∙ c .before .before .if1 .left) (l .inv .4)),
+      subst (NarrowedBefore s (a .n) (product (a .n) (a .target .now)) (a .l) (a .x) (a .rows .now) (l .c + 1)) (sym p)
+          (further (l .c) (l .rows) (r .result) (l .inv .5) (r .ensures) (sym (c .before .before .before .is-empty .ensures) ∙ c .before .before .if1 .left)),
     )
 
 returns-2 : tie.Need-returns-2 Inv-loop μ-loop
@@ -118,10 +126,16 @@ returns-2 c =
         l .inv .2,
         (
           (λ e d y hd hy. l .inv .3 d y (omega arith) hy),
-          record {
-            kept = λ _ d hd. l .inv .4 d (omega arith);
-            emptied = λ e. absurd (false≢true (sym e));
-          },
+          (
+            record {
+              kept = λ _ d hd. l .inv .4 d (omega arith);
+              emptied = λ e. absurd (false≢true (sym e));
+            },
+            record {
+              all = λ _. subst (λ (k : ℕ). NarrowedBefore (product (z .args .m) (z .args .source .now)) (z .args .n) (product (z .args .n) (z .args .target .now)) (z .args .l) (z .args .x) (z .args .rows .now) k (l .rows)) (let e : l .c ≡ z .args .m + 1 = omega arith in e) (l .inv .5);
+              until = λ e. absurd (false≢true (sym e));
+            },
+          ),
         ),
       ),
     )

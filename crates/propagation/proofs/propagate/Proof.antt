@@ -1,7 +1,7 @@
 -- `propagate` meets its contract. The invariant: no embedding among the rows is lost, and the rows are narrowed by each row that was used. The measure is how
 -- many rows were not used. Assumes nothing.
-use mathlib.Core.Path.{refl}
-use mathlib.Core.Bool.{false≢true}
+use mathlib.Core.Path.{refl, subst}
+use mathlib.Core.Bool.{Bool, false≢true}
 use native.Mathlib.Omega.{arith}
 use borrow.Author.Tests.{not-true, not-false}
 use Rattle.semigroups.specs.Tables.{product}
@@ -9,7 +9,8 @@ use Rattle.semigroups.specs.TablesLaws.{Closed}
 use Rattle.semigroups.proofs.Booleans.{clash}
 use Rattle.semigroups.proofs.Tables.{product-element}
 use Rattle.rows.proofs.Rows.{shrinks-more}
-use Rattle.propagation.proofs.Lone.{unused, Propagating, propagating-start, next-element, fewer, propagating-more, all-narrowed}
+use Rattle.propagation.specs.InnerLone.{KeptOrEmptiedFrom}
+use Rattle.propagation.proofs.Lone.{unused, Propagating, propagating-start, next-element, fewer, told-no, propagating-more, all-narrowed, told-yes}
 use Rattle.propagation.proofs.propagate.Statement.{statement}
 use Rattle.propagation.proofs.propagate.Tie as tie
 
@@ -61,12 +62,22 @@ propagate-from-requires c κs =
 returns : tie.Need-returns Inv-loop μ-loop
 returns c =
     let t = c .before .before .before in
-    let a = start t .args in
+    let z = start t in
+    let a = z .args in
+    let s = product (a .m) (a .source .now) in
+    let t' = product (a .n) (a .target .now) in
     let l = at-loop t .loop in
     let w = c .before .propagate-from in
     let new = w .last .1 .1 .1 .1 in (
       (λ f F h. absurd (clash {b = w .result} (w .ensures .0 f F (l .inv .keeps f F h) .0) (not-true (w .result) (c .if1 .taken)))),
-      (shrinks-more (l .rows) (new .0) (a .rows .now) (l .inv .shrinks) (w .ensures .1 .0), λ e. absurd (false≢true e)),
+      (
+        shrinks-more (l .rows) (new .0) (a .rows .now) (l .inv .shrinks) (w .ensures .1 .0),
+        (
+          (λ e. absurd (false≢true e)),
+          told-no (a .m) s (a .n) t' (closed z) (z .pre .0 .order .1) (a .rows .now) (l .rows) (l .used) (l .l) (l .inv) (t .loop-test .taken)
+              (new .0) (w .ensures .1 .0) (subst (λ (ok : Bool). KeptOrEmptiedFrom (a .m) s (a .n) t' (l .l) (l .rows) ok (new .0)) (not-true (w .result) (c .if1 .taken)) (w .ensures .1 .1 .1)),
+        ),
+      ),
     )
 
 next-lone-requires-2 : tie.Need-next-lone-requires-2 Inv-loop μ-loop
@@ -90,7 +101,8 @@ loop-again c =
     let new = w .last .1 .1 .1 .1 in
     let ok = not-false (w .result) (c .before .before .before .if1 .left) in
     propagating-more (a .m) (product (a .m) (a .source .now)) (a .n) (product (a .n) (a .target .now)) (closed z) (z .pre .0 .order .1) (a .rows .now) (l .rows) (l .used) (l .l) (l .inv) (t .loop-test .taken)
-    (new .0) (c .next-lone2 .result) (λ f F h. (refl, w .ensures .0 f F h .1)) (w .ensures .1 .0) (w .ensures .1 .1 ok) (c .next-lone2 .ensures)
+    (new .0) (c .next-lone2 .result) (λ f F h. (refl, w .ensures .0 f F h .1)) (w .ensures .1 .0) (w .ensures .1 .1 .0 ok)
+    (subst (λ (b : Bool). KeptOrEmptiedFrom (a .m) (product (a .m) (a .source .now)) (a .n) (product (a .n) (a .target .now)) (l .l) (l .rows) b (new .0)) ok (w .ensures .1 .1 .1)) (c .next-lone2 .ensures)
 
 returns-2 : tie.Need-returns-2 Inv-loop μ-loop
 returns-2 c =
@@ -100,7 +112,10 @@ returns-2 c =
       (λ f F h. (refl, l .inv .keeps f F h)),
       (
         l .inv .shrinks,
-        λ _. all-narrowed (a .m) (product (a .m) (a .source .now)) (a .n) (product (a .n) (a .target .now)) (closed z) (z .pre .0 .order .1) (a .rows .now) (l .rows) (l .used) (l .l) (l .inv) (c .loop-test .left) (z .pre .1 .order .1),
+        (
+          (λ _. all-narrowed (a .m) (product (a .m) (a .source .now)) (a .n) (product (a .n) (a .target .now)) (closed z) (z .pre .0 .order .1) (a .rows .now) (l .rows) (l .used) (l .l) (l .inv) (c .loop-test .left) (z .pre .1 .order .1)),
+          told-yes (a .m) (product (a .m) (a .source .now)) (a .n) (product (a .n) (a .target .now)) (closed z) (z .pre .0 .order .1) (a .rows .now) (l .rows) (l .used) (l .l) (l .inv) (c .loop-test .left) (z .pre .1 .order .1),
+        ),
       ),
     )
 

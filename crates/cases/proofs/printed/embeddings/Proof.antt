@@ -7,36 +7,6 @@ use borrow.Author.Needs.{needs}
 use Rattle.cases.proofs.printed.embeddings.Statement.{statement}
 use Rattle.cases.proofs.printed.embeddings.Tie as tie
 
-start-requires : tie.Need-start-requires
-start-requires c κs = search needs
-
-swap-in-two-requires : tie.Need-swap-in-two-requires
-swap-in-two-requires c κs = search needs
-
-right-in-two-requires : tie.Need-right-in-two-requires
-right-in-two-requires c κs = search needs
-
-one-in-two-requires : tie.Need-one-in-two-requires
-one-in-two-requires c κs = search needs
-
-slice-aggregate-told : tie.Need-slice-aggregate-told
-slice-aggregate-told c = search needs
-
-slice-aggregate-told-2 : tie.Need-slice-aggregate-told-2
-slice-aggregate-told-2 c = search needs
-
-told-requires : tie.Need-told-requires
-told-requires c κs = search needs
-
-slice-aggregate-told-3 : tie.Need-slice-aggregate-told-3
-slice-aggregate-told-3 c = search needs
-
-slice-aggregate-told-4 : tie.Need-slice-aggregate-told-4
-slice-aggregate-told-4 c = search needs
-
-told-requires-2 : tie.Need-told-requires-2
-told-requires-2 c κs = search needs
-
 returns : tie.Need-returns
 unfolding agreed
 returns c =
@@ -49,15 +19,5 @@ returns c =
 pub embeddings-spec : {M : Type 1} → statement M
 embeddings-spec =
     tie.close
-    (tie.spec
-    start-requires
-    swap-in-two-requires
-    right-in-two-requires
-    one-in-two-requires
-    slice-aggregate-told
-    slice-aggregate-told-2
-    told-requires
-    slice-aggregate-told-3
-    slice-aggregate-told-4
-    told-requires-2
-    returns)
+    (tie.spec (λ c κs. search needs) (λ c κs. search needs) (λ c κs. search needs) (λ c κs. search needs) (λ c. search needs)
+    (λ c. search needs) (λ c κs. search needs) (λ c. search needs) (λ c. search needs) (λ c κs. search needs) returns)
