@@ -3,7 +3,7 @@
 ghost use mathlib.Core.Path.{_≡_};
 ghost use mathlib.Core.List.{List};
 ghost use Prim.Native.Nat.{ℕ, _+_, _*_, _≤_, _<_};
-ghost use lib.ListN.{length, take};
+ghost use lib.ListN.{length, take, drop, replicate};
 ghost use lib.Seq.{sets};
 ghost use Rattle.semigroups.specs.Tables.{largestOrder, Accepted};
 ghost use Rattle.semigroups.specs.Calls.{overwritten};
@@ -232,10 +232,13 @@ fn put_totals(
     at
 }
 
+// In these contracts `answer` says which notes the classifier holds and what comes next; `orders` and `numbers` say what stands in its arrays after the notes.
 impl Classifier {
     // Returns the classifier that has read no file yet.
     pub fn start() -> Classifier
         ensures answer { λ r. ⌜ ((cells : List ℕ) → progressOf r cells ≡ progress.start) ⌝ }
+        ensures orders { λ r. ⌜ r .orders ≡ replicate 50 0 ⌝ }
+        ensures numbers { λ r. ⌜ r .numbers ≡ replicate 50 0 ⌝ }
     {
         Classifier {
             count: 0,
@@ -266,6 +269,8 @@ impl Classifier {
     fn noted(self, order: usize, number: usize) -> Classifier
         requires { ⌜ (self .count < 50) × (order < 256) × (number < 256) ⌝ }
         ensures answer { λ r. ⌜ ((cells : List ℕ) → progressOf r cells ≡ progress.noted (notesIn self) (noteFrom order number)) ⌝ }
+        ensures orders { λ r. ⌜ drop (r .count) (r .orders) ≡ drop (r .count) (self .orders) ⌝ }
+        ensures numbers { λ r. ⌜ drop (r .count) (r .numbers) ≡ drop (r .count) (self .numbers) ⌝ }
     {
         let at = self.count;
         let mut orders = self.orders;
@@ -283,6 +288,8 @@ impl Classifier {
     // Returns the classifier that reads no more files.
     fn stopped(self) -> Classifier
         ensures answer { λ r. ⌜ ((cells : List ℕ) → progressOf r cells ≡ progress.progress (notesIn self) progress.over) ⌝ }
+        ensures orders { λ r. ⌜ drop (r .count) (r .orders) ≡ drop (r .count) (self .orders) ⌝ }
+        ensures numbers { λ r. ⌜ drop (r .count) (r .numbers) ≡ drop (r .count) (self .numbers) ⌝ }
     {
         let orders = self.orders;
         let numbers = self.numbers;
@@ -298,6 +305,8 @@ impl Classifier {
     fn onward(self, n: usize, j: usize) -> Classifier
         requires { ⌜ (self .count < 50) × (1 ≤ n) × (n ≤ largestOrder) × (j ≤ self .count) ⌝ }
         ensures answer { λ r. ⌜ ((cells : List ℕ) → progressOf r cells ≡ progress.onward (notesIn self) n (take (n * n) cells) j) ⌝ }
+        ensures orders { λ r. ⌜ drop (r .count) (r .orders) ≡ drop (r .count) (self .orders) ⌝ }
+        ensures numbers { λ r. ⌜ drop (r .count) (r .numbers) ≡ drop (r .count) (self .numbers) ⌝ }
     {
         let count = self.count;
         let orders = self.orders;
@@ -318,6 +327,8 @@ impl Classifier {
     fn begun(self, text: &[u8], cells: &mut [u8]) -> Classifier
         requires { ⌜ (self .count < 50) × (length (now cells) ≡ room) ⌝ }
         ensures answer { λ r. ⌜ progressOf r (now (cells .exit)) ≡ progress.begun (notesIn self) (now (text .entry)) (fileRefusal (now (text .entry)) room) ⌝ }
+        ensures orders { λ r. ⌜ drop (r .count) (r .orders) ≡ drop (r .count) (self .orders) ⌝ }
+        ensures numbers { λ r. ⌜ drop (r .count) (r .numbers) ≡ drop (r .count) (self .numbers) ⌝ }
         ensures cells { λ _. ⌜ now (cells .exit) ≡ cellsAfter (now (text .entry)) (now (cells .entry)) ⌝ }
     {
         let verdict = load_then_check(text, cells);
@@ -331,6 +342,8 @@ impl Classifier {
     fn compared(self, n: usize, j: usize, text: &[u8], cells: &[u8]) -> Classifier
         requires { ⌜ (self .count < 50) × (j ≤ self .count) × (length (now cells) ≡ room) × Accepted n (take (n * n) (now cells)) ⌝ }
         ensures answer { λ r. ⌜ progressOf r (now (cells .entry)) ≡ progress.compared (notesIn self) n (take (n * n) (now (cells .entry))) j (classes.holdsLike (now (text .entry)) n (take (n * n) (now (cells .entry)))) ⌝ }
+        ensures orders { λ r. ⌜ drop (r .count) (r .orders) ≡ drop (r .count) (self .orders) ⌝ }
+        ensures numbers { λ r. ⌜ drop (r .count) (r .numbers) ≡ drop (r .count) (self .numbers) ⌝ }
     {
         let size = n * n;
         if holds_like(text, n, &cells[..size]) {
@@ -345,6 +358,8 @@ impl Classifier {
         requires sound { ⌜ progress.Sound (progressOf self (now cells)) ⌝ }
         requires wanted { ⌜ (progress.wanted (progressOf self (now cells)) ≡ 0 → ⊥) ⌝ }
         ensures answer { λ r. ⌜ progressOf r (now (cells .exit)) ≡ progress.step (progressOf self (now (cells .entry))) (openedText opened (now (text .entry))) ⌝ }
+        ensures orders { λ r. ⌜ drop (r .count) (r .orders) ≡ drop (r .count) (self .orders) ⌝ }
+        ensures numbers { λ r. ⌜ drop (r .count) (r .numbers) ≡ drop (r .count) (self .numbers) ⌝ }
         ensures cells { λ _. ⌜ now (cells .exit) ≡ cellsThen (self .task) opened (now (text .entry)) (now (cells .entry)) ⌝ }
     {
         let task = self.task;

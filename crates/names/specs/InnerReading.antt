@@ -1,9 +1,11 @@
 -- The results of the functions that read and judge. They serve the proofs; no contract of an entry point cites them. Assumes nothing.
 use mathlib.Core.Path.{_≡_}
+use mathlib.Core.Bool.{cond}
 use mathlib.Core.List.{List, flatten}
 use mathlib.Core.Option.{none, some}
-use Prim.Native.Nat.{ℕ, _-_, _≤_}
-use lib.ListN.{length, take, drop, replicate}
+use Prim.Native.Nat.{ℕ, _+_, _-_, _≤_}
+use lib.Dec.{leb}
+use lib.ListN.{length, take, drop, set, replicate}
 use Rattle.semigroups.specs.Tables.{largestOrder}
 use Rattle.semigroups.specs.Questions.{firstNo}
 use Rattle.tables.specs.Answers.{noRefusal}
@@ -23,6 +25,10 @@ pub record HoldsValue (s : List ℕ) (v : Value) : Type 0 where
   pub size : v .size ≡ length (take 41 s)
   pub room : length (v .bytes) ≡ 41
   pub padded : drop (v .size) (v .bytes) ≡ replicate (41 - v .size) 0
+
+-- A value with one more byte, unless it has 41 already.
+unfoldable pub extended : Value → ℕ → Value
+extended v b = cond (leb 41 (v .size)) v (record { bytes = set (v .bytes) (v .size) b; size = v .size + 1; end = v .end })
 
 -- ---- the records of a sheet, the names in memory
 

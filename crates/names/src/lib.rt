@@ -2,10 +2,9 @@
 // in one buffer, and their lengths, a byte each, in another. `load` asks questions 40, 42, 41 and 27 of a text, `save` asks 42, 41 and 28; a refusal changes
 // no byte. The definitions that the contracts cite, and the proof that loading and saving undo each other, are in the crate `sheets`.
 ghost use mathlib.Core.Path.{_≡_};
-ghost use mathlib.Core.Bool.{false};
-ghost use mathlib.Core.List.{List, [], _∷_, _++_, map, flatten};
-ghost use Prim.Native.Nat.{ℕ, _+_, _≤_, _<_};
-ghost use lib.ListN.{length, drop};
+ghost use mathlib.Core.List.{map, flatten};
+ghost use Prim.Native.Nat.{_+_, _≤_};
+ghost use lib.ListN.{length, take, drop, replicate};
 ghost use lib.Seq.{sets};
 ghost use Rattle.semigroups.specs.Tables.{largestOrder};
 ghost use Rattle.semigroups.specs.Calls.{overwritten};
@@ -15,7 +14,7 @@ ghost use Rattle.sheets.specs.Readings.{Reading, rowsNames};
 ghost use Rattle.sheets.specs.Names.{isName, isNumber, needsQuotes, doubled, nameText, namesText, namesAt};
 ghost use Rattle.sheets.specs.Calls.{loadNamesAnswer, namesAfter, lengthsAfter, saveNamesAnswer, sheetAfter};
 ghost use Rattle.sheets.specs.InnerCursor.{bareValue, quotedValue, quotedSize, valueAt, sizeAt};
-ghost use Rattle.names.specs.InnerReading.{HoldsValue, Judges, JudgesNames, Fits, Nameable};
+ghost use Rattle.names.specs.InnerReading.{extended, HoldsValue, Judges, JudgesNames, Fits, Nameable};
 use scanning::Form;
 use tables::No;
 use tables::Numbered;
@@ -33,8 +32,7 @@ struct Value {
 impl Value {
     // Returns the value with no byte, of a field that ends at place 0.
     fn empty() -> Self
-        ensures value { λ r. ⌜ HoldsValue [] r ⌝ }
-        ensures end { λ r. ⌜ r .end ≡ 0 ⌝ }
+        ensures value { λ r. ⌜ r ≡ record { bytes = replicate 41 0; size = 0; end = 0 } ⌝ }
     {
         Value {
             bytes: [0u8; 41],
@@ -45,8 +43,7 @@ impl Value {
 
     // Returns the value with one more byte, unless there are 41; the place does not change.
     fn with(self, b: u8) -> Self
-        ensures value { λ r. ⌜ ((s : List ℕ) → HoldsValue s self → HoldsValue (s ++ b ∷ []) r) ⌝ }
-        ensures end { λ r. ⌜ r .end ≡ self .end ⌝ }
+        ensures value { λ r. ⌜ r ≡ extended self b ⌝ }
     {
         let at = self.size;
         if 41 <= at {
@@ -60,8 +57,7 @@ impl Value {
 
     // Returns the value with `end` as the place after its field.
     fn ending(self, end: usize) -> Self
-        ensures value { λ r. ⌜ ((s : List ℕ) → HoldsValue s self → HoldsValue s r) ⌝ }
-        ensures end { λ r. ⌜ r .end ≡ end ⌝ }
+        ensures value { λ r. ⌜ r ≡ record { bytes = self .bytes; size = self .size; end = end } ⌝ }
     {
         let mut ended = self;
         ended.end = end;
@@ -70,8 +66,7 @@ impl Value {
 
     // Returns whether the value is the number k.
     fn is_number(self, k: usize) -> bool
-        ensures answer { λ r. ⌜ ((s : List ℕ) → HoldsValue s self → r ≡ isNumber k s) ⌝ }
-        ensures long { λ r. ⌜ (41 < self .size → r ≡ false) ⌝ }
+        ensures answer { λ r. ⌜ r ≡ isNumber k (take (self .size) (self .bytes)) ⌝ }
     {
         let bytes = self.bytes;
         let size = self.size;
@@ -83,8 +78,7 @@ impl Value {
 
     // Returns whether the value is a name.
     fn is_name(self) -> bool
-        ensures answer { λ r. ⌜ ((s : List ℕ) → HoldsValue s self → r ≡ isName s) ⌝ }
-        ensures long { λ r. ⌜ (41 < self .size → r ≡ false) ⌝ }
+        ensures answer { λ r. ⌜ r ≡ isName (take (self .size) (self .bytes)) ⌝ }
     {
         let bytes = self.bytes;
         let size = self.size;

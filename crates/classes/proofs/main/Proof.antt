@@ -33,7 +33,7 @@ wanted-requires : tie.Need-wanted-requires Inv-loop μ-loop
 wanted-requires c κs = tt
 
 loop-holds : tie.Need-loop-holds Inv-loop μ-loop
-loop-holds c = (refl, refl, start-sound _ (c .before .start .ensures _), c .wanted .ensures)
+loop-holds c = (refl, refl, start-sound _ (c .before .start .ensures .0 _), c .wanted .ensures)
 
 read-file-requires : tie.Need-read-file-requires Inv-loop μ-loop
 read-file-requires c κs = let v = c .before .before .loop .inv .0 in omega arith

@@ -14,7 +14,7 @@ use Rattle.sheets.specs.InnerCursor.{valueAt, sizeAt}
 use Rattle.sheets.proofs.Numbers.{name-is, cut-length}
 use Rattle.sheets.proofs.Records.{commaAt, endAt, Turn, Judging, judge-first, judge-turn, judge-number, judge-name, judge-small, judge-next, judge-done}
 use Rattle.names.specs.InnerReading.{HoldsValue}
-use Rattle.names.proofs.Values.{holds-short}
+use Rattle.names.proofs.Values.{held-number, held-name, holds-short}
 use Rattle.names.proofs.judge_records.Statement.{statement}
 use Rattle.names.proofs.judge_records.Tie as tie
 
@@ -59,7 +59,7 @@ module _ (c : tie.After-read-field2 Inv-loop μ-loop) where
   name = valueAt (drop (commaAt (text-of first) (at-loop first .loop .at) + 1) (text-of first))
 
   number-right : isNumber (at-loop first .loop .k) (valueAt (drop (at-loop first .loop .at) (text-of first))) ≡ true
-  number-right = sym (c .before .before .is-number .ensures .0 (valueAt (drop (at-loop first .loop .at) (text-of first))) (first .read-field .ensures .0)) ∙ not-false (c .before .before .is-number .result) (c .before .if1 .left)
+  number-right = sym (held-number (valueAt (drop (at-loop first .loop .at) (text-of first))) (first .read-field .result) (at-loop first .loop .k) (first .read-field .ensures .0)) ∙ sym (c .before .before .is-number .ensures) ∙ not-false (c .before .before .is-number .result) (c .before .if1 .left)
 
   name-held : HoldsValue name (c .read-field2 .result)
   name-held = subst (λ (n : ℕ). HoldsValue (valueAt (drop (n + 1) (text-of first))) (c .read-field2 .result)) (comma-is first) (c .read-field2 .ensures .0)
@@ -85,7 +85,7 @@ is-number-requires c κs = tt
 returns : tie.Need-returns Inv-loop μ-loop
 returns c =
     let r = c .before .before in
-    λ p. judge-number (at-loop r .loop .inv p) (goes-on r) (sym (c .before .is-number .ensures .0 _ (r .read-field .ensures .0)) ∙ not-true _ (c .if1 .taken))
+    λ p. judge-number (at-loop r .loop .inv p) (goes-on r) (sym (held-number _ _ _ (r .read-field .ensures .0)) ∙ sym (c .before .is-number .ensures) ∙ not-true _ (c .if1 .taken))
 
 add-read-field : tie.Need-add-read-field Inv-loop μ-loop
 add-read-field c =
@@ -101,7 +101,7 @@ is-name-requires c κs = tt
 returns-2 : tie.Need-returns-2 Inv-loop μ-loop
 returns-2 c =
     let r = c .before .before in
-    λ p. judge-name (at-loop (first r) .loop .inv p) (goes-on (first r)) (number-right r) (sym (c .before .is-name .ensures .0 (name r) (name-held r)) ∙ not-true _ (c .if2 .taken))
+    λ p. judge-name (at-loop (first r) .loop .inv p) (goes-on (first r)) (number-right r) (sym (held-name (name r) _ (name-held r)) ∙ sym (c .before .is-name .ensures) ∙ not-true _ (c .if2 .taken))
 
 add-total : tie.Need-add-total Inv-loop μ-loop
 add-total c =
@@ -132,7 +132,7 @@ loop-less c =
 loop-again : tie.Need-loop-again Inv-loop μ-loop
 loop-again c =
     let r = c .before .before in
-    let m : isName (name r) ≡ true = sym (c .before .is-name .ensures .0 (name r) (name-held r)) ∙ not-false _ (c .if2 .left) in
+    let m : isName (name r) ≡ true = sym (held-name (name r) _ (name-held r)) ∙ sym (c .before .is-name .ensures) ∙ not-false _ (c .if2 .left) in
     λ p. rw (end-is r) (judge-next (at-loop (first r) .loop .inv p) (goes-on (first r)) (number-right r) _ m (holds-short (name r) _ (name-held r) (name-is (name r) m .short) .0))
 
 sub-t16 : tie.Need-sub-t16 Inv-loop μ-loop

@@ -1,5 +1,6 @@
 -- `read_quoted` reads a field from after its opening quote mark. The loop's invariant: the bytes gathered, and those that are left of the field, are its
 -- value. Assumes nothing.
+use mathlib.Core.Path.{refl}
 use Prim.Native.Nat.{_-_}
 use native.Mathlib.Omega.{arith}
 use lib.ListN.{length}
@@ -19,7 +20,7 @@ empty-requires : tie.Need-empty-requires Inv-loop μ-loop
 empty-requires c κs = tt
 
 loop-holds : tie.Need-loop-holds Inv-loop μ-loop
-loop-holds c = gathered-first _ _ _ _ _ (c .before .before .pre) (c .empty .ensures .0)
+loop-holds c = gathered-first _ _ _ _ _ (c .before .before .pre) (c .empty .ensures)
 
 shared-slice-read-b : tie.Need-shared-slice-read-b Inv-loop μ-loop
 shared-slice-read-b c = omega arith
@@ -37,7 +38,7 @@ returns : tie.Need-returns Inv-loop μ-loop
 returns c =
     let m = c .before .before in
     let h = m .before .before in
-    gathered-last _ _ _ _ _ _ (h .before .loop .inv) _ 1 (quoted-ends _ _ (h .loop-test .taken) (m .match .keys1) (c .before .if1 .taken)) (c .ending .ensures .1) (c .ending .ensures .0)
+    gathered-last _ _ _ _ _ _ (h .before .loop .inv) _ _ 1 (quoted-ends _ _ (h .loop-test .taken) (m .match .keys1) (c .before .if1 .taken)) refl (c .ending .ensures)
 
 add-if2 : tie.Need-add-if2 Inv-loop μ-loop
 add-if2 c = omega arith
@@ -56,7 +57,7 @@ returns-2 c =
     let m = c .before .before .before .before in
     let h = m .before .before in
     let t = h .loop-test .taken in
-    gathered-last _ _ _ _ _ _ (h .before .loop .inv) _ 1 (quoted-stops _ _ t (omega arith) (m .match .keys1) (c .before .if2 .taken)) (c .ending2 .ensures .1) (c .ending2 .ensures .0)
+    gathered-last _ _ _ _ _ _ (h .before .loop .inv) _ _ 1 (quoted-stops _ _ t (omega arith) (m .match .keys1) (c .before .if2 .taken)) refl (c .ending2 .ensures)
 
 with-requires : tie.Need-with-requires Inv-loop μ-loop
 with-requires c κs = tt
@@ -72,7 +73,7 @@ loop-again c =
     let m = c .before .before .before .before in
     let h = m .before .before in
     let t = h .loop-test .taken in
-    gathered-next _ _ _ _ _ _ (h .before .loop .inv) _ _ _ (omega arith) (omega arith) (quoted-pair _ _ t (omega arith) (m .match .keys1) (c .before .if2 .left)) (c .with .ensures .0)
+    gathered-next _ _ _ _ _ _ (h .before .loop .inv) _ _ _ (omega arith) (omega arith) (quoted-pair _ _ t (omega arith) (m .match .keys1) (c .before .if2 .left)) (c .with .ensures)
 
 with-requires-2 : tie.Need-with-requires-2 Inv-loop μ-loop
 with-requires-2 c κs = tt
@@ -87,7 +88,7 @@ loop-again-2 : tie.Need-loop-again-2 Inv-loop μ-loop
 loop-again-2 c =
     let h = c .before .before .before in
     let t = h .loop-test .taken in
-    gathered-next _ _ _ _ _ _ (h .before .loop .inv) _ _ _ (omega arith) (omega arith) (quoted-goes-on _ _ t (c .before .match .rest .1)) (c .with2 .ensures .0)
+    gathered-next _ _ _ _ _ _ (h .before .loop .inv) _ _ _ (omega arith) (omega arith) (quoted-goes-on _ _ t (c .before .match .rest .1)) (c .with2 .ensures)
 
 ending-requires-3 : tie.Need-ending-requires-3 Inv-loop μ-loop
 ending-requires-3 c κs = tt
@@ -95,7 +96,7 @@ ending-requires-3 c κs = tt
 returns-3 : tie.Need-returns-3 Inv-loop μ-loop
 returns-3 c =
     let l = c .before in
-    gathered-last _ _ _ _ _ _ (l .before .loop .inv) _ 0 (nothing-quoted _ _ (l .loop-test .left)) (let z = c .ending3 .ensures .1 in omega arith) (c .ending3 .ensures .0)
+    gathered-last _ _ _ _ _ _ (l .before .loop .inv) _ _ 0 (nothing-quoted _ _ (l .loop-test .left)) (omega arith) (c .ending3 .ensures)
 
 pub read-quoted-spec : {M : Type 1} → statement M
 read-quoted-spec = tie.close (tie.spec Inv-loop μ-loop empty-requires loop-holds shared-slice-read-b sub-if1 add-ending ending-requires returns add-if2 shared-slice-read-if2 add-ending-2 ending-requires-2 returns-2 with-requires add-i loop-less loop-again with-requires-2 add-i-2 loop-less-2 loop-again-2 ending-requires-3 returns-3)

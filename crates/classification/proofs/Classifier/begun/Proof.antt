@@ -54,9 +54,9 @@ returns c =
     let loaded = m .before .before .before in
     let z = loaded .before .before .before .before in
     let no = not-accepted (loaded .load-then-check .result) (m .match .keys2) in (
-      c .noted .ensures _
+      c .noted .ensures .0 _
           ∙ begun-refused _ _ (z .pre .1) _ (no .by) (sym (loaded .load-then-check .ensures .0) ∙ no .says) _ (c .before .failed-question .ensures ∙ ap failedNumber (no .says)),
-      loaded .load-then-check .ensures .1,
+      (c .noted .ensures .1 .0, (c .noted .ensures .1 .1, loaded .load-then-check .ensures .1)),
     )
 
 onward-requires : tie.Need-onward-requires
@@ -71,8 +71,10 @@ same-length-2 c = search needs
 
 returns-2 : tie.Need-returns-2
 returns-2 c =
-    let v = c .before .before in
-    (c .onward .ensures _ ∙ begun-accepted _ _ (start-of v .pre .1) _ _ (file-given v) (file-holds v), loaded v .load-then-check .ensures .1)
+    let v = c .before .before in (
+      c .onward .ensures .0 _ ∙ begun-accepted _ _ (start-of v .pre .1) _ _ (file-given v) (file-holds v),
+      (c .onward .ensures .1 .0, (c .onward .ensures .1 .1, loaded v .load-then-check .ensures .1)),
+    )
 
 pub begun-spec : {M : Type 1} → statement M
 begun-spec =

@@ -22,7 +22,7 @@ noted-requires c κs = search needs
 returns : tie.Need-returns
 returns c =
     let z = c .before .before .before .before .before .before in
-    c .noted .ensures _ ∙ compared-same _ _ _ _ _ (z .pre .3 .filled .order .0) (sym (c .before .before .holds-like .ensures) ∙ c .before .if1 .taken)
+    (c .noted .ensures .0 _ ∙ compared-same _ _ _ _ _ (z .pre .3 .filled .order .0) (sym (c .before .before .holds-like .ensures) ∙ c .before .if1 .taken), c .noted .ensures .1)
 
 onward-requires : tie.Need-onward-requires
 onward-requires c κs = search needs
@@ -30,7 +30,7 @@ onward-requires c κs = search needs
 returns-2 : tie.Need-returns-2
 returns-2 c =
     let z = c .before .before .before .before .before .before in
-    c .onward .ensures _ ∙ compared-other _ _ _ _ _ (sym (c .before .before .holds-like .ensures) ∙ c .before .if1 .left)
+    (c .onward .ensures .0 _ ∙ compared-other _ _ _ _ _ (sym (c .before .before .holds-like .ensures) ∙ c .before .if1 .left), c .onward .ensures .1)
 
 pub compared-spec : {M : Type 1} → statement M
 compared-spec =

@@ -1,8 +1,10 @@
 -- `noted` writes the order and the number after the others. Assumes nothing.
 use mathlib.Core.Path.{_≡_, ap}
 use mathlib.Core.List.{List}
+use Prim.Native.Nat.{_+_}
 use native.Mathlib.Omega.{arith}
 use lib.ListN.{length}
+use lib.Seq.{drop-set-lt}
 use Rattle.classification.specs.Classes.{Note}
 use Rattle.classification.specs.Progress.{reading, Progress, progress}
 use Rattle.classification.proofs.Held.{notes-more}
@@ -31,8 +33,10 @@ returns c =
     let z = s .args .self in
     let p = s .pre .0 in
     let l : length (z .orders) ≡ 50 = search needs in
-    let m : length (z .numbers) ≡ 50 = search needs in
-    λ cells. ap {B = Progress} (λ (x : List Note). progress x reading) (notes-more (z .orders) (z .numbers) (z .count) (s .args .order) (s .args .number) (omega arith) (omega arith))
+    let m : length (z .numbers) ≡ 50 = search needs in (
+      (λ cells. ap {B = Progress} (λ (x : List Note). progress x reading) (notes-more (z .orders) (z .numbers) (z .count) (s .args .order) (s .args .number) (omega arith) (omega arith))),
+      (drop-set-lt (z .count + 1) (z .orders) (z .count) (s .args .order) (omega arith), drop-set-lt (z .count + 1) (z .numbers) (z .count) (s .args .number) (omega arith)),
+    )
 
 pub noted-spec : {M : Type 1} → statement M
 noted-spec =

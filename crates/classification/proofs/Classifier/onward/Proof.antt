@@ -1,5 +1,5 @@
 -- `onward` compares with the next class of the order, or notes a class of its own. Assumes nothing.
-use mathlib.Core.Path.{_∙_}
+use mathlib.Core.Path.{refl, _∙_}
 use native.Mathlib.Omega.{arith}
 use Rattle.classification.specs.Held.{notesIn}
 use Rattle.classification.proofs.NextClass.{next-bound}
@@ -18,7 +18,7 @@ returns c =
     let s = z .self in
     let l = length-from (s .orders) (s .numbers) (s .count) in
     let h = c .if1 .taken in
-    λ cells. onward-class (notesIn s) (z .n) _ (z .j) (c .before .next-class .ensures) (omega arith)
+    ((λ cells. onward-class (notesIn s) (z .n) _ (z .j) (c .before .next-class .ensures) (omega arith)), (refl, refl))
 
 noted-requires : tie.Need-noted-requires
 noted-requires c κs =
@@ -41,7 +41,7 @@ returns-2 c =
     let p1 = st .pre .1 in
     let l = length-from (s .orders) (s .numbers) (s .count) in
     let h = t .if1 .left in
-    λ cells. c .noted .ensures cells ∙ onward-own (notesIn s) (z .n) _ (z .j) p1 (t .before .next-class .ensures) (omega arith)
+    ((λ cells. c .noted .ensures .0 cells ∙ onward-own (notesIn s) (z .n) _ (z .j) p1 (t .before .next-class .ensures) (omega arith)), c .noted .ensures .1)
 
 pub onward-spec : {M : Type 1} → statement M
 onward-spec = tie.close (tie.spec next-class-requires returns noted-requires returns-2)

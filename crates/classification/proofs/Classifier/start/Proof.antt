@@ -6,7 +6,7 @@ use Rattle.classification.proofs.Classifier.start.Statement.{statement}
 use Rattle.classification.proofs.Classifier.start.Tie as tie
 
 returns : tie.Need-returns
-returns c = λ cells. unfold notesFrom elements range in refl
+returns c = ((λ cells. unfold notesFrom elements range in refl), (refl, refl))
 
 pub start-spec : {M : Type 1} → statement M
 start-spec = tie.close (tie.spec returns)

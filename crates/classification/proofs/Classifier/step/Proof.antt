@@ -23,7 +23,7 @@ returns c =
     let e = c .before .before .before .before .before .enum-told .given .1 in
     let f = c .before .before .before .before .if1 .taken in
     let l = c .before .before .begun .ensures in
-    (l .0 ∙ step-at (z .self) (now (z .cells)) (z .opened) (now (z .text)) e f, l .1 ∙ cells-at (z .self) (now (z .cells)) (z .opened) (now (z .text)) e f)
+    (l .0 ∙ step-at (z .self) (now (z .cells)) (z .opened) (now (z .text)) e f, (l .1 .0, (l .1 .1 .0, l .1 .1 .1 ∙ cells-at (z .self) (now (z .cells)) (z .opened) (now (z .text)) e f)))
 
 stopped-requires : tie.Need-stopped-requires
 stopped-requires c κs = search needs
@@ -45,7 +45,7 @@ returns-2 c =
     let z = c .before .before .before .before .before .before .before .before .args in
     let e = c .before .before .before .before .task .given .1 in
     let f = c .before .before .if2 .taken in
-    (c .compared .ensures ∙ step-at (z .self) (now (z .cells)) (z .opened) (now (z .text)) e f, cells-at (z .self) (now (z .cells)) (z .opened) (now (z .text)) e f)
+    (c .compared .ensures .0 ∙ step-at (z .self) (now (z .cells)) (z .opened) (now (z .text)) e f, (c .compared .ensures .1 .0, (c .compared .ensures .1 .1, cells-at (z .self) (now (z .cells)) (z .opened) (now (z .text)) e f)))
 
 onward-requires : tie.Need-onward-requires
 onward-requires c κs =
@@ -62,20 +62,20 @@ returns-3 c =
     let z = c .before .before .before .before .before .before .args in
     let e = c .before .before .enum-told .given .1 in
     let f = c .before .if1 .left in
-    (c .stopped .ensures (now (z .cells)) ∙ step-at (z .self) (now (z .cells)) (z .opened) (now (z .text)) e f, cells-at (z .self) (now (z .cells)) (z .opened) (now (z .text)) e f)
+    (c .stopped .ensures .0 (now (z .cells)) ∙ step-at (z .self) (now (z .cells)) (z .opened) (now (z .text)) e f, (c .stopped .ensures .1 .0, (c .stopped .ensures .1 .1, cells-at (z .self) (now (z .cells)) (z .opened) (now (z .text)) e f)))
 
 returns-4 : tie.Need-returns-4
 returns-4 c =
     let z = c .before .before .before .before .before .before .before .args in
     let e = c .before .before .before .task .given .1 in
     let f = c .before .if2 .left in
-    (c .onward .ensures (now (z .cells)) ∙ step-at (z .self) (now (z .cells)) (z .opened) (now (z .text)) e f, cells-at (z .self) (now (z .cells)) (z .opened) (now (z .text)) e f)
+    (c .onward .ensures .0 (now (z .cells)) ∙ step-at (z .self) (now (z .cells)) (z .opened) (now (z .text)) e f, (c .onward .ensures .1 .0, (c .onward .ensures .1 .1, cells-at (z .self) (now (z .cells)) (z .opened) (now (z .text)) e f)))
 
 returns-5 : tie.Need-returns-5
 returns-5 c =
     let z = c .before .before .before .before .args in
     let e = c .enum-told2 .given .1 in
-    (stopped-at (z .self) (now (z .cells)) (z .opened) (now (z .text)) e refl refl, cells-at (z .self) (now (z .cells)) (z .opened) (now (z .text)) e refl)
+    (stopped-at (z .self) (now (z .cells)) (z .opened) (now (z .text)) e refl refl, (refl, (refl, cells-at (z .self) (now (z .cells)) (z .opened) (now (z .text)) e refl)))
 
 pub step-spec : {M : Type 1} → statement M
 step-spec =

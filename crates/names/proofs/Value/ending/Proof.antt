@@ -1,12 +1,11 @@
 -- `Value::ending` changes the place alone.
 -- Assumes nothing.
 use mathlib.Core.Path.{refl}
-use Rattle.names.proofs.Values.{holds-ended}
 use Rattle.names.proofs.Value.ending.Statement.{statement}
 use Rattle.names.proofs.Value.ending.Tie as tie
 
 returns : tie.Need-returns
-returns c = ((λ s h. holds-ended s _ _ h), refl)
+returns c = refl
 
 pub ending-spec : {M : Type 1} → statement M
 ending-spec = tie.close (tie.spec returns)

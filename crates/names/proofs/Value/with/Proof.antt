@@ -1,12 +1,11 @@
--- `Value::with` appends a byte to those held, and leaves the place. Assumes nothing.
-use mathlib.Core.Path.{refl}
+-- `Value::with` appends a byte, unless there are 41. Assumes nothing.
 use borrow.Author.Needs.{needs}
-use Rattle.names.proofs.Values.{holds-full, holds-more}
+use Rattle.names.proofs.Values.{extended-full, extended-more}
 use Rattle.names.proofs.Value.with.Statement.{statement}
 use Rattle.names.proofs.Value.with.Tie as tie
 
 returns : tie.Need-returns
-returns c = ((λ s h. holds-full s _ _ (c .if1 .taken) h), refl)
+returns c = extended-full _ _ (c .if1 .taken)
 
 element-write-longer : tie.Need-element-write-longer
 element-write-longer c = search needs
@@ -15,7 +14,7 @@ add-longer : tie.Need-add-longer
 add-longer c = search needs
 
 returns-2 : tie.Need-returns-2
-returns-2 c = ((λ s h. holds-more s _ _ (c .if1 .left) h), refl)
+returns-2 c = extended-more _ _ (c .if1 .left)
 
 pub with-spec : {M : Type 1} → statement M
 with-spec = tie.close (tie.spec returns element-write-longer add-longer returns-2)
