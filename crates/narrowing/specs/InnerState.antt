@@ -28,7 +28,7 @@ placedList p = take (p .len) (p .image)
 abbrev pub rowsIn : Partial → ℕ → ℕ → Bool
 rowsIn p = has (p .rows)
 
--- Of the elements 1 to 120, each of the first m rows has exactly those of its own that are at most n and pass; the rows above m have theirs.
+-- Of the elements 1 to 120, each of the first m rows keeps exactly those that are at most n and pass; the rows above m are as they were.
 abbrev pub KeepsExactly : ℕ → ℕ → (ℕ → ℕ → Bool) → (ℕ → ℕ → Bool) → (ℕ → ℕ → Bool) → Type 0
 KeepsExactly m n p old new = (c y : ℕ) → Element 120 c → Element 120 y → new c y ≡ (old c y && cond (leb c m) (leb y n && p c y) true)
 
