@@ -15,7 +15,7 @@ use Rattle.constraints.specs.InnerTracking.{Placing, Tracks}
 use Rattle.backtrack.specs.declared.Partial.{Partial}
 use Rattle.backtrack.specs.declared.Outcome.{Outcome}
 
--- At most how many trials a search without a limit makes before it takes rows.
+-- How many trials a search without a limit makes at most before a search with rows takes over.
 abbrev pub firstTrials : ℕ
 firstTrials = 8000
 
@@ -46,7 +46,7 @@ outcomeOf (remaining left o) = record { stopped = false; left = left; ok = isSom
 abbrev pub foundIn : Option (List ℕ) → Outcome
 foundIn o = outcomeOf (remaining 0 o)
 
--- What is asked of a search: it is bound by a list as long as what is placed equals the beginning of that list.
+-- What is asked of a search: for true the next map after the list, for false the first one.
 abbrev pub bounded : Bool → List ℕ → Ask
 bounded true after = next after
 bounded false after = first

@@ -18,7 +18,7 @@ ghost use Rattle.backtrack.specs.InnerState.{prefix, Ready, bounded, exh
 use tables::limits::ORDER;
 use tables::limits::PLACES;
 
-// At most how many trials a search without a limit makes before it takes rows. They end nearly every easy search.
+// How many trials a search without a limit makes at most before a search with rows takes over. They end nearly every easy search.
 pub const FIRST_TRIALS: u32 = 8000;
 
 // The map placed so far. The image of element i is image[i - 1]; used[y] is 1 where y is an image. The constraints, `forced` and `owner`, are no part of it:
@@ -181,7 +181,7 @@ fn whole(tight: bool, limit: u32, image: [u8; ORDER]) -> Outcome
     }
 }
 
-// Returns whether one more trial is within those left, and how many are left after it; if none is left, none is left after it either.
+// Returns whether a trial is left, and how many are left after it; without one, that is none.
 fn pay(left: u32) -> Paid
     ensures answer { λ r. ⌜ cond (r .enough) (remaining (r .left) none) exhausted ≡ within left (work none 1) ⌝ }
     ensures left { λ r. ⌜ r .left ≡ left - 1 ⌝ }

@@ -1,4 +1,4 @@
--- Pairs of a source and a target element in the order in which they are marked. Assumes nothing.
+-- The numbers of the pairs of a source and a target element: the pairs are marked in the sequence of these numbers. Assumes nothing.
 use mathlib.Core.Path.{_≡_}
 use Prim.Native.Nat.{ℕ, _≤_}
 use Rattle.semigroups.specs.Tables.{cellPlace, Element}

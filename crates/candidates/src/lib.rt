@@ -94,7 +94,7 @@ struct Pair {
     j: usize,
 }
 
-// Returns the pair that follows the given one, row by row.
+// Returns the pair that follows the given one: the same source element with the next target element, or the next source element with the first.
 fn following(pair: Pair, n: usize) -> Pair
     requires { ⌜ (1 ≤ pair .i) × (pair .i ≤ largestOrder * largestOrder) × Element n (pair .j) × (n ≤ largestOrder) ⌝ }
     ensures next { λ r. ⌜ PairAt n (cellPlace n (pair .i) (pair .j) + 1) (r .i) (r .j) ⌝ }
@@ -166,7 +166,7 @@ pub fn fill_equal(
     }
 }
 
-// Writes the marks of the candidates for embeddings: the pairs of elements with equal index-period.
+// Writes the marks of the candidates for embeddings: the pairs of elements with equal index-periods.
 pub fn fill_embeddings(source: &[u8], m: usize, target: &[u8], n: usize, scratch: &mut [u8])
     requires { ⌜ Filled m (now source) × Filled n (now target) ⌝ }
     requires { ⌜ scratchSize m n ≤ length (now scratch) ⌝ }
@@ -177,7 +177,7 @@ pub fn fill_embeddings(source: &[u8], m: usize, target: &[u8], n: usize, scratch
     fill_equal(&source_keys, m, &target_keys, n, scratch);
 }
 
-// Writes the marks of the candidates for isomorphisms: the pairs of elements with equal profile.
+// Writes the marks of the candidates for isomorphisms: the pairs of elements with equal profiles.
 pub fn fill_isomorphisms(source: &[u8], m: usize, target: &[u8], n: usize, scratch: &mut [u8])
     requires { ⌜ Filled m (now source) × Filled n (now target) ⌝ }
     requires { ⌜ scratchSize m n ≤ length (now scratch) ⌝ }

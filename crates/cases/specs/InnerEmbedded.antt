@@ -1,4 +1,4 @@
--- What is compared of the first embedding of swap in two, where scratch is the first bytes of an array of 3. Assumes nothing.
+-- What is compared of the first embedding of swap in two. Scratch is the first bytes of an array of 3. Assumes nothing.
 use mathlib.Core.List.{List, [], _∷_, _++_}
 use Prim.Native.Nat.{ℕ}
 use lib.Dec.{eqb}

@@ -18,7 +18,7 @@ module _ (kind : Kind) (next : Bool) (source : List ℕ) (m : ℕ) (target : Lis
   abbrev pub toldCall : Called (Answer Sought)
   toldCall = call kind (bounded next (take m before)) (lend source m target n (take m before) (replicate 140 7))
 
-  -- Whether it says this, and whether the array is this afterwards.
+  -- The tally after two comparisons: whether the call says this, and whether the array is this afterwards.
   abbrev pub toldTally : ℕ → List ℕ → Tally → Tally
   toldTally said after t = counted (counted t (eqb (saidNumber (toldCall .says)) said)) (sameList (toldCall .mapBytes ++ drop m before) after)
 

@@ -138,7 +138,7 @@ fn field(text: &[u8], said: Said, cell: u8, tally: Tally) -> Tally
     counted(answered, same_bytes(&cells, &[cell, 7]))
 }
 
-// A field of 120 is accepted; 121 gives 25, 0 and 0001 give 24. Returns the tally.
+// A field of 120 passes; 121 fails question 25, 0 and 0001 fail question 24. Returns the tally.
 pub fn fields() -> Tally
     ensures answer { λ r. ⌜ r ≡ agreed 8 empty ⌝ }
 {

@@ -1,5 +1,5 @@
-// Cases 6 to 13 with the maps that RULES 23.2 prints, as constants. The comparison with the second search cannot tell whether both are wrong alike; this
-// one can. The contract of `told` says what is compared with what. Those of the functions below say only how many answers agree, which a tally without a
+// Cases 6 to 13 with the maps that RULES 23.2 prints, as constants. The comparison with the second search cannot tell whether both make the same mistake; this
+// one can. The contract of `told` says what is compared with what. Those of the functions after it say only how many answers agree, which a tally without a
 // comparison would meet too: that the constants are compared is read from the code and seen in the run.
 ghost use mathlib.Core.Path.{_≡_};
 ghost use Prim.Native.Nat.{_≤_};
@@ -49,7 +49,7 @@ fn told(
     counted(answered, same_bytes(&buffer, &after))
 }
 
-// Compares the first call, which finds `first`, and the next one, which is told `said` and leaves `second` in the map buffer. Returns the tally.
+// Compares the first call, which finds `first`, and the next one, which answers `said` and leaves `second` in the map buffer. Returns the tally.
 fn first_two(
     kind: Kind,
     source: &[u8],

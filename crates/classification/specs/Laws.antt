@@ -33,7 +33,7 @@ module _ (files : List (List ℕ)) where
   pub record Classified : Type 0 where
     -- A file is accepted exactly if it loads and its table is accepted.
     pub accepts : (k : ℕ) → (accepted (file files k) ≡ true) ↔ FilePasses (file files k) room
-    -- "Two accepted tables are in one class exactly if an isomorphism exists."
+    -- RULES 22.2: "Two accepted tables are in one class exactly if an isomorphism exists between them."
     pub one-class : (j k : ℕ) → IsAccepted j → IsAccepted k → (lowest files j ≡ lowest files k) ↔ Isomorphic (file files j) (file files k)
     -- A class is named by its lowest file: one of its members, and no member is lower.
     pub a-member : (k : ℕ) → IsAccepted k → IsAccepted (lowest files k) × (lowest files (lowest files k) ≡ lowest files k)

@@ -28,7 +28,7 @@ fn kind_of(isomorphisms: bool) -> Kind
     Kind::Embeddings
 }
 
-// What a call answers according to the second search, and the map buffer, zeros after the map.
+// What a call answers according to the second search, and the map buffer: the map, then zeros.
 struct Outcome {
     number: usize,
     buffer: [u8; 5],
@@ -119,8 +119,8 @@ fn step(
     }
 }
 
-// Asks for the first map of the kind, on a map buffer that holds `before`; then for all maps later than `before` by next, until the answer is none. Returns
-// the tally, in which every call agrees; as at `step`, its contract cannot tell whether they are compared.
+// Asks for the first map of the kind, on a map buffer that holds `before`; then, by calls of next, for all maps later than `before`, until the answer is none.
+// Returns the tally, in which every call agrees. As for `step`, the contract cannot tell whether the calls are compared.
 pub fn walk(
     isomorphisms: bool,
     source: &[u8],

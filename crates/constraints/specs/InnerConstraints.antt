@@ -11,16 +11,16 @@ use Rattle.semigroups.specs.Lists.{elements, at, all}
 use Rattle.semigroups.specs.Tables.{largestOrder, Product, Element}
 use Rattle.semigroups.specs.Trials.{fits}
 
--- Whether a constraint permits y. A constraint is 0 if nothing is required, else the one value required, or 255 if two values are. It permits y if no other
--- value is required.
+-- Whether a constraint permits y: no value other than y is required. A constraint is 0 if nothing is required, else the one value that is required, or 255 if
+-- two different values are.
 abbrev pub permits : ℕ → ℕ → Bool
 permits constraint y = eqb constraint 0 || eqb constraint y
 
--- The constraint after y is required, too.
+-- The constraint once y is required as well.
 abbrev pub merge : ℕ → ℕ → ℕ
 merge constraint y = cond (permits constraint y) y 255
 
--- The constraints after y is required at a place, too.
+-- The constraints once y is required at a place as well.
 abbrev pub askedAt : List ℕ → ℕ → ℕ → List ℕ
 askedAt constraints place y = set constraints place (merge (getD constraints place 0) y)
 
@@ -44,11 +44,11 @@ cross p k j = p j k && p k j
 unfoldable pub newFits : Product → Product → List ℕ → Bool
 newFits s t p = all (λ j. cross (fits s t p) (length p) j) (elements (length p))
 
--- The pair of the element of p before the newest and the newest fits; a first element has only itself.
+-- The pair of the last two elements of p fits; a first element makes a pair with itself.
 unfoldable pub nearFits : Product → Product → List ℕ → Bool
 nearFits s t p = fits s t p (max 1 (length p - 1)) (length p)
 
--- What stands in an array of constraints: 0 at place 0, which stands for no element, and at each place 0, an element, or 255.
+-- What stands in an array of constraints: 0 at place 0, which stands for no element; at every other place 0, an element, or 255.
 pub record Written (constraints : List ℕ) : Type 0 where
   pub none : getD constraints 0 0 ≡ 0
   pub values : (c : ℕ) → (getD constraints c 0 ≤ largestOrder) ⊎ (getD constraints c 0 ≡ 255)

@@ -137,7 +137,7 @@ fn pair_fits(
     used[v] == 0
 }
 
-// Returns whether the pairs of the next element fit, where x is its image. There is one lifetime because one map lends both arrays.
+// Returns whether the pairs of the next element fit, where x is its image. One lifetime is enough, because both arrays are parts of one map.
 fn new_fits<'a>(
     source: &[u8],
     m: usize,
@@ -177,8 +177,8 @@ fn settled(forced: &[u8; PLACES], owner: &[u8; PLACES], next: usize, x: usize) -
     allowed(owner[x], next)
 }
 
-// Returns whether the newest element and the next one fit as a pair, where x is the image of the next one. Where nothing is placed, the next element is the
-// only one.
+// Returns whether the newest element and the next one fit as a pair, where x is the image of the next one. Where nothing is placed, the next element makes a
+// pair with itself.
 fn near_fits<'a>(
     source: &[u8],
     m: usize,
@@ -197,9 +197,9 @@ fn near_fits<'a>(
     pair_fits(source, m, target, n, image, used, len, x, newest, len + 1)
 }
 
-// Returns whether x is worth a test as the image of the next element: the constraints allow x, and the newest element and the next one fit as a pair. This
-// takes constant time. The list placed does not pass with an x that is not worth a test. It looks at one pair only, so that the compiler can put it into the
-// loop of the search that calls it.
+// Returns whether x is worth a test as the image of the next element: the constraints allow x, and the newest element and the next one fit as a pair. With an
+// x that is not worth a test, the list placed would not pass. This takes constant time. Only one pair is looked at, so that the compiler can put the function
+// into the loop of the search that calls it.
 pub fn may_pass<'a>(
     source: &[u8],
     m: usize,

@@ -1,6 +1,6 @@
--- The questions about loading and saving a text, in the order of RULES 7.3.
--- Stricter than RFC 4180 by RULES 7.2: a length limit (20); digits, commas and line breaks alone, so no header, no quoted field
--- and no space (21); decimal fields of 1 to 120 with no leading 0 (23 to 25); a square (26) of order 120 at most (1).
+-- The questions about loading and saving a text, as RULES 7.3 lists them.
+-- Stricter than RFC 4180 by the questions of RULES 7.2: a length limit (20); digits, commas and line breaks alone, so no header, no quoted
+-- field and no space (21); decimal fields of 1 to 120 with no leading 0 (23 to 25); a square (26) of order 120 at most (1).
 -- Assumes nothing.
 use mathlib.Core.Bool.{Bool, _&&_, _||_, not}
 use mathlib.Core.List.{List, [], _∷_, _++_, flatMap}

@@ -186,7 +186,7 @@ pub extern "C" fn tickdrizzle_next_reversed_isomorphism(
 
 // ---- what a list of elements generates
 
-// Asks the questions about a table and a list of its generators; of triples, those with their middle on the list. No values.
+// Asks the questions about a table and a list of its generators; question 4 only of the triples with their middle on the list. No values.
 #[no_mangle]
 pub extern "C" fn tickdrizzle_check_generated(
     cells: &[u8],
@@ -378,8 +378,8 @@ pub extern "C" fn tickdrizzle_first_reversed_isomorphism_within(
 
 // ---- the fewest rest positions
 
-// Writes for each element in turn its landing positions under the first embedding in the table of the least degree that holds one, to the start of
-// `positions`. Value: that degree, or 0 for none of 1 to 3.
+// Writes the landing positions of each element in turn to the start of `positions`, under the first embedding in the table of the least degree that holds an
+// embedding. Value: that degree, or 0 for none of 1 to 3.
 #[no_mangle]
 pub extern "C" fn tickdrizzle_least_degree(
     cells: &[u8],

@@ -22,9 +22,9 @@ fileNumbers = 1 ∷ 3 ∷ 4 ∷ 20 ∷ 21 ∷ 23 ∷ 24 ∷ 25 ∷ 26 ∷ []
 pub record FileRules : Type 0 where
   -- No question fails exactly if the file loads and its table is accepted.
   pub passes : (t : List ℕ) (room : ℕ) → (fileRefusal t room ≡ none) ↔ FilePasses t room
-  -- RULES 21.2: "A file that cannot be opened counts as empty": 20.
+  -- RULES 21.2: "A file that cannot be opened counts as empty", and fails question 20.
   pub empty : fileRefusal [] room ≡ some (no 20 [])
-  -- RULES 21.2: "one longer than 57,720 bytes gets 20", whatever its bytes;
+  -- RULES 21.2: "one longer than 57,720 bytes fails question 20", whatever its bytes;
   pub longer : (t : List ℕ) → longestText < length t → fileRefusal t room ≡ some (no 20 [])
   -- so its first 57,721 bytes decide, and they are the whole of any shorter file.
   pub first-bytes : (t : List ℕ) → fileRefusal (firstBytes t) room ≡ fileRefusal t room

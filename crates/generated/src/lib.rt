@@ -88,7 +88,7 @@ fn generate(cells: &[u8], n: usize, list: &[u8]) -> Generated
 
 // ---- the shorter check
 
-// Why a table with a list of generators is refused: its table's fault, or question 50 or 51.
+// Why a table with a list of generators is refused: the fault of the table, or question 50 or 51.
 pub enum GeneratorsFault {
     Table(Fault),
     Entry,

@@ -16,7 +16,7 @@ use Rattle.invariants.specs.declared.ProfileAnswer.the-variants as profi
 
 -- ---- questions
 
--- The refusal of a verdict; an accepted element has none.
+-- The refusal of a verdict; there is none if every question has passed.
 abbrev pub elementVerdictRefusal : ElementVerdict → Option Refusal
 elementVerdictRefusal verdict.Accepted = none
 elementVerdictRefusal (verdict.Refused r) = some (noRefusal r)
@@ -27,7 +27,7 @@ elementVerdictRefusal (verdict.Refused r) = some (noRefusal r)
 abbrev pub indexPeriodValue : IndexPeriod → marks.IndexPeriod
 indexPeriodValue r = record { index = r .index; period = r .period; idempotent = r .idempotent }
 
--- What an answer of the code says.
+-- What an answer about the index-period says.
 abbrev pub indexPeriodSays : IndexPeriodAnswer → Answer marks.IndexPeriod
 indexPeriodSays (index-period.Value r) = gives (indexPeriodValue r)
 indexPeriodSays (index-period.Refused r) = refused (noRefusal r)
@@ -44,7 +44,7 @@ profileValue r =
       commuting = r .commuting;
     }
 
--- What an answer of the code says.
+-- What an answer about the profile says.
 abbrev pub profileSays : ProfileAnswer → Answer marks.Profile
 profileSays (profile.Value r) = gives (profileValue r)
 profileSays (profile.Refused r) = refused (noRefusal r)

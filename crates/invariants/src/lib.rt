@@ -57,8 +57,8 @@ pub enum IndexPeriodAnswer {
 }
 
 // Returns the index, the period and the idempotent power of a. The powers of a are walked until one is met again; `met` holds the exponent at which each
-// element was met first, or 0, and `walk` holds power k at place k - 1. The walk has the powers below index + period, so the last multiple of the period in it
-// is the first that is no less than the index.
+// element was met first, or 0, and `walk` holds power k at place k - 1. The walk has the powers with exponents below index + period, so the last multiple
+// of the period among these is the first that is no less than the index.
 fn index_period_of(cells: &[u8], n: usize, a: usize) -> IndexPeriod
     requires { ⌜ Filled n (now cells) ⌝ ∗ ⌜ Element n a ⌝ }
     ensures answer { λ r. ⌜ indexPeriodValue r ≡ settled n (product n (now (cells .entry))) a ⌝ }

@@ -1,6 +1,6 @@
 // Searches by kind between accepted tables, for callers that have asked the questions: the first map of a kind, or the next one after the bytes of the map
-// buffer, with or without a limit of trials; and the same for embeddings among given pairs. A reversed isomorphism is searched for as an isomorphism onto the target
-// with rows and columns exchanged.
+// buffer, with or without a limit of trials; and the first or the next embedding among given pairs. A reversed isomorphism is searched for as an isomorphism
+// onto the target with rows and columns exchanged.
 ghost use mathlib.Core.Path.{_≡_};
 ghost use mathlib.Core.Bool.{cond};
 ghost use Prim.Native.Nat.{_*_, _≤_};
@@ -229,8 +229,8 @@ pub fn find(
 
 // ---- among given pairs
 
-// Searches the marks in scratch without a limit, as `find_marked` does. Unless they are `all` the candidates, elements with one mark narrow the others before
-// the search.
+// Searches the marks in scratch without a limit, as `find_marked` does. If `all` is not set, the pairs exclude candidates, and the elements that have one mark
+// left narrow the others before the search.
 fn find_allowed(
     all: bool,
     next: bool,

@@ -1,5 +1,5 @@
-// The map check: whether m bytes are an embedding of one table in another, or their earliest fault. Tables and bytes may have any content; the first question
-// that fails refuses them.
+// The map check: whether m bytes are an embedding of one table in another, or their earliest fault. Tables and bytes may have any content; a call is refused by
+// the first question that fails.
 use tables::Fault;
 use tables::PairVerdict;
 use tables::Place;
@@ -24,7 +24,7 @@ pub enum MapAnswer {
     MapLength,
     // The map is an embedding.
     Holds,
-    // The first element whose image is not one of the target.
+    // The first element whose image is no element of the target.
     Outside(usize),
     // The earliest pair with equal images.
     EqualImages(usize, usize),
@@ -46,7 +46,7 @@ fn image(map: &[u8], i: usize) -> usize
     map[i - 1] as usize
 }
 
-// Returns the earliest pair i < j with equal images, or none. The tables do not matter.
+// Returns the earliest pair i < j with equal images, or none.
 fn equal_images(map: &[u8]) -> Pair
     ensures answer { λ r. ⌜ ((s : Product) (n : ℕ) (t : Product) → pairOption r ≡ firstEqual (length (now (map .entry))) s n t (now (map .entry))) ⌝ }
 {

@@ -28,7 +28,7 @@ placedList p = take (p .len) (p .image)
 abbrev pub rowsIn : Partial → ℕ → ℕ → Bool
 rowsIn p = has (p .rows)
 
--- Of the elements 1 to 120, each of the first m rows has exactly those of its own that are at most n and pass; the rows above m have theirs.
+-- Of the elements 1 to 120, each of the first m rows keeps exactly those that are at most n and pass; the rows above m are as they were.
 abbrev pub KeepsExactly : ℕ → ℕ → (ℕ → ℕ → Bool) → (ℕ → ℕ → Bool) → (ℕ → ℕ → Bool) → Type 0
 KeepsExactly m n p old new = (c y : ℕ) → Element 120 c → Element 120 y → new c y ≡ (old c y && cond (leb c m) (leb y n && p c y) true)
 
@@ -53,17 +53,17 @@ pub record Settled (s t : Product) (image : List ℕ) (len paired : ℕ) (rows :
   pub own : (i : ℕ) → Element len i → Only rows i (at image i)
   pub products : (i j : ℕ) → Element paired i → Element paired j → Only rows (s i j) (t (at image i) (at image j))
 
--- What `ok` says of the rows that are left once x is placed for l and they are narrowed. It is set only if what is left passes `narrowed` over the old rows, and
--- each of the first m rows has one of n elements and room for the rows inside it. It is unset only if `narrowed` leaves none for some source element, or some
--- row has no room.
+-- What `ok` says of the rows that are left once x is placed for l and they are narrowed. It is set only if what is left passes `narrowed` over the old rows,
+-- and each of the first m rows has one of n elements and room for the rows inside it. It is not set only if `narrowed` leaves none for some source element, or
+-- some row has no room.
 pub record KeptWithRoom (m : ℕ) (s : Product) (n : ℕ) (t : Product) (l x : ℕ) (old : ℕ → ℕ → Bool) (p : Partial) : Type 0 where
   pub narrows : p .ok ≡ true → Narrows m s n t l x old (rowsIn p)
   pub kept : p .ok ≡ true → (c : ℕ) → Element m c → (y : ℕ) × Element n y × (rowsIn p c y ≡ true)
   pub room : p .ok ≡ true → roomy (p .rows) m ≡ true
   pub failed : p .ok ≡ false → KeptOrEmptied m s n t l x false (rowsIn p) ⊎ (roomy (p .rows) m ≡ false)
 
--- The rows and `ok` after the test of element l, from these rows: those of its products with the elements placed keep at most the products of the images, then
--- the rows are narrowed in turn. `ok` is set if none of them would be empty and each has room for the rows inside it.
+-- The rows and `ok` after the test of element l, which starts from these rows. The rows of its products with the elements placed keep at most the products of
+-- the images; then all rows are narrowed in turn. `ok` is set exactly if none of them would be empty and each has room for the rows inside it.
 pub record Tested (m : ℕ) (s : Product) (n : ℕ) (t : Product) (image : List ℕ) (l : ℕ) (rows : List ℕ) (p : Partial) : Type 0 where
   pub mid : List ℕ
   pub kept : Bool
@@ -71,7 +71,7 @@ pub record Tested (m : ℕ) (s : Product) (n : ℕ) (t : Product) (image : List 
   pub narrowed : NarrowedInTurn m s n t l (at image l) mid kept (p .rows)
   pub verdict : p .ok ≡ (kept && roomy (p .rows) m)
 
--- The rows and `ok` after x is placed for l, in rows where the later elements that the relation leads to from l were raised above x, and tested.
+-- The rows and `ok` once x is placed for l and tested, after the rows of the elements that the relation leads to from l have lost what is not above x.
 pub record TestedRaised (m : ℕ) (s : Product) (n : ℕ) (t : Product) (relation : ℕ → ℕ → Bool) (image : List ℕ) (l x : ℕ) (rows : List ℕ) (p : Partial) : Type 0 where
   pub raised : List ℕ
   pub lifted : Lifted m relation l x (has rows) (has raised)

@@ -13,7 +13,7 @@ use Rattle.semigroups.specs.Trials.{stopped, ended}
 use Rattle.semigroups.specs.Copies as copies
 use Rattle.numbers.specs.Numbers.{questionWords, answerWords, indexPeriodValues, profileValues, checkedValues, soughtValues, limitedValues, numberValues, degreeValues, copiesValues}
 
--- All sixteen: where no question fails; refused by 4 on the target, for a triple; and given a number.
+-- All sixteen numbers of an answer: where no question fails; where question 4 refuses the target, with the triple; and where a number is given.
 abbrev pub WordsExamples : Type 0
 WordsExamples =
     let r : Refusal = record { number = 4; side = 2; values = 5 ∷ 6 ∷ 7 ∷ [] } in

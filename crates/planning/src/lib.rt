@@ -85,7 +85,7 @@ fn fits(cells: &[u8], m: usize, degree: usize, image: &mut [u8]) -> bool
 
 // What a call for the least degree answers.
 pub enum DegreeAnswer {
-    // The degree; its positions are written.
+    // The degree; the landing positions are written.
     Degree(usize),
     // None of the degrees 1 to 3.
     Nothing,

@@ -24,7 +24,7 @@ pub record Lone (rows : List ℕ) (c : ℕ) : Type 0 where
   pub element : Element 120 image
   pub row : rowOf rows c ≡ singleRow image
 
--- The rows after that of the product of a and b keeps at most the product of y and z, and then that of b and a at most the product of z and y.
+-- The rows once row a·b keeps at most the product y·z, and then row b·a at most the product z·y.
 abbrev pub forcedBoth : Product → Product → ℕ → ℕ → ℕ → ℕ → List ℕ → List ℕ
 forcedBoth s t a y b z rows = masked (masked rows (s a b) (singleRow (t y z))) (s b a) (singleRow (t z y))
 
@@ -39,8 +39,8 @@ pub data ForcedBefore (s : Product) (n : ℕ) (t : Product) (l x : ℕ) (rows : 
   begun : ForcedBefore s n t l x rows 1 rows
   further : (c : ℕ) (mid newRows : List ℕ) → ForcedBefore s n t l x rows c mid → ForcedWith s n t l x c mid newRows → ForcedBefore s n t l x rows (c + 1) newRows
 
--- What the answer of narrowing by row l says of the rows that it leaves. If the row holds one of n elements alone, it is what `KeptOrEmptied` says of placing
--- that element for l, and the rows are narrowed in turn, once the products are forced; otherwise the answer is "yes" and no row changes.
+-- What the answer of narrowing by row l says of the rows that it leaves. If the row holds one of n elements alone, the products are forced, then the rows are
+-- narrowed in turn, and the answer says what `KeptOrEmptied` says of placing that element for l. Otherwise it is "yes" and no row changes.
 pub record KeptOrEmptiedFrom (m : ℕ) (s : Product) (n : ℕ) (t : Product) (l : ℕ) (rows : List ℕ) (ok : Bool) (newRows : List ℕ) : Type 0 where
   pub alone : (x : ℕ) → Element n x → rowOf rows l ≡ singleRow x → KeptOrEmptied m s n t l x ok (has newRows)
   pub in-turn : (x : ℕ) → Element n x → rowOf rows l ≡ singleRow x → (mid : List ℕ) × ForcedBefore s n t l x rows (m + 1) mid × NarrowedInTurn m s n t l x mid ok newRows
@@ -58,16 +58,16 @@ pub record NextLone (rows used : List ℕ) (m r : ℕ) : Type 0 where
   pub waits : 1 ≤ r → (at used r ≡ 0) × Lone rows r
   pub before : (c : ℕ) → Element m c → (1 ≤ r → c < r) → at used c ≡ 0 → Lone rows c → ⊥
 
--- The rows after narrowing by rows that hold one element alone, each of them the first that was not used then; `used` marks those that were used.
+-- The rows after narrowing by rows that hold one element alone: each time by the first such row that is not used yet; `used` marks those that were used.
 pub data PropagatedBy (m : ℕ) (s : Product) (n : ℕ) (t : Product) (rows : List ℕ) : List ℕ → List ℕ → Type 0 where
   begun : PropagatedBy m s n t rows (replicate 120 0) rows
   further : (used mid newRows : List ℕ) (l : ℕ) → PropagatedBy m s n t rows used mid → 1 ≤ l → NextLone mid used m l → KeptOrEmptiedFrom m s n t l mid true newRows
       → PropagatedBy m s n t rows (set used (l - 1) 1) newRows
 
--- What the answer of narrowing by each row that holds one element alone says of the rows that it leaves. Where some row held one of n elements alone, it is
--- "yes" only if each of the first m rows has one of n elements. It is "no" only if some row has at most one element, and placing that leaves none for some
--- source element. Where no row held one of n elements alone, the answer is "yes" and no row changes. The rows are narrowed by the rows that hold one element alone
--- in turn, with "yes" until each was used, with "no" until one would leave a row without an element.
+-- What the answer of narrowing by each row that holds one element alone says of the rows that it leaves. Where no row held one of n elements alone, the answer
+-- is "yes" and no row changes. Otherwise it is "yes" only if each of the first m rows has one of n elements; and "no" only if some row has at most one element,
+-- and placing that one leaves none for some source element. The rows are narrowed by the rows that hold one element alone, one after another: with "yes" until
+-- each was used, with "no" until one would leave a row without an element.
 pub record KeptOrEmptiedByAll (m : ℕ) (s : Product) (n : ℕ) (t : Product) (rows : List ℕ) (ok : Bool) (newRows : List ℕ) : Type 0 where
   pub kept : ok ≡ true → (l x : ℕ) → Element m l → Element n x → rowOf rows l ≡ singleRow x → (c : ℕ) → Element m c → (y : ℕ) × Element n y × (has newRows c y ≡ true)
   pub emptied : ok ≡ false → (l : ℕ) × (x : ℕ) × Element m l × Element n x × Only newRows l x × KeptOrEmptied m s n t l x false (has newRows)

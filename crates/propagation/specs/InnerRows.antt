@@ -45,7 +45,7 @@ Keeps m s n t image len old new = (f : List ℕ) → Embedding m s n t f → Beg
 abbrev pub Multiplied : Product → Product → List ℕ → ℕ → ℕ → List ℕ → Type 0
 Multiplied s t image l k rows = (i : ℕ) → Element k i → Only rows (s i l) (t (at image i) (at image l)) × Only rows (s l i) (t (at image l) (at image i))
 
--- The rows after those of the products of l with each element before j in turn, on both sides, keep at most the products of their images.
+-- The rows once, for each element before j in turn, the rows of its products with l, on both sides, keep at most the products of the images.
 pub data MultipliedBefore (s t : Product) (image : List ℕ) (l : ℕ) (rows : List ℕ) : ℕ → List ℕ → Type 0 where
   begun : MultipliedBefore s t image l rows 1 rows
   further : (j : ℕ) (mid one newRows : List ℕ) → MultipliedBefore s t image l rows j mid → Forced (s j l) (t (at image j) (at image l)) mid one → Forced (s l j) (t (at image l) (at image j)) one newRows
@@ -68,7 +68,8 @@ pub data NarrowedBefore (s : Product) (n : ℕ) (t : Product) (l x : ℕ) (rows 
   further : (c : ℕ) (mid : List ℕ) (row : Row) → NarrowedBefore s n t l x rows c mid → row ≡ packedRow n (narrowed s t (has mid) l x c) → isEmpty row ≡ false
       → NarrowedBefore s n t l x rows (c + 1) (masked mid c row)
 
--- The rows that a narrowing by x for l leaves: with "yes" those of all m source elements in turn, with "no" those before the first element for which none would be left.
+-- The rows that a narrowing by x for l leaves: with "yes" the rows of all m source elements were narrowed in turn, with "no" only those before the first one
+-- that would be left without an element.
 pub record NarrowedInTurn (m : ℕ) (s : Product) (n : ℕ) (t : Product) (l x : ℕ) (rows : List ℕ) (ok : Bool) (newRows : List ℕ) : Type 0 where
   pub all : ok ≡ true → NarrowedBefore s n t l x rows (m + 1) newRows
   pub until : ok ≡ false → (c : ℕ) × Element m c × NarrowedBefore s n t l x rows c newRows × (isEmpty (packedRow n (narrowed s t (has newRows) l x c)) ≡ true)

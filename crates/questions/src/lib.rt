@@ -1,4 +1,4 @@
-// The questions that a search asks of its two tables and its buffers, in their order, and the refusal of each.
+// The questions that a search asks of its two tables and its buffers, one after another, and the refusal of each.
 ghost use mathlib.Core.Path.{_≡_};
 ghost use Rattle.semigroups.specs.Questions.{searchRefusal};
 ghost use Rattle.tables.specs.Answers.{refusalNumbers};

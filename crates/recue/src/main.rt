@@ -1,5 +1,5 @@
-// Reads source.csv and target.csv from the folder that it is run in, and prints the first embedding of the one table in the other, none, or why a file is
-// refused. Crate `output` proves what is printed, from the bytes of the files; this file only reads the files and writes the text.
+// Reads source.csv and target.csv from the folder that it is run in, and prints the first embedding of the one table in the other, or that there is none, or
+// why a file is refused. Crate `output` proves what is printed, from the bytes of the files; this file only reads the files and writes the text.
 ghost use Prim.Native.Nat.{_<_};
 ghost use lib.ListN.{length};
 ghost use Rattle.io.specs.Counts.{Counts};

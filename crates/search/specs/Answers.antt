@@ -8,13 +8,13 @@ use Rattle.search.specs.declared.SearchAnswer.the-variants as answer
 use Rattle.search.specs.declared.LimitedAnswer.{LimitedAnswer}
 use Rattle.search.specs.declared.LimitedAnswer.the-variants as limited
 
--- What an answer of the code says.
+-- What the answer of a search says.
 abbrev pub searchAnswerSays : SearchAnswer → Answer maps.Sought
 searchAnswerSays answer.Found = gives maps.found
 searchAnswerSays answer.Nothing = gives maps.nothing
 searchAnswerSays (answer.Refused fault) = refused (searchFaultRefusal fault)
 
--- What an answer of the code says.
+-- What the answer of a search with a limit says.
 abbrev pub limitedAnswerSays : LimitedAnswer → Answer Limited
 limitedAnswerSays (limited.Found trials) = gives (ended maps.found trials)
 limitedAnswerSays (limited.Nothing trials) = gives (ended maps.nothing trials)

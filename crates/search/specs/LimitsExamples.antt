@@ -30,8 +30,8 @@ LimitsExamples =
 abbrev pub leftOntoRight : Lent
 leftOntoRight = lend (left .cells) 2 (right .cells) 2 (0 ∷ 0 ∷ []) (replicate 4 0)
 
--- From left onto right there is a reversed map after two trials, and no candidate for a plain one; between tables of different orders no reversed map is
--- tried.
+-- From left onto right a reversed map is found after two trials, and there is no candidate for a plain one; between tables of different orders no reversed
+-- map is tried.
 abbrev pub ReversedTrialsExamples : Type 0
 ReversedTrialsExamples =
     (firstWork reversed leftOntoRight ≡ work (some (1 ∷ 2 ∷ [])) 2) × (firstWork isomorphisms leftOntoRight ≡ work none 0)

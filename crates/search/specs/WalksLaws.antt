@@ -25,7 +25,7 @@ pub record Beside : Type 0 where
   pub n : ℕ
   pub scratch : List ℕ
 
--- All that a call lends on the map buffer as the last call left it.
+-- All that a call lends, with the map buffer as the call before it left it.
 abbrev pub lentOn : Beside → List ℕ → Lent
 lentOn c bytes = record { source = c .source; m = c .m; target = c .target; n = c .n; mapBytes = bytes; scratch = c .scratch }
 

@@ -1,5 +1,5 @@
--- What a call says once every question has passed, and what it leaves in a buffer that it writes (RULES 7.1: the first "no" ends the call, with every lent
--- byte unchanged). Assumes nothing.
+-- What a call says, and what it leaves in a buffer that it writes (RULES 7.1: the first "no" ends the call, with every lent byte unchanged).
+-- Assumes nothing.
 use mathlib.Core.List.{List, _++_}
 use mathlib.Core.Option.{Option, none, some}
 use Prim.Native.Nat.{ℕ}

@@ -6,8 +6,8 @@ use Rattle.semigroups.specs.Tables.{Product}
 use Rattle.semigroups.specs.Invariants.{indexPeriod, sameIndexPeriod, profile, sameProfile, exchanged}
 use Rattle.semigroups.specs.Maps.{Kind, embeddings, isomorphisms, reversed}
 
--- Whether j is a candidate for i: they have equal index-period for embeddings, equal profile for isomorphisms, and for reversed ones equal profile with row
--- and column counts exchanged (RULES 8.1).
+-- Whether j is a candidate for i: for embeddings the two have equal index-periods, for isomorphisms equal profiles, and for reversed isomorphisms equal
+-- profiles with the row and column counts of one of them exchanged (RULES 8.1).
 unfoldable pub candidate : Kind → ℕ → Product → ℕ → Product → ℕ → ℕ → Bool
 candidate embeddings m s n t i j = sameIndexPeriod (indexPeriod m s i) (indexPeriod n t j)
 candidate isomorphisms m s n t i j = sameProfile (profile m s i) (profile n t j)

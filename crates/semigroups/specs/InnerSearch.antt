@@ -38,7 +38,7 @@ module _ (m : ℕ) (s : Product) (n : ℕ) (t : Product) (candidate : ℕ → �
       let among = all (λ i. candidate i (at f i)) (elements m) && late in
       isEmbedding m s n t f && among
 
--- The kinds for which the target is searched as it is: embeddings, or with true isomorphisms.
+-- The kind of maps for which the target is searched as it is: isomorphisms for true, embeddings for false.
 abbrev pub plainKind : Bool → Kind
 plainKind false = embeddings
 plainKind true = isomorphisms

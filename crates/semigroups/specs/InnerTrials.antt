@@ -1,5 +1,5 @@
--- The search of Trials for the first map and for the next one alike: for the next one, no list is tried that is too early. No contract of an entry point
--- cites this. Assumes nothing.
+-- The search of Trials, for the first map or for the next one; for the next one, lists that are too early are not tried. No contract of an entry point cites
+-- this. Assumes nothing.
 use mathlib.Core.Bool.{Bool, true, not, cond, _&&_}
 use mathlib.Core.List.{List, [], _∷_, _++_}
 use mathlib.Core.Option.{none, some}

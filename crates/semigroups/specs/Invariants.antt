@@ -14,7 +14,7 @@ power s a (suc (suc k)) = s (power s a (suc k)) a
 
 -- ---- index and period
 
--- The first period from 1 to n at which the powers from p on repeat, or n + 1.
+-- The first r from 1 to n such that power p + r of a equals power p, or n + 1 if there is none.
 unfoldable pub periodFrom : ℕ → Product → ℕ → ℕ → ℕ
 periodFrom n s a p = least n (λ r. eqb (power s a (p + r)) (power s a p))
 
@@ -44,7 +44,7 @@ pub record IndexPeriod : Type 0 where
 unfoldable pub indexPeriod : ℕ → Product → ℕ → IndexPeriod
 indexPeriod n s a = record { index = index n s a; period = period n s a; idempotent = idempotentPower n s a }
 
--- Definition 3.3: two elements have the same index-period values. The idempotent power is not compared, since it is an element and not a count
+-- Whether two index-periods are equal (1603.06204, definition 3.3). The idempotent power is not compared, since it is an element and not a count
 -- (RULES 4.4).
 unfoldable pub sameIndexPeriod : IndexPeriod → IndexPeriod → Bool
 sameIndexPeriod a b = eqb (a .index) (b .index) && eqb (a .period) (b .period)
@@ -73,7 +73,7 @@ commuting n s a = count (λ b. eqb (s a b) (s b a)) (elements n)
 
 -- ---- the profile
 
--- The profile of an element (definition 4.1; RULES 4.5): its index-period and five counts.
+-- The profile of an element (1603.06204, definition 4.1; RULES 4.5): its index-period and five counts.
 pub record Profile : Type 0 where
   pub powers : IndexPeriod
   pub frequency : ℕ
@@ -98,7 +98,7 @@ profile n s a =
 abbrev pub exchanged : Profile → Profile
 exchanged v = record { powers = v .powers; frequency = v .frequency; diagonal = v .diagonal; row = v .column; column = v .row; commuting = v .commuting }
 
--- Definition 4.1, with the count of commuting elements: two elements have the same element profile.
+-- Whether two profiles are equal (1603.06204, definition 4.1, and the count of commuting elements with it; RULES 4.5).
 unfoldable pub sameProfile : Profile → Profile → Bool
 sameProfile a b =
     sameIndexPeriod (a .powers) (b .powers)

@@ -10,7 +10,7 @@ use Rattle.semigroups.specs.Invariants.{power, Profile}
 
 -- ---- index and period
 
--- Definition 3.2: p and r are the smallest values from 1 on such that power p + r equals power p.
+-- p and r are index and period of a (1603.06204, definition 3.2): the smallest values from 1 on such that power p + r equals power p.
 pub record IsIndexPeriod (s : Product) (a p r : ℕ) : Type 0 where
   pub index-from-one : 1 ≤ p
   pub period-from-one : 1 ≤ r
@@ -27,7 +27,7 @@ pub record IsIdempotentPower (s : Product) (a e : ℕ) : Type 0 where
   pub is-power : power s a exponent ≡ e
   pub idempotent : s e e ≡ e
 
--- e is the only such power: among all powers, whatever their exponents, there is no other.
+-- e is the only such power: no other power of a, whatever its exponent, is one.
 pub record TheIdempotentPower (s : Product) (a e : ℕ) : Type 0 where
   pub is-one : IsIdempotentPower s a e
   pub only : (d : ℕ) → IsIdempotentPower s a d → d ≡ e

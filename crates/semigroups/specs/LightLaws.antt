@@ -55,6 +55,6 @@ pub record LightsTest (n : ℕ) (cells l : List ℕ) : Type 0 where
   pub refuses-later : (t : List ℕ) → generatorsRefusal n cells l ≡ some (no 4 t)
       → (u : List ℕ) × (tableRefusal n cells ≡ some (no 4 u)) × ((t ≡ u) ⊎ (earlier u t ≡ true))
 
--- What `LightsTest` claims holds for every table that passes 1 to 3 with a list that passes 50 and 51.
+-- What `LightsTest` claims holds for every table that passes questions 1 to 3 with a list that passes questions 50 and 51.
 abbrev pub LightsTheorem : Type 0
 LightsTheorem = (n : ℕ) (cells l : List ℕ) → Filled n cells → Inside n l → Generates n (product n cells) l → LightsTest n cells l

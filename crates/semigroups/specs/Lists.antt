@@ -8,7 +8,7 @@ use Prim.Native.Nat.{ℕ, zero, suc, _+_, _-_}
 use lib.Dec.{eqb, ltb}
 use lib.ListN.{getD}
 
--- ---- numbers in a row
+-- ---- consecutive numbers
 
 -- The k numbers from i on: i, i + 1, and so on.
 unfoldable pub range : ℕ → ℕ → List ℕ
@@ -36,7 +36,7 @@ module _ {A : Type 0} where
   find p [] = none
   find p (x ∷ l) = let r = find p l in cond (p x) (some x) r
 
-  -- The entries that pass, in their order.
+  -- The list without the entries that do not pass.
   unfoldable pub keep : (A → Bool) → List A → List A
   keep p [] = []
   keep p (x ∷ l) = let r = keep p l in cond (p x) (x ∷ r) r

@@ -28,7 +28,7 @@ module _ (m : ℕ) (s : Product) (n : ℕ) (t : Product) (f : List ℕ) where
   unfoldable pub firstOutside : Option ℕ
   firstOutside = find (λ i. not (isElement n (at f i))) (elements m)
 
-  -- The earliest pair i < j with equal images, or none. Pairs are ordered by i, then j.
+  -- The earliest pair i < j with equal images, or none. Pairs are compared by i, then by j.
   unfoldable pub firstEqual : Option (List ℕ)
   firstEqual = find (λ l. ltb (at l 1) (at l 2) && eqb (at f (at l 1)) (at f (at l 2))) (lists 2 m)
 

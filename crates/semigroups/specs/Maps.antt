@@ -51,7 +51,7 @@ pub data Ask : Type 0 where
   first : Ask
   next : List ℕ → Ask
 
--- Whether a list is late enough for what is asked.
+-- Whether a list is late enough for what is asked: for the first entry any list is, for the next one a list later than the bytes.
 abbrev pub beyond : Ask → List ℕ → Bool
 beyond first f = true
 beyond (next b) f = earlier b f
@@ -65,7 +65,7 @@ pub data Sought : Type 0 where
   found : Sought
   nothing : Sought
 
--- Whether a map is found.
+-- What a search gives, from the map that it found, if there is one.
 abbrev pub sought : Option (List ℕ) → Sought
 sought (some f) = found
 sought none = nothing

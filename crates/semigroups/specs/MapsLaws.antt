@@ -38,6 +38,6 @@ IsMap reversed = ReversedIsomorphism
 unfoldable pub identity : ℕ → List ℕ
 identity n = elements n
 
--- The inverse, in RULES 5.8 the reverse, of a map of n elements onto themselves: the byte at the place that a's byte i names is i.
+-- The inverse, in demand 3 the reverse, of a map of n elements onto themselves (RULES 5.8): the byte at the place that a's byte i names is i.
 unfoldable pub inverse : ℕ → List ℕ → List ℕ
 inverse n a = map (λ j. least n (λ i. eqb (at a i) j)) (elements n)

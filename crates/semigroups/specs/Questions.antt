@@ -1,4 +1,4 @@
--- The questions that a call asks in order (RULES 7): the first "no" gives its number, the side that it names, and what is said with it.
+-- The questions that a call asks one after another (RULES 7): the first "no" gives its number, the side that it names, and what is said with it.
 -- Each call has a list of questions. Questions 8 and 9 stand with the tables of transformations (Transformations), and those about a text with the text.
 -- Assumes nothing.
 use mathlib.Core.Bool.{Bool, cond}

@@ -31,7 +31,7 @@ pub record TableRequests : Type 1 where
   -- RULES 10: reversed isomorphisms: their full lists, their composites, their profiles.
   pub reversed-maps : ReversedTheorem
   -- RULES 8.1: candidates for isomorphisms, plain and reversed, commute with equally many elements; those for embeddings have index and period equal, and
-  -- no more is asked.
+  -- nothing else of the two elements is compared.
   pub commuting-equal : (m : ℕ) (s : Product) (n : ℕ) (t : Product) (i j : ℕ) → candidate isomorphisms m s n t i j ≡ true → commuting m s i ≡ commuting n t j
   pub commuting-equal-reversed : (m : ℕ) (s : Product) (n : ℕ) (t : Product) (i j : ℕ) → candidate reversed m s n t i j ≡ true → commuting m s i ≡ commuting n t j
   pub embedding-candidates : (m : ℕ) (s : Product) (n : ℕ) (t : Product) (i j : ℕ)

@@ -23,7 +23,7 @@ pub record ReversedMaps (m : ℕ) (source : List ℕ) (n : ℕ) (target : List �
   -- The full list is every reversed isomorphism once, earliest first.
   pub increasing : Increasing (between reversed m source n target)
   pub exactly : (f : List ℕ) → List·Memᴰ f (between reversed m source n target) ↔ ReversedIsomorphism m (product m source) n (product n target) f
-  -- It is the full list of isomorphisms onto the table with rows and columns exchanged, which is accepted too and has each product in the reversed order.
+  -- It is the full list of isomorphisms onto the table with rows and columns exchanged, which is accepted too; its product is that with the factors exchanged.
   pub turned-product : (i j : ℕ) → Element n i → Element n j → product n (turnedCells n target) i j ≡ product n target j i
   pub turned-accepted : Accepted n (turnedCells n target)
   pub turned-list : between reversed m source n target ≡ between isomorphisms m source n (turnedCells n target)
@@ -40,7 +40,7 @@ pub record ReversedMaps (m : ℕ) (source : List ℕ) (n : ℕ) (target : List �
 
 -- What is said of the composites of reversed and plain isomorphisms.
 pub record ReversedComposites (k : ℕ) (first : List ℕ) (m : ℕ) (second : List ℕ) (n : ℕ) (third : List ℕ) (f g : List ℕ) : Type 0 where
-  -- Two reversed maps in a row make a plain isomorphism.
+  -- Two reversed maps, one after the other, make a plain isomorphism.
   pub both-reversed : List·Memᴰ f (between reversed k first m second) → List·Memᴰ g (between reversed m second n third) → List·Memᴰ (after g f) (between isomorphisms k first n third)
   -- A plain map after a reversed one makes a reversed one, and so does a reversed map after a plain one.
   pub reversed-before : List·Memᴰ f (between reversed k first m second) → List·Memᴰ g (between isomorphisms m second n third) → List·Memᴰ (after g f) (between reversed k first n third)

@@ -28,7 +28,7 @@ use Rattle.semigroups.specs.Transformations.{transformations, transforma
 
 -- The invariants of an element (RULES 4) of an accepted table of order n with these cells.
 pub record InvariantRules (n : ℕ) (cells : List ℕ) : Type 0 where
-  -- RULES 4.1: "a to the first is a; each further power is the last one times a."
+  -- RULES 4.1: "a to the first is a; each further power is the power before it times a."
   pub first-power : (a : ℕ) → power (product n cells) a 1 ≡ a
   pub next-power : (a k : ℕ) → 1 ≤ k → power (product n cells) a (suc k) ≡ product n cells (power (product n cells) a k) a
   -- The profile, with index, period and idempotent power: each number is what RULES 4 counts, and no other number is.

@@ -26,7 +26,7 @@ bit byte r = byte / 2 ^ r % 2
 unfoldable pub scratchSize : ℕ → ℕ → ℕ
 scratchSize m n = (m * n + 7) / 8
 
--- The marks: for each pair, row after row, 1 if target element j is a candidate for source element i, else 0; eight to a byte.
+-- The marks of the pairs, by their numbers (RULES 8.2): 1 if target element j is a candidate for source element i, else 0; eight to a byte.
 unfoldable pub marks : ℕ → ℕ → (ℕ → ℕ → Bool) → List ℕ
 marks m n candidate = map (packedByte (grid m n (λ i j. cond (candidate i j) 1 0))) (range 0 (scratchSize m n))
 

@@ -9,8 +9,8 @@ use Rattle.semigroups.specs.Generated.{generated}
 use Rattle.semigroups.specs.Cases.{mat5}
 use Rattle.semigroups.specs.Subsemigroups.{partCells, subsemigroupRefusal}
 
--- In mat5, 5 and 2 generate 1, 2, 3 and 5, with the table `1,1,1,1/1,2,3,3/1,1,1,3/1,1,1,4`; buffers of 16 and of 4 bytes are enough, and no shorter ones
--- are.
+-- In mat5, 5 and 2 generate 1, 2, 3 and 5, with the table `1,1,1,1/1,2,3,3/1,1,1,3/1,1,1,4`; buffers of 16 and of 4 bytes are enough, and
+-- shorter ones are not.
 abbrev pub SubsemigroupExamples : Type 0
 SubsemigroupExamples =
     (generated 5 (product 5 (mat5 .cells)) (5 ∷ 2 ∷ []) ≡ 1 ∷ 2 ∷ 3 ∷ 5 ∷ [])

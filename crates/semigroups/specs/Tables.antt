@@ -1,5 +1,5 @@
 -- Cayley tables, called multiplication tables in arXiv 1603.06204, section 2. A table is its order n and its cells row after row.
--- Statements about a semigroup are about an order and a product of elements, so that a reversed product or a part of a table is one more instance.
+-- Statements about a semigroup are about an order and a product of elements: a product with its factors exchanged, or a part of a table, is one more instance.
 -- Assumes nothing.
 use mathlib.Core.Path.{_≡_}
 use mathlib.Core.Bool.{Bool, _&&_, not}
@@ -66,6 +66,6 @@ associates s i j k = eqb (s (s i j) k) (s i (s j k))
 unfoldable pub badCell : ℕ → List ℕ → Option ℕ
 badCell n cells = find (λ k. not (isElement n (at cells k))) (range 1 (length cells))
 
--- The first triple i, j, k that does not associate, or none (question 4). Triples are ordered by i, then j, then k.
+-- The first triple i, j, k that does not associate, or none (question 4). Triples are compared by i, then by j, then by k.
 unfoldable pub badTriple : ℕ → Product → Option (List ℕ)
 badTriple n s = find (λ l. not (associates s (at l 1) (at l 2) (at l 3))) (lists 3 n)

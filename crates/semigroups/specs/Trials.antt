@@ -11,8 +11,8 @@ use Rattle.semigroups.specs.Tables.{Product}
 use Rattle.semigroups.specs.Maps.{Sought, sought}
 
 module _ (s t : Product) where
-  -- Whether the pair i, j of a list placed so far fits: if its product is placed, that has the target product as its image; if it is not placed, the target
-  -- product is not an image used (RULES 9.2).
+  -- Whether the pair i, j of a list placed so far fits: if i·j is placed, its image is the product of the images of i and j; if i·j is not placed, the product
+  -- of these images is not the image of an element placed (RULES 9.2).
   unfoldable pub fits : List ℕ → ℕ → ℕ → Bool
   fits p i j = let image = t (at p i) (at p j) in cond (leb (s i j) (length p)) (eqb (at p (s i j)) image) (not (member image p))
 

@@ -10,7 +10,7 @@ use Rattle.semigroups.specs.Cases.{swap, left, two}
 use Rattle.semigroups.specs.Trials.{work, searchWork, limited, stopped, ended}
 
 -- From `1,1,1/1,3,3/1,3,3` to `1,1,3/1,1,3/3,3,3`: placing 1 on 1 and 2 on 2 fails, since 2·2 is 3, which is not placed, and 2·2 in the target is 1, an image
--- already used. So five trials find `3,2,1`; if products outside the list were not looked at, 3 on 3 would be a sixth.
+-- already used. So five trials find `3,2,1`; if products outside the list were not looked at, placing 3 on 3 would be a sixth.
 abbrev pub OutsideExample : Type 0
 OutsideExample =
     let s = product 3 (1 ∷ 1 ∷ 1 ∷ 1 ∷ 3 ∷ 3 ∷ 1 ∷ 3 ∷ 3 ∷ []) in

@@ -26,12 +26,12 @@ abbrev pub nextOutcome : Option Refusal → List (List ℕ) → List ℕ → Out
 nextOutcome none l b = let f = earliest (next b) l in record { says = gives (sought f); buffer = Option·getD f b }
 nextOutcome (some r) l b = record { says = refused r; buffer = b }
 
--- How many calls were not refused, counted on from k, after one more call.
+-- How many calls were not refused, if there were k of them before one more call, which has this refusal or none.
 abbrev pub counted : ℕ → Option Refusal → ℕ
 counted k (some r) = k
 counted k none = suc k
 
--- What the claim says of a call before which k calls were not refused: the k-th from 1 finds entry k while there is one.
+-- What the claim says of a call before which k calls were not refused: if it is not refused either, it finds entry k + 1, or none if the list has no more.
 abbrev pub claimed : List ℕ → List (List ℕ) → ℕ → Option Refusal → Outcome
 claimed z l k o = record { says = givenUnless o (cond (leb (suc k) (length l)) found nothing); buffer = held z l (counted k o) }
 
@@ -46,7 +46,7 @@ module _ {C : Type 0} where
   claim refusal z l k [] = []
   claim refusal z l k (c ∷ cs) = claimed z l k (refusal c) ∷ claim refusal z l (counted k (refusal c)) cs
 
-  -- How many calls were not refused, counted on from k.
+  -- How many calls were not refused once these calls are made, if there were k of them before.
   abbrev pub answered : (C → Option Refusal) → ℕ → List C → ℕ
   answered refusal k [] = k
   answered refusal k (c ∷ cs) = answered refusal (counted k (refusal c)) cs

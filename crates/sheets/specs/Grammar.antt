@@ -90,7 +90,7 @@ entriesText e (f ∷ fs) = entryText e ++ 13 ∷ 10 ∷ entriesText f fs
 unfoldable pub sheetText : Sheet → List ℕ
 sheetText s = entriesText (s .first) (s .others) ++ cond (s .closed) (13 ∷ 10 ∷ []) []
 
--- The text passes 40: its bytes "form one or more records of two fields as RFC 4180 allows" (RULES 20.7).
+-- The text passes question 40: its bytes "form one or more records of two fields as RFC 4180 allows" (RULES 20.7).
 pub record IsSheet (t : List ℕ) : Type 0 where
   pub sheet : Sheet
   pub proper : ProperSheet sheet

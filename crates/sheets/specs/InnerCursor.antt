@@ -1,5 +1,5 @@
--- Reading a sheet field by field: the value of the field that bytes begin with, and how many bytes it takes, in a text that passes 40. It serves the
--- proofs of the code; no contract of an entry point cites it.
+-- Reading a sheet field by field: the value of the field that bytes begin with, and how many bytes it takes, in a text that passes question 40.
+-- It serves the proofs of the code; no contract of an entry point cites it.
 -- Assumes nothing.
 use mathlib.Core.Bool.{_||_, cond}
 use mathlib.Core.List.{List, [], _∷_}

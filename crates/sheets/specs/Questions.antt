@@ -1,4 +1,4 @@
--- The questions about loading and saving a name sheet, in the order of RULES 20.7 and 20.9.
+-- The questions about loading and saving a name sheet, as RULES 20.7 and 20.9 list them.
 -- Assumes nothing.
 use mathlib.Core.Bool.{Bool, _&&_, cond}
 use mathlib.Core.List.{List, [], _∷_, _++_, flatten}

@@ -7,13 +7,13 @@ use Rattle.sheets.specs.Grammar.{IsSheet, Row, sheetRows}
 
 -- ---- the offending place
 
--- Some text passing 40 starts with p.
+-- Some text passing question 40 starts with p.
 pub record BeginsSheet (p : List ℕ) : Type 0 where
   pub rest : List ℕ
   pub passes : IsSheet (p ++ rest)
 
--- k is the offending place (RULES 20.8): "the length of the longest beginning of the text that some text passing 40 starts with, whatever its numbers and
--- names".
+-- k is the offending place (RULES 20.8): "the length of the longest beginning of the text that some text passing question 40 starts with, whatever its
+-- numbers and names".
 pub record Offending (t : List ℕ) (k : ℕ) : Type 0 where
   pub within : k ≤ length t
   pub begins : BeginsSheet (take k t)
@@ -21,7 +21,7 @@ pub record Offending (t : List ℕ) (k : ℕ) : Type 0 where
 
 -- ---- a reading of a text
 
--- A reading of a text: that it passes 40, or its offending place.
+-- A reading of a text: that it passes question 40, or its offending place.
 pub data Reading (t : List ℕ) : Type 0 where
   passes : IsSheet t → Reading t
   offends : (k : ℕ) → (IsSheet t → ⊥) → Offending t k → Reading t

@@ -23,7 +23,7 @@ pub record NameRequests : Type 0 where
   pub a-number : (k : ℕ) (f : List ℕ) → 1 ≤ k → (isNumber k f ≡ true) ↔ ((k ≤ largestOrder) × (f ≡ numeral k))
   -- "Saving quotes exactly those names that hold a comma or a quote mark."
   pub quotes-exactly : (s : List ℕ) → (needsQuotes s ≡ true) ↔ (List·Memᴰ 44 s ⊎ List·Memᴰ 34 s)
-  -- Every text passes 40 or has its offending place, and a call says the same by each reading; "an empty text offends at place 0".
+  -- Every text passes question 40 or has its offending place, and a call says the same by each reading; "an empty text offends at place 0".
   pub readable : Readable
   pub same-reading : SameReading
   pub empty-offends : (w : Reading []) → offence w ≡ some (0 ∷ [])
@@ -35,8 +35,8 @@ pub record NameRequests : Type 0 where
   pub save-keeps : SaveKeeps
   -- "Names loaded from a saved sheet are the names saved."
   pub names-back : SavedNamesAreLoaded
-  -- "Loading and saving a second time changes no byte": of a sheet that was saved, and of any that loads, however often.
+  -- "Loading and saving a second time changes no byte": neither of a sheet that was saved nor of any that loads, however often.
   pub saved-stays : SavedSheetStays
   pub loaded-stays : LoadedSheetStays
-  -- "Record ends follow 19.2."
+  -- RULES 20.4: "Record ends follow 19.2."
   pub last-break : LastBreakMayLack

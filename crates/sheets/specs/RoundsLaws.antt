@@ -89,7 +89,7 @@ SavedSheetStays =
     (read : Readable) (names lengths : List ℕ) (b : NameBuffers) → SaveNamesPass names lengths (length (b .text)) → length (flatten (namesAt names lengths)) ≤ length (b .names)
     → length lengths ≤ length (b .lengths) → (n : ℕ) → SheetUnchanged (namesSaved names lengths b) (nameRounds read n (namesSaved names lengths b))
 
--- "Loading and saving a second time changes no byte", of any of the three buffers, for any sheet that loads, and however often.
+-- "Loading and saving a second time changes no byte" of any of the three buffers, for any sheet that loads, however often it is done.
 abbrev pub LoadedSheetStays : Type 0
 LoadedSheetStays =
     (read : Readable) (b : NameBuffers) (count : ℕ) → loadNamesAnswer (read (sheetHeld b)) (b .names) (b .lengths) ≡ gives count

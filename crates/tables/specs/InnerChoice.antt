@@ -15,7 +15,7 @@ use Rattle.tables.specs.InnerFound.{Found}
 
 -- ---- products from left to right
 
--- The elements found are the products from left to right of entries of the list, each once, in an order that no definition fixes.
+-- The elements found are the products from left to right of entries of the list, each once, in a sequence that no definition fixes.
 pub record FoundProducts (s : Product) (l found marks : List ℕ) (count : ℕ) : Type 0 where
   pub held : Found (take count found) found marks count
   pub products-alone : (x : ℕ) → List·Memᴰ x (take count found) → LeftProduct s l x

@@ -1,4 +1,4 @@
--- What is kept while elements are found one by one: the elements found so far, in the order in which they were found, and a mark for each.
+-- What is kept while elements are found one by one: the elements found so far, the first found first, and a mark for each.
 -- Assumes nothing.
 use mathlib.Core.Path.{_≡_}
 use mathlib.Core.Bool.{cond}

@@ -57,8 +57,8 @@ fn multiply_right(
     known
 }
 
-// Adds the products, from left to right, that the last entry of the list makes possible: the entry itself, its products with the elements found before on its
-// left, and those of the new elements with every entry. Returns how many are found.
+// Adds the products, from left to right, that the last entry of the list makes possible: the entry itself, the products with an element found before as the
+// left factor and the entry as the right one, and those of the new elements with every entry. Returns how many are found.
 fn reach(
     cells: &[u8],
     n: usize,

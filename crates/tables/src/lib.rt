@@ -86,7 +86,7 @@ impl Side {
 }
 
 impl Refusal {
-    // Returns the refusal by question `number`, which names no side and has one value, or no value where that is 0.
+    // Returns the refusal by question `number`, which names no side and has this one value, or no value where it is 0.
     pub fn by(number: usize, value: usize) -> Self
         ensures answer { λ r. ⌜ r ≡ refusalNumbers (no number (value ∷ [])) ⌝ }
     {

@@ -95,7 +95,7 @@ fn read_number(text: &[u8], at: usize, end: usize) -> usize
     v
 }
 
-// Asks questions 24, 23 and 25 about the field of digits from `at` to `end`. Returns the first that fails. An empty field passes 24.
+// Asks questions 24, 23 and 25 about the field of digits from `at` to `end`. Returns the first that fails. An empty field passes question 24.
 fn judge_field(text: &[u8], at: usize, end: usize) -> Judged
     requires inside { ⌜ at ≤ length (now text) ⌝ }
     requires whole { ⌜ end ≡ fieldEnd (now text) at ⌝ }

@@ -1,5 +1,5 @@
-// The tables of all transformations of one to three points, written to a lent buffer. An invalid degree or a buffer that is too small is refused, and the buffer then keeps its
-// bytes.
+// The tables of all transformations of one to three points, written to a lent buffer. An invalid degree or a buffer that is too small is refused, and the
+// buffer then keeps its bytes.
 ghost use mathlib.Core.Path.{_≡_};
 ghost use lib.ListN.{length};
 ghost use Rattle.semigroups.specs.Calls.{givenUnless, writtenUnless};
@@ -9,7 +9,7 @@ ghost use Rattle.transformations.specs.InnerQuestions.{roomRefusal};
 use tables::No;
 use tables::Numbered;
 
-// Writes a table of order n to the start of `cells` and answers its order; or answers 9 if there is no room for it.
+// Writes a table of order n to the start of `cells` and answers its order; or answers question 9 if there is no room for it.
 fn put(n: usize, table: &[u8], cells: &mut [u8]) -> Numbered
     ensures answer { λ r. ⌜ numberedSays r ≡ givenUnless (roomRefusal (length (now (table .entry))) (length (now (cells .entry)))) n ⌝ }
     ensures cells { λ r. ⌜ now (cells .exit) ≡ writtenUnless (roomRefusal (length (now (table .entry))) (length (now (cells .entry)))) (now (table .entry)) (now (cells .entry)) ⌝ }
@@ -25,7 +25,7 @@ fn put(n: usize, table: &[u8], cells: &mut [u8]) -> Numbered
     Numbered::Number(n)
 }
 
-// Writes the table of all transformations of `degree` points to the start of `cells` and answers its order; or answers 8 or 9.
+// Writes the table of all transformations of `degree` points to the start of `cells` and answers its order; or answers question 8 or 9.
 pub fn fill(degree: usize, cells: &mut [u8]) -> Numbered
     ensures answer { λ r. ⌜ numberedSays r ≡ transformationSays degree (length (now (cells .entry))) ⌝ }
     ensures cells { λ r. ⌜ now (cells .exit) ≡ transformationCellsAfter degree (now (cells .entry)) ⌝ }
