@@ -7,7 +7,7 @@ use Prim.Native.Nat.{ℕ, zero, suc, _+_, _-_, _*_, _/_, _%_, _^_, _≤_, _<_, m
 use native.Mathlib.Nat.{zero-div, one-mul, pow-suc}
 use native.Mathlib.Omega.{arith}
 use borrow.Author.Tests.{le-leb, lt-leb, eqb-true, eq-eqb, ne-eqb}
-use lib.Bits.{bitAnd, and-zero-l, and-zero-r, and-self}
+use lib.Bits.{bitAnd, and-zero-l, and-self}
 use lib.Count.{ones, trailingZeros, under}
 use lib.Dec.{eqb, leb}
 use lib.ListN.{getD, set}
@@ -20,7 +20,8 @@ use Rattle.semigroups.proofs.Booleans.{and-left, and-right, at-most-or-above, e
 use Rattle.rows.specs.declared.Row.{Row}
 use Rattle.rows.specs.InnerRows.{hasBit, inRow, isEmpty, rowOf, has, packedRow, maskedWord, masked, singleRow, lowestElement, Alone, RowInside, Only, Shrinks, Forced, Marked}
 use Rattle.rows.proofs.Words.{bit-of-word, bit-past, single-word, other-word}
-use Rattle.rows.proofs.Masks.{and-bit, inside-inside, inside-mask, inside-old, inside-bit, ones-zero, ones-power}
+use Rattle.rows.proofs.Masks.{and-bit, inside-inside, inside-mask, inside-old, ones-zero, ones-power}
+use Rattle.rows.proofs.Few.{inside-one}
 
 abbrev pub row : ℕ → ℕ → Row
 row a b = record { lo = a; hi = b }
@@ -105,27 +106,7 @@ module _ (v : ℕ) (hv : Element 120 v) where
 
   -- A row inside it that has a bit is the same row.
   pub inside-single : (r : Row) → RowInside r (singleRow v) → 1 ≤ ones (r .lo) + ones (r .hi) → r ≡ singleRow v
-  inside-single r i h = ⊎-elim low high (at-most-or-above v 60)
-    where
-      nothing : (w : ℕ) → bitAnd w 0 ≡ w → w ≡ 0
-      nothing w e = sym e ∙ and-zero-r w
-
-      no-bits : r .lo ≡ 0 → r .hi ≡ 0 → ⊥
-      no-bits e f = let a = ap ones e ∙ ones-zero in let b = ap ones f ∙ ones-zero in omega arith
-
-      low : v ≤ 60 → r ≡ singleRow v
-      low l =
-          let w = low-words l in
-          let f : r .hi ≡ 0 = nothing (r .hi) (subst (λ (x : ℕ). bitAnd (r .hi) x ≡ r .hi) (w .1) (i .1)) in
-          ⊎-elim (λ (e : r .lo ≡ 0). absurd (no-bits e f)) (λ (e : r .lo ≡ 2 ^ (v - 1)). ap₂ row (e ∙ sym (w .0)) (f ∙ sym (w .1)))
-          (inside-bit (v - 1) (r .lo) (subst (λ (x : ℕ). bitAnd (r .lo) x ≡ r .lo) (w .0) (i .0)))
-
-      high : 60 < v → r ≡ singleRow v
-      high l =
-          let w = high-words l in
-          let f : r .lo ≡ 0 = nothing (r .lo) (subst (λ (x : ℕ). bitAnd (r .lo) x ≡ r .lo) (w .0) (i .0)) in
-          ⊎-elim (λ (e : r .hi ≡ 0). absurd (no-bits f e)) (λ (e : r .hi ≡ 2 ^ (v - 61)). ap₂ row (f ∙ sym (w .0)) (e ∙ sym (w .1)))
-          (inside-bit (v - 61) (r .hi) (subst (λ (x : ℕ). bitAnd (r .hi) x ≡ r .hi) (w .1) (i .1)))
+  inside-single r i h = inside-one (singleRow v) r single-size i h
 
   -- Its element.
   pub in-single : (y : ℕ) → Element 120 y → inRow (singleRow v) y ≡ eqb y v

@@ -1,5 +1,5 @@
 -- The pigeonhole test on rows: a row has no fewer bits than there are rows inside it. Assumes nothing.
-use mathlib.Core.Bool.{Bool, _&&_}
+use mathlib.Core.Bool.{Bool, _&&_, _||_}
 use mathlib.Core.List.{List}
 use Prim.Native.Nat.{ℕ, _+_}
 use lib.Bits.{bitAnd}
@@ -28,3 +28,7 @@ module _ (rows : List ℕ) where
   -- Whether each of m rows has room for the rows inside it.
   unfoldable pub roomy : ℕ → Bool
   roomy m = all (hasRoom m) (elements m)
+
+  -- Whether each of those of m rows that have fewer than two elements has room for the rows inside it.
+  unfoldable pub smallRoomy : ℕ → Bool
+  smallRoomy m = all (λ c. let row = rowOf rows c in leb 2 (ones (row .lo) + ones (row .hi)) || hasRoom m c) (elements m)
