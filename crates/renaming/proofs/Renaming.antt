@@ -14,11 +14,11 @@ use Rattle.semigroups.specs.Tables.{Product, product, Element, Filled, Accepted
 use Rattle.semigroups.specs.Calls.{overwritten}
 use Rattle.semigroups.specs.InnerMaps.{Embedding}
 use Rattle.semigroups.specs.InnerGenerated.{Inside}
-use Rattle.semigroups.specs.Subsemigroups.{renumbered, partCells}
+use Rattle.semigroups.specs.Subsemigroups.{partCells}
 use Rattle.semigroups.proofs.Booleans.{equal-or-not}
 use Rattle.semigroups.proofs.Lists.{getD-range, length-elements, elements-mem, mem-elements}
 use Rattle.semigroups.proofs.NoRepeats.{mem-place, elements-no-repeats}
-use Rattle.semigroups.proofs.Tables.{filled-closed, length-grid}
+use Rattle.semigroups.proofs.Tables.{filled-closed}
 use Rattle.semigroups.proofs.Generated.{same-length}
 use Rattle.semigroups.proofs.Subsemigroups.{part-accepted, part-embeds}
 use Rattle.tables.specs.InnerFound.{adding, addingAll, Found}
@@ -26,7 +26,7 @@ use Rattle.tables.proofs.Found.{mem-all, all-holds, found-nil, found-kept, foun
 use Rattle.generated.specs.InnerParts.{ClosedPart}
 use Rattle.renaming.specs.InnerRenaming.{byFirstPlaces, renamedCells}
 
--- Some arrays hold the elements found.
+-- The elements of a list are found: some arrays hold them.
 abbrev Holds : List ℕ → Type 0
 Holds r = (found : List ℕ) × (marks : List ℕ) × (count : ℕ) × Found r found marks count
 
@@ -63,7 +63,7 @@ module _ (n : ℕ) (cells : List ℕ) (F : Filled n cells) where
   unfolding byFirstPlaces
   first-all x h = all-holds (addingAll [] cells) (elements n) x (elements-mem n x h)
 
-  pub length-first : length list ≡ n
+  length-first : length list ≡ n
   length-first = same-length list (elements n) first-once (elements-no-repeats n) (λ x k. elements-mem n x (first-inside x k)) (λ x k. first-all x (mem-elements n x k)) ∙ length-elements n
 
   first-closed : (x y : ℕ) → List·Memᴰ x list → List·Memᴰ y list → List·Memᴰ (s x y) list
@@ -116,15 +116,6 @@ module _ (n : ℕ) (cells : List ℕ) (F : Filled n cells) where
   unfolding renamedCells
   renamed-embeds = subst (λ (k : ℕ). Embedding k (product k (partCells s list)) n s list) length-first (part-embeds n s list first-inside first-once first-closed)
 
-  length-renamed : length (renamedCells n cells) ≡ n * n
-  unfolding renamedCells partCells
-  length-renamed = length-grid (length list) (length list) (renumbered s list) ∙ ap (λ (k : ℕ). k * k) length-first
-
-  -- A buffer that the renamed table is written to begins with it.
-  module _ (before room : List ℕ) (e : room ≡ overwritten (renamedCells n cells) before) where
-    pub renamed-front : take (n * n) room ≡ renamedCells n cells
-    renamed-front = ap (take (n * n)) e ∙ take-at (renamedCells n cells) (drop (length (renamedCells n cells)) before) (n * n) length-renamed
-
 pub renamed-accepted : (n : ℕ) (cells : List ℕ) → Accepted n cells → Accepted n (renamedCells n cells)
 unfolding renamedCells
 renamed-accepted n cells a =
@@ -132,3 +123,11 @@ renamed-accepted n cells a =
     let l = length-first n cells F in
     let o = F .order in
     subst (λ (k : ℕ). Accepted k (partCells (product n cells) (byFirstPlaces n cells))) l (part-accepted n (product n cells) (byFirstPlaces n cells) (first-inside n cells F) (first-once n cells F) (first-closed n cells F) o (omega arith) (a .associative))
+
+-- A buffer that the renamed table is written to begins with it.
+module _ (n : ℕ) (cells before room : List ℕ) (a : Accepted n cells) (e : room ≡ overwritten (renamedCells n cells) before) where
+  pub renamed-front : take (n * n) room ≡ renamedCells n cells
+  renamed-front = ap (take (n * n)) e ∙ take-at (renamedCells n cells) (drop (length (renamedCells n cells)) before) (n * n) (renamed-accepted n cells a .filled .size)
+
+  pub front-accepted : Accepted n (take (n * n) room)
+  front-accepted = subst (Accepted n) (sym renamed-front) (renamed-accepted n cells a)
