@@ -5,3 +5,4 @@ pub mod Totals
 pub mod Answering
 pub mod Absence
 pub mod Onto
+pub mod Renamed

@@ -212,7 +212,7 @@ fn numbers_of(elements: &[u8], k: usize) -> [u8; PLACES]
 }
 
 // Writes the table of the first k elements, renumbered, row after row.
-fn write_part(cells: &[u8], n: usize, elements: &[u8], k: usize, part: &mut [u8])
+pub fn write_part(cells: &[u8], n: usize, elements: &[u8], k: usize, part: &mut [u8])
     requires { ⌜ Filled n (now cells) ⌝ ∗ ⌜ k ≤ length (now elements) ⌝ ∗ ⌜ ClosedPart n (product n (now cells)) (take k (now elements)) ⌝ ∗ ⌜ k * k ≤ length (now part) ⌝ }
     ensures part { λ r. ⌜ now (part .exit) ≡ overwritten (partCells (product n (now (cells .entry))) (take k (now (elements .entry)))) (now (part .entry)) ⌝ }
 {

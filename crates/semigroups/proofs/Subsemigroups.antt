@@ -80,11 +80,11 @@ module _ (n : ℕ) (s : Product) (e : List ℕ) (inside : Inside n e) (apart : N
   part-order : k ≤ n
   part-order = let b = length-inside e (elements n) apart (λ x m. elements-mem n x (inside x m)) in omega (arith, length-elements n)
 
-  part-accepted : Element 120 n → 1 ≤ k → Associative n s → Accepted k (partCells s e)
+  pub part-accepted : Element 120 n → 1 ≤ k → Associative n s → Accepted k (partCells s e)
   unfolding partCells
   part-accepted h one a = let b = part-order in grid-accepted k (renumbered s e) (omega arith) part-closed (part-associative a)
 
-  part-embeds : Embedding k (product k (partCells s e)) n s e
+  pub part-embeds : Embedding k (product k (partCells s e)) n s e
   unfolding partCells
   part-embeds =
       record {

@@ -1,0 +1,42 @@
+// Tables with their elements numbered anew, by their first places in the table.
+ghost use mathlib.Core.Path.{_≡_};
+ghost use mathlib.Core.List.{_++_};
+ghost use Prim.Native.Nat.{_-_, _*_, _≤_};
+ghost use lib.ListN.{length, replicate};
+ghost use Rattle.semigroups.specs.Tables.{Filled};
+ghost use Rattle.semigroups.specs.Calls.{overwritten};
+ghost use Rattle.renaming.specs.InnerRenaming.{byFirstPlaces, renamedCells};
+use tables::generators::add;
+use tables::limits::ORDER;
+use tables::limits::PLACES;
+
+// Returns the elements in the order of their first places in the table, read row after row; those that stand nowhere follow in rising order, then zeros.
+fn by_first_places(cells: &[u8], n: usize) -> [u8; ORDER]
+    requires { ⌜ Filled n (now cells) ⌝ }
+    ensures answer { λ r. ⌜ r ≡ byFirstPlaces n (now (cells .entry)) ++ replicate (120 - n) 0 ⌝ }
+{
+    let mut found = [0u8; ORDER];
+    let mut marks = [0u8; PLACES];
+    let mut count: usize = 0;
+    let mut i: usize = 0;
+    while i < cells.len() {
+        let x = cells[i] as usize;
+        count = add(&mut found, &mut marks, count, x);
+        i += 1;
+    }
+    let mut x: usize = 0;
+    while x < n {
+        x += 1;
+        count = add(&mut found, &mut marks, count, x);
+    }
+    found
+}
+
+// Writes the table in which each element has its number in the order of first places to `renamed`. The two tables are isomorphic.
+pub fn rename(cells: &[u8], n: usize, renamed: &mut [u8])
+    requires { ⌜ Filled n (now cells) ⌝ ∗ ⌜ n * n ≤ length (now renamed) ⌝ }
+    ensures renamed { λ _. ⌜ now (renamed .exit) ≡ overwritten (renamedCells n (now (cells .entry))) (now (renamed .entry)) ⌝ }
+{
+    let elements = by_first_places(cells, n);
+    generated::write_part(cells, n, &elements, n, renamed);
+}
