@@ -4,3 +4,4 @@ pub mod Rows
 pub mod Room
 pub mod Raising
 pub mod Lowering
+pub mod Turns

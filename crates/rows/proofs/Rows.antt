@@ -12,13 +12,12 @@ use lib.Count.{ones, trailingZeros, under}
 use lib.Dec.{eqb, leb}
 use lib.ListN.{getD, set}
 use lib.Pow.{shl-exact, pow-pos}
-use lib.Seq.{getD-set-other}
+use lib.Seq.{getD-set-other, set-getD}
 use Rattle.semigroups.specs.Lists.{at}
 use Rattle.semigroups.specs.Tables.{Element}
-use Rattle.semigroups.specs.Scratch.{marked}
 use Rattle.semigroups.proofs.Booleans.{and-left, and-right, at-most-or-above, equal-or-not}
 use Rattle.rows.specs.declared.Row.{Row}
-use Rattle.rows.specs.InnerRows.{hasBit, inRow, isEmpty, rowOf, has, packedRow, maskedWord, masked, singleRow, lowestElement, Alone, RowInside, Only, Shrinks, Forced, Marked}
+use Rattle.rows.specs.InnerRows.{hasBit, inRow, isEmpty, rowOf, has, packedRow, maskedWord, masked, singleRow, lowestElement, Alone, RowInside, Only, Shrinks, Forced}
 use Rattle.rows.proofs.Words.{bit-of-word, bit-past, single-word, other-word}
 use Rattle.rows.proofs.Masks.{and-bit, inside-inside, inside-mask, inside-old, inside-bit, ones-zero, ones-power}
 
@@ -205,6 +204,16 @@ other-word-masked : (l : List ℕ) (i w j : ℕ) → 1 ≤ i → 1 ≤ j → (j 
 unfolding at maskedWord
 other-word-masked l i w j hi hj ne = getD-set-other l (i - 1) (j - 1) (bitAnd (getD l (i - 1) 0) w) 0 (λ q. ne (omega arith))
 
+-- A word masked by itself.
+self-masked : (l : List ℕ) (i : ℕ) → maskedWord l i (at l i) ≡ l
+unfolding at maskedWord
+self-masked l i = ap (set l (i - 1)) (and-self (getD l (i - 1) 0)) ∙ set-getD l (i - 1) 0
+
+-- Rows of which one is masked by itself.
+pub masked-self : (rows : List ℕ) (c : ℕ) → masked rows c (rowOf rows c) ≡ rows
+unfolding masked
+masked-self rows c = ap (λ (l : List ℕ). maskedWord l (120 + c) (at rows (120 + c))) (self-masked rows c) ∙ self-masked rows (120 + c)
+
 module _ (rows : List ℕ) (c : ℕ) (hc : Element 120 c) (r : Row) where
   -- The masked row.
   row-masked : rowOf (masked rows c r) c ≡ row (bitAnd (at rows c) (r .lo)) (bitAnd (at rows (120 + c)) (r .hi))
@@ -215,7 +224,7 @@ module _ (rows : List ℕ) (c : ℕ) (hc : Element 120 c) (r : Row) where
       (masked-word low (120 + c) (r .hi) ∙ ap (λ (w : ℕ). bitAnd w (r .hi)) (other-word-masked rows c (r .lo) (120 + c) (omega arith) (omega arith) (λ q. let z : ⊥ = omega arith in z)))
 
   -- Any other row.
-  row-other : (d : ℕ) → Element 120 d → (d ≡ c → ⊥) → rowOf (masked rows c r) d ≡ rowOf rows d
+  pub row-other : (d : ℕ) → Element 120 d → (d ≡ c → ⊥) → rowOf (masked rows c r) d ≡ rowOf rows d
   unfolding masked
   row-other d hd ne =
       let low = maskedWord rows c (r .lo) in
@@ -293,43 +302,3 @@ module _ (rows newRows : List ℕ) where
 
     pub forced-shrinks : Shrinks rows newRows
     forced-shrinks = subst (Shrinks rows) (sym F) (masked-shrinks rows c hc (singleRow v))
-
--- ---- rows masked one after another: those before c are done
-
-pub record Masking (n : ℕ) (scratch : List ℕ) (old new : ℕ → ℕ → Bool) (c : ℕ) : Type 0 where
-  pub done : (d y : ℕ) → 1 ≤ d → d < c → Element 120 y → new d y ≡ (old d y && (leb y n && marked n scratch d y))
-  pub ahead : (d y : ℕ) → c ≤ d → d ≤ 120 → Element 120 y → new d y ≡ old d y
-
-pub masking-start : (n : ℕ) (scratch : List ℕ) (old : ℕ → ℕ → Bool) → Masking n scratch old old 1
-masking-start n scratch old = record { done = λ d y a b hy. absurd (let z : ⊥ = omega arith in z); ahead = λ d y a b hy. refl }
-
-pub masking-step : (n : ℕ) (scratch : List ℕ) (old : ℕ → ℕ → Bool) (rows : List ℕ) (c : ℕ) → Element 120 c → Masking n scratch old (has rows) c → (r : Row) → r ≡ packedRow n (marked n scratch c)
-    → Masking n scratch old (has (masked rows c r)) (c + 1)
-masking-step n scratch old rows c hc M r e =
-    record {
-      done = λ d y a b hy. go d y a b hy (equal-or-not d c);
-      ahead = λ d y a b hy. other-masked rows c hc r y d (omega arith) (λ q. let z : ⊥ = omega arith in z) ∙ M .ahead d y (omega arith) b hy;
-    }
-  where
-    new : ℕ → ℕ → Bool
-    new = has (masked rows c r)
-
-    go : (d y : ℕ) → 1 ≤ d → d < c + 1 → Element 120 y → (d ≡ c) ⊎ (d ≡ c → ⊥) → new d y ≡ (old d y && (leb y n && marked n scratch d y))
-    go d y a b hy (inl q) =
-        subst (λ (k : ℕ). new k y ≡ (old k y && (leb y n && marked n scratch k y))) (sym q)
-        (has-masked rows c hc r y ∙ ap₂ _&&_ (M .ahead c y (omega arith) (hc .1) hy) (ap (λ (w : Row). inRow w y) e ∙ all-packed-row n (marked n scratch c) y hy))
-    go d y a b hy (inr ne) = other-masked rows c hc r y d (omega arith) ne ∙ M .done d y a (omega arith) hy
-
-pub masking-end : (m n : ℕ) (scratch : List ℕ) (old new : ℕ → ℕ → Bool) (c : ℕ) → c ≡ m + 1 → Masking n scratch old new c → Marked m n scratch old new
-masking-end m n scratch old new c e M d y hd hy = ⊎-elim below above (at-most-or-above d m)
-  where
-    below : d ≤ m → new d y ≡ (old d y && cond (leb d m) (leb y n && marked n scratch d y) true)
-    below h = M .done d y (hd .0) (omega arith) hy ∙ sym (ap (λ (b : Bool). old d y && cond b (leb y n && marked n scratch d y) true) (le-leb d m h))
-
-    above : m < d → new d y ≡ (old d y && cond (leb d m) (leb y n && marked n scratch d y) true)
-    above h = M .ahead d y (omega arith) (hd .1) hy ∙ sym (ap (λ (b : Bool). old d y && cond b (leb y n && marked n scratch d y) true) (lt-leb d m h) ∙ and-true (old d y))
-
--- What is left of the first m rows and of n elements.
-pub marked-within : (m n : ℕ) (scratch : List ℕ) (old new : ℕ → ℕ → Bool) → Marked m n scratch old new → m ≤ 120 → n ≤ 120 → (c y : ℕ) → Element m c → Element n y → new c y ≡ (old c y && marked n scratch c y)
-marked-within m n scratch old new M lm ln c y hc hy =
-    M c y (omega arith) (omega arith) ∙ ap₂ (λ (a b : Bool). old c y && cond a (b && marked n scratch c y) true) (le-leb c m (hc .1)) (le-leb y n (hy .1))
