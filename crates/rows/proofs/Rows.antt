@@ -17,9 +17,9 @@ use Rattle.semigroups.specs.Lists.{at}
 use Rattle.semigroups.specs.Tables.{Element}
 use Rattle.semigroups.proofs.Booleans.{and-left, and-right, at-most-or-above, equal-or-not}
 use Rattle.rows.specs.declared.Row.{Row}
-use Rattle.rows.specs.InnerRows.{hasBit, inRow, isEmpty, rowOf, has, packedRow, maskedWord, masked, singleRow, lowestElement, Alone, RowInside, Only, Shrinks, Forced}
+use Rattle.rows.specs.InnerRows.{hasBit, inRow, isEmpty, rowOf, has, word, packedRow, maskedWord, masked, singleRow, lowestElement, Alone, RowInside, Only, Shrinks, Forced}
 use Rattle.rows.proofs.Words.{bit-of-word, bit-past, single-word, other-word}
-use Rattle.rows.proofs.Masks.{and-bit, inside-inside, inside-mask, inside-old, inside-bit, ones-zero, ones-power}
+use Rattle.rows.proofs.Masks.{and-bit, same-bits, inside-inside, inside-mask, inside-old, inside-bit, ones-zero, ones-power}
 
 abbrev pub row : ℕ → ℕ → Row
 row a b = record { lo = a; hi = b }
@@ -224,7 +224,7 @@ module _ (rows : List ℕ) (c : ℕ) (hc : Element 120 c) (r : Row) where
       (masked-word low (120 + c) (r .hi) ∙ ap (λ (w : ℕ). bitAnd w (r .hi)) (other-word-masked rows c (r .lo) (120 + c) (omega arith) (omega arith) (λ q. let z : ⊥ = omega arith in z)))
 
   -- Any other row.
-  pub row-other : (d : ℕ) → Element 120 d → (d ≡ c → ⊥) → rowOf (masked rows c r) d ≡ rowOf rows d
+  row-other : (d : ℕ) → Element 120 d → (d ≡ c → ⊥) → rowOf (masked rows c r) d ≡ rowOf rows d
   unfolding masked
   row-other d hd ne =
       let low = maskedWord rows c (r .lo) in
@@ -239,6 +239,40 @@ module _ (rows : List ℕ) (c : ℕ) (hc : Element 120 c) (r : Row) where
   pub other-masked : (y d : ℕ) → Element 120 d → (d ≡ c → ⊥) → has (masked rows c r) d y ≡ has rows d y
   unfolding has
   other-masked y d hd ne = ap (λ (w : Row). inRow w y) (row-other d hd ne)
+
+-- A word that is masked needs no test of its own bits.
+own-word : (w from k : ℕ) (p q : ℕ → Bool) → ((j : ℕ) → j < k → p (from + j) ≡ (hasBit w j && q (from + j))) → bitAnd w (word p from k) ≡ bitAnd w (word q from k)
+own-word w from k p q own = same-bits (bitAnd w (word p from k)) (bitAnd w (word q from k)) (λ j. and-bit w (word p from k) j ∙ go j (at-most-or-above k j) ∙ sym (and-bit w (word q from k) j))
+  where
+    twice : (a b : Bool) → (a && (a && b)) ≡ (a && b)
+    twice true b = refl
+    twice false b = refl
+
+    go : (j : ℕ) → (k ≤ j) ⊎ (j < k) → (hasBit w j && hasBit (word p from k) j) ≡ (hasBit w j && hasBit (word q from k) j)
+    go j (inl h) = ap (λ (b : Bool). hasBit w j && b) (bit-past p from k j h ∙ sym (bit-past q from k j h))
+    go j (inr h) = ap (λ (b : Bool). hasBit w j && b) (bit-of-word p from k j h ∙ own j h) ∙ twice (hasBit w j) (q (from + j)) ∙ sym (ap (λ (b : Bool). hasBit w j && b) (bit-of-word q from k j h))
+
+-- Nor does a row.
+pub masked-own : (rows : List ℕ) (c n : ℕ) (q : ℕ → Bool) → 1 ≤ c → n ≤ 120 → masked rows c (packedRow n (λ y. inRow (rowOf rows c) y && q y)) ≡ masked rows c (packedRow n q)
+unfolding masked maskedWord packedRow
+masked-own rows c n q hc hn =
+    ap (λ (l : List ℕ). maskedWord l (120 + c) (word own 61 (n - 60))) (ap (set rows (c - 1)) low)
+    ∙ ap (set kept (120 + c - 1)) (ap (λ (w : ℕ). bitAnd w (word own 61 (n - 60))) other ∙ high ∙ sym (ap (λ (w : ℕ). bitAnd w (word q 61 (n - 60))) other))
+  where
+    own : ℕ → Bool
+    own y = inRow (rowOf rows c) y && q y
+
+    kept : List ℕ
+    kept = maskedWord rows c (word q 1 (min n 60))
+
+    other : at kept (120 + c) ≡ at rows (120 + c)
+    other = other-word-masked rows c (word q 1 (min n 60)) (120 + c) hc (omega arith) (λ e. let z : ⊥ = omega arith in z)
+
+    low : bitAnd (at rows c) (word own 1 (min n 60)) ≡ bitAnd (at rows c) (word q 1 (min n 60))
+    low = own-word (at rows c) 1 (min n 60) own q (λ j h. ap (λ (b : Bool). b && q (1 + j)) (sym (row-low (rowOf rows c) (1 + j) (omega arith)) ∙ ap (hasBit (at rows c)) (let z : 1 + j - 1 ≡ j = omega arith in z)))
+
+    high : bitAnd (at rows (120 + c)) (word own 61 (n - 60)) ≡ bitAnd (at rows (120 + c)) (word q 61 (n - 60))
+    high = own-word (at rows (120 + c)) 61 (n - 60) own q (λ j h. ap (λ (b : Bool). b && q (61 + j)) (sym (row-high (rowOf rows c) (61 + j) (omega arith)) ∙ ap (hasBit (at rows (120 + c))) (let z : 61 + j - 61 ≡ j = omega arith in z)))
 
 -- What is left where row c is masked by the row of v: of row c v alone, of the others what was.
 pub forced-has : (rows newRows : List ℕ) (c v : ℕ) → Element 120 c → Element 120 v → Forced c v rows newRows

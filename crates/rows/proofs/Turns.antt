@@ -10,9 +10,9 @@ use lib.Dec.{leb}
 use Rattle.semigroups.specs.Tables.{Element}
 use Rattle.semigroups.proofs.Booleans.{both, and-left, and-right, same-truth, either, clash, equal-or-not}
 use Rattle.rows.specs.declared.Row.{Row}
-use Rattle.rows.specs.InnerRows.{rowOf, has, packedRow, masked, Shrinks, inTurn, keptRows, cutRows}
+use Rattle.rows.specs.InnerRows.{has, packedRow, masked, Shrinks, inTurn, keptRows, cutRows}
 use Rattle.rows.proofs.Words.{word-same}
-use Rattle.rows.proofs.Rows.{row, row-other, all-packed-row, shrinks-none, shrinks-more, masked-shrinks}
+use Rattle.rows.proofs.Rows.{row, all-packed-row, shrinks-none, shrinks-more, masked-shrinks}
 use Rattle.rows.proofs.Raising.{CutAt, row-cut}
 
 -- ---- step by step, as in a loop
@@ -102,13 +102,6 @@ unfolding inTurn
 kept-same zero n p q same rows = refl
 kept-same (suc m) n p q same rows =
     ap₂ (λ (l : List ℕ) (r : Row). masked l (suc m) r) (kept-same m n p q (λ c y hc hy. same c y (omega arith) hy) rows) (packed-same n (p (suc m)) (q (suc m)) (λ y hy. same (suc m) y (omega arith) hy))
-
--- A row that was not reached yet is as it was.
-pub kept-ahead : (m n : ℕ) (p : ℕ → ℕ → Bool) (rows : List ℕ) (c : ℕ) → m < c → c ≤ 120 → rowOf (keptRows m n p rows) c ≡ rowOf rows c
-unfolding inTurn
-kept-ahead zero n p rows c h l = refl
-kept-ahead (suc m) n p rows c h l =
-    row-other (keptRows m n p rows) (suc m) (omega arith) (packedRow n (p (suc m))) c (omega arith) (λ q. let z : ⊥ = omega arith in z) ∙ kept-ahead m n p rows c (omega arith) l
 
 module _ (m n : ℕ) (p : ℕ → ℕ → Bool) where
   -- Of the elements 1 to 120, each of the first m rows has exactly those of its own that are at most n and pass; the rows above m have theirs.
