@@ -12,7 +12,7 @@ use lib.Count.{ones, trailingZeros, under}
 use lib.Dec.{eqb, leb}
 use lib.ListN.{getD, set}
 use lib.Pow.{shl-exact, pow-pos}
-use lib.Seq.{getD-set-other, set-getD}
+use lib.Seq.{getD-set-other, set-getD, set-comm}
 use Rattle.semigroups.specs.Lists.{at}
 use Rattle.semigroups.specs.Tables.{Element}
 use Rattle.semigroups.proofs.Booleans.{and-left, and-right, at-most-or-above, equal-or-not}
@@ -203,6 +203,25 @@ masked-word l i w = masked-at l (i - 1) w
 other-word-masked : (l : List ℕ) (i w j : ℕ) → 1 ≤ i → 1 ≤ j → (j ≡ i → ⊥) → at (maskedWord l i w) j ≡ at l j
 unfolding at maskedWord
 other-word-masked l i w j hi hj ne = getD-set-other l (i - 1) (j - 1) (bitAnd (getD l (i - 1) 0) w) 0 (λ q. ne (omega arith))
+
+-- Two words are masked in either order.
+words-swap : (l : List ℕ) (i j v w : ℕ) → 1 ≤ i → 1 ≤ j → (i ≡ j → ⊥) → maskedWord (maskedWord l i v) j w ≡ maskedWord (maskedWord l j w) i v
+unfolding maskedWord
+words-swap l i j v w hi hj ne =
+    ap (λ (x : ℕ). set (maskedWord l i v) (j - 1) (bitAnd x w)) (other-word-masked l i v j hi hj (λ q. ne (sym q)))
+    ∙ set-comm l (i - 1) (j - 1) (bitAnd (at l i) v) (bitAnd (at l j) w) (λ q. ne (omega arith))
+    ∙ sym (ap (λ (x : ℕ). set (maskedWord l j w) (i - 1) (bitAnd x v)) (other-word-masked l j w i hj hi ne))
+
+-- So are two rows.
+pub masked-swap : (rows : List ℕ) (c d : ℕ) (r q : Row) → Element 120 c → Element 120 d → (c ≡ d → ⊥) → masked (masked rows c r) d q ≡ masked (masked rows d q) c r
+unfolding masked
+masked-swap rows c d r q hc hd ne =
+    let low = maskedWord rows c (r .lo) in
+    let both = maskedWord rows d (q .lo) in
+    ap (λ (l : List ℕ). maskedWord l (120 + d) (q .hi)) (words-swap low (120 + c) d (r .hi) (q .lo) (omega arith) (omega arith) (λ e. let z : ⊥ = omega arith in z))
+    ∙ words-swap (maskedWord low d (q .lo)) (120 + c) (120 + d) (r .hi) (q .hi) (omega arith) (omega arith) (λ e. ne (omega arith))
+    ∙ ap (λ (l : List ℕ). maskedWord (maskedWord l (120 + d) (q .hi)) (120 + c) (r .hi)) (words-swap rows c d (r .lo) (q .lo) (omega arith) (omega arith) ne)
+    ∙ ap (λ (l : List ℕ). maskedWord l (120 + c) (r .hi)) (words-swap both c (120 + d) (r .lo) (q .hi) (omega arith) (omega arith) (λ e. let z : ⊥ = omega arith in z))
 
 -- A word masked by itself.
 self-masked : (l : List ℕ) (i : ℕ) → maskedWord l i (at l i) ≡ l

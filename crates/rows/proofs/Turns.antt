@@ -40,6 +40,14 @@ module _ (chosen : ℕ → Bool) (cut : List ℕ → ℕ → List ℕ) (old : Li
   pub turn-skip : chosen c ≡ false → new ≡ rows → new ≡ cutRows (c + 1 - 1) chosen cut old
   turn-skip o s = turn-next (λ k l. cond (chosen k) (cut l k) l) old c rows new h e (s ∙ sym (ap (λ (b : Bool). cond b (cut rows c) rows) o))
 
+-- Where no row is chosen, none is cut.
+pub none-chosen : (m : ℕ) (chosen : ℕ → Bool) (cut : List ℕ → ℕ → List ℕ) → ((c : ℕ) → Element m c → chosen c ≡ false) → (rows : List ℕ) → cutRows m chosen cut rows ≡ rows
+unfolding inTurn
+none-chosen zero chosen cut none rows = refl
+none-chosen (suc m) chosen cut none rows =
+    let before = cutRows m chosen cut rows in
+    ap (λ (b : Bool). cond b (cut before (suc m)) before) (none (suc m) (omega arith)) ∙ none-chosen m chosen cut (λ c h. none c (omega arith)) rows
+
 -- ---- what is left
 
 -- Of the elements 1 to 120, each of the first m rows keeps those of its own that pass, and no other row changes.
@@ -71,15 +79,15 @@ module _ (step : ℕ → List ℕ → List ℕ) where
 
 module _ (chosen : ℕ → Bool) (cut : List ℕ → ℕ → List ℕ) (m : ℕ) (lm : m ≤ 120) where
   -- The rows that are chosen keep what passes.
-  pub chosen-cut : (P : ℕ → Type 0) → ((rows : List ℕ) (c : ℕ) → Element 120 c → CutAt c P (has rows) (has (cut rows c))) → (rows : List ℕ) → CutTo m (λ d y. chosen d ≡ true → P y) (has rows) (has (cutRows m chosen cut rows))
-  chosen-cut P each = turns-cut (λ c rows. cond (chosen c) (cut rows c) rows) (λ d y. chosen d ≡ true → P y) m (λ c rows hc. one c rows hc (either (chosen c)))
+  pub chosen-cut : (P : ℕ → ℕ → Type 0) → ((rows : List ℕ) (c : ℕ) → Element 120 c → CutAt c (P c) (has rows) (has (cut rows c))) → (rows : List ℕ) → CutTo m (λ d y. chosen d ≡ true → P d y) (has rows) (has (cutRows m chosen cut rows))
+  chosen-cut P each = turns-cut (λ c rows. cond (chosen c) (cut rows c) rows) (λ d y. chosen d ≡ true → P d y) m (λ c rows hc. one c rows hc (either (chosen c)))
     where
-      one : (c : ℕ) (rows : List ℕ) → Element m c → (chosen c ≡ true) ⊎ (chosen c ≡ false) → CutAt c (λ y. chosen c ≡ true → P y) (has rows) (has (cond (chosen c) (cut rows c) rows))
+      one : (c : ℕ) (rows : List ℕ) → Element m c → (chosen c ≡ true) ⊎ (chosen c ≡ false) → CutAt c (λ y. chosen c ≡ true → P c y) (has rows) (has (cond (chosen c) (cut rows c) rows))
       one c rows hc (inl o) =
-          subst (λ (l : List ℕ). CutAt c (λ y. chosen c ≡ true → P y) (has rows) (has l)) (sym (ap (λ (b : Bool). cond b (cut rows c) rows) o))
+          subst (λ (l : List ℕ). CutAt c (λ y. chosen c ≡ true → P c y) (has rows) (has l)) (sym (ap (λ (b : Bool). cond b (cut rows c) rows) o))
           (λ d y hd hy. let E = each rows c (omega arith) d y hd hy in ((λ e. (E .0 e .0, λ q _. E .0 e .1 q)), λ e. E .1 (e .0, λ q. e .1 q o)))
       one c rows hc (inr o) =
-          subst (λ (l : List ℕ). CutAt c (λ y. chosen c ≡ true → P y) (has rows) (has l)) (sym (ap (λ (b : Bool). cond b (cut rows c) rows) o))
+          subst (λ (l : List ℕ). CutAt c (λ y. chosen c ≡ true → P c y) (has rows) (has l)) (sym (ap (λ (b : Bool). cond b (cut rows c) rows) o))
           (λ d y hd hy. ((λ e. (e, λ q t. absurd (clash t o))), λ e. e .0))
 
   pub chosen-shrink : ((rows : List ℕ) (c : ℕ) → Element 120 c → Shrinks rows (cut rows c)) → (rows : List ℕ) → Shrinks rows (cutRows m chosen cut rows)
@@ -95,6 +103,10 @@ module _ (chosen : ℕ → Bool) (cut : List ℕ → ℕ → List ℕ) (m : ℕ)
 pub packed-same : (n : ℕ) (p q : ℕ → Bool) → ((y : ℕ) → Element n y → p y ≡ q y) → packedRow n p ≡ packedRow n q
 unfolding packedRow
 packed-same n p q same = ap₂ row (word-same p q 1 (min n 60) (λ j h. same (1 + j) (omega arith))) (word-same p q 61 (n - 60) (λ j h. same (61 + j) (omega arith)))
+
+-- A row masked by a packed row keeps what passes.
+pub packed-cut : (n : ℕ) (p : ℕ → Bool) (rows : List ℕ) (c : ℕ) → Element 120 c → CutAt c (λ y. (leb y n && p y) ≡ true) (has rows) (has (masked rows c (packedRow n p)))
+packed-cut n p rows c hc = row-cut rows c (λ y. (leb y n && p y) ≡ true) hc (packedRow n p) (λ y hy _. let same = all-packed-row n p y hy in ((λ e. sym same ∙ e), λ e. same ∙ e))
 
 -- Two tests that agree on the first m rows and on n elements leave the same.
 pub kept-same : (m n : ℕ) (p q : ℕ → ℕ → Bool) → ((c y : ℕ) → Element m c → Element n y → p c y ≡ q c y) → (rows : List ℕ) → keptRows m n p rows ≡ keptRows m n q rows
@@ -118,13 +130,8 @@ module _ (m n : ℕ) (p : ℕ → ℕ → Bool) where
       passes-if true h = h refl
       passes-if false h = refl
 
-      one : (d : ℕ) (l : List ℕ) → Element m d → CutAt d (λ z. (leb z n && p d z) ≡ true) (has l) (has (masked l d (packedRow n (p d))))
-      one d l hd =
-          row-cut l d (λ z. (leb z n && p d z) ≡ true) (omega arith) (packedRow n (p d))
-          (λ z hz _. let same = all-packed-row n (p d) z hz in ((λ e. sym same ∙ e), λ e. same ∙ e))
-
       left : (has (keptRows m n p rows) c y ≡ true) ↔ ((has rows c y ≡ true) × (c ≤ m → (leb y n && p c y) ≡ true))
-      left = turns-cut (λ d l. masked l d (packedRow n (p d))) (λ d z. (leb z n && p d z) ≡ true) m one rows c y hc hy
+      left = turns-cut (λ d l. masked l d (packedRow n (p d))) (λ d z. (leb z n && p d z) ≡ true) m (λ d l hd. packed-cut n (p d) l d (omega arith)) rows c y hc hy
 
   pub kept-shrinks : m ≤ 120 → (rows : List ℕ) → Shrinks rows (keptRows m n p rows)
   kept-shrinks lm = turns-shrink (λ c rows. masked rows c (packedRow n (p c))) m (λ c rows hc. masked-shrinks rows c (omega arith) (packedRow n (p c)))
