@@ -12,7 +12,7 @@ use Rattle.semigroups.proofs.Booleans.{both, and-left, and-right, same-truth, e
 use Rattle.rows.specs.declared.Row.{Row}
 use Rattle.rows.specs.InnerRows.{has, packedRow, masked, Shrinks, inTurn, keptRows, cutRows}
 use Rattle.rows.proofs.Words.{word-same}
-use Rattle.rows.proofs.Rows.{row, all-packed-row, shrinks-none, shrinks-more, masked-shrinks}
+use Rattle.rows.proofs.Rows.{row, all-packed-row, shrinks-none, shrinks-more}
 use Rattle.rows.proofs.Raising.{CutAt, row-cut}
 
 -- ---- step by step, as in a loop
@@ -71,7 +71,7 @@ module _ (step : ℕ → List ℕ → List ℕ) where
       passes one others h (inr ne) = others (omega arith)
 
   -- If no step adds a bit, all of them add none.
-  pub turns-shrink : (m : ℕ) → ((c : ℕ) (rows : List ℕ) → Element m c → Shrinks rows (step c rows)) → (rows : List ℕ) → Shrinks rows (inTurn step m rows)
+  turns-shrink : (m : ℕ) → ((c : ℕ) (rows : List ℕ) → Element m c → Shrinks rows (step c rows)) → (rows : List ℕ) → Shrinks rows (inTurn step m rows)
   unfolding inTurn
   turns-shrink zero each rows = shrinks-none rows
   turns-shrink (suc m) each rows =
@@ -132,9 +132,6 @@ module _ (m n : ℕ) (p : ℕ → ℕ → Bool) where
 
       left : (has (keptRows m n p rows) c y ≡ true) ↔ ((has rows c y ≡ true) × (c ≤ m → (leb y n && p c y) ≡ true))
       left = turns-cut (λ d l. masked l d (packedRow n (p d))) (λ d z. (leb z n && p d z) ≡ true) m (λ d l hd. packed-cut n (p d) l d (omega arith)) rows c y hc hy
-
-  pub kept-shrinks : m ≤ 120 → (rows : List ℕ) → Shrinks rows (keptRows m n p rows)
-  kept-shrinks lm = turns-shrink (λ c rows. masked rows c (packedRow n (p c))) m (λ c rows hc. masked-shrinks rows c (omega arith) (packedRow n (p c)))
 
   -- What is left of the first m rows and of n elements.
   pub kept-within : m ≤ 120 → n ≤ 120 → (rows : List ℕ) (c y : ℕ) → Element m c → Element n y → has (keptRows m n p rows) c y ≡ (has rows c y && p c y)
