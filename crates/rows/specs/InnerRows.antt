@@ -79,11 +79,11 @@ Shrinks rows newRows = (c : ℕ) → Element largestOrder c → RowInside (rowOf
 abbrev pub Forced : ℕ → ℕ → List ℕ → List ℕ → Type 0
 Forced c v rows newRows = newRows ≡ masked rows c (singleRow v)
 
--- The row with only those of its elements that are above x.
+-- The row with only those of its elements that are above x. Bits that stand for no element count as coming after the last one of their word.
 unfoldable pub upperRow : Row → ℕ → Row
 upperRow row x = cond (leb x 60) (record { lo = row .lo / 2 ^ x * 2 ^ x; hi = row .hi }) (record { lo = 0; hi = row .hi / 2 ^ (x - 60) * 2 ^ (x - 60) })
 
--- The row with only those of its elements that are below x; above 120 nothing is taken out.
+-- The row with only those of its elements that are below x, such bits counted in the same way. If x is above 120, nothing is taken out.
 unfoldable pub underRow : Row → ℕ → Row
 underRow row x =
     cond (leb x 60) (record { lo = row .lo % 2 ^ (x - 1); hi = 0 })
@@ -106,6 +106,6 @@ inTurn step (suc c) rows = step (suc c) (inTurn step c rows)
 abbrev pub keptRows : ℕ → ℕ → (ℕ → ℕ → Bool) → List ℕ → List ℕ
 keptRows m n p = inTurn (λ c rows. masked rows c (packedRow n (p c))) m
 
--- The rows after a cut of those of the first m rows, in turn, that are chosen.
+-- The rows after those of the first m rows that are chosen are cut in turn.
 abbrev pub cutRows : ℕ → (ℕ → Bool) → (List ℕ → ℕ → List ℕ) → List ℕ → List ℕ
 cutRows m chosen cut = inTurn (λ c rows. cond (chosen c) (cut rows c) rows) m
