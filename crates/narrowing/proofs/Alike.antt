@@ -1,14 +1,11 @@
 -- The search finds the same over any two marks that the same embeddings are among, such as those in rows. Assumes nothing.
-use mathlib.Core.Path.{_≡_, refl, sym, ap, ap₂, _∙_}
+use mathlib.Core.Path.{_≡_, refl, sym, ap, _∙_}
 use mathlib.Core.Bool.{Bool, true, false, _&&_}
 use mathlib.Core.List.{List, []}
-use Prim.Native.Nat.{ℕ, _+_, _-_, _≤_}
-use native.Mathlib.Omega.{arith}
-use lib.ListN.{replicate, getD-replicate}
+use Prim.Native.Nat.{ℕ}
 use Rattle.semigroups.specs.Lists.{elements, at, all, lists}
-use Rattle.semigroups.specs.Tables.{Product, Element}
+use Rattle.semigroups.specs.Tables.{Product}
 use Rattle.semigroups.specs.TablesLaws.{Closed}
-use Rattle.semigroups.specs.Scratch.{marked}
 use Rattle.semigroups.specs.InnerMaps.{Embedding, Among}
 use Rattle.semigroups.specs.Maps.{isEmbedding, Ask, beyond}
 use Rattle.semigroups.specs.InnerSearch.{search, isWanted}
@@ -17,9 +14,6 @@ use Rattle.semigroups.proofs.Lists.{each-at, each-of, find-same}
 use Rattle.semigroups.proofs.Completions.{extensions, findExtension}
 use Rattle.semigroups.proofs.Maps.{is-embedding}
 use Rattle.semigroups.proofs.Search.{search-extension}
-use Rattle.rows.specs.declared.Row.{Row}
-use Rattle.rows.specs.InnerRows.{inRow, has, word, packedRow, Marked}
-use Rattle.rows.proofs.Rows.{row, in-packed-row, marked-within}
 
 module _ (m : ℕ) (s : Product) (n : ℕ) (t : Product) (c d : ℕ → ℕ → Bool) (forth : (f : List ℕ) → Embedding m s n t f → Among m c f → Among m d f) (back : (f : List ℕ) → Embedding m s n t f → Among m d f → Among m c f) (ask : Ask) where
   wanted-alike : (f : List ℕ) → isWanted m s n t c ask f ≡ isWanted m s n t d ask f
@@ -42,22 +36,3 @@ module _ (m : ℕ) (s : Product) (n : ℕ) (t : Product) (c d : ℕ → ℕ → 
 
   pub search-alike : Closed m s → search s t c ask n m [] ≡ search s t d ask n m []
   search-alike closed = search-extension m s n t c ask closed ∙ found-alike ∙ sym (search-extension m s n t d ask closed)
-
--- ---- rows with every element
-
-full-row : row 1152921504606846975 1152921504606846975 ≡ packedRow 120 (λ _. true)
-unfolding packedRow word
-full-row = refl
-
-pub all-left : (c y : ℕ) → Element 120 c → Element 120 y → has (replicate 240 1152921504606846975) c y ≡ true
-unfolding has at
-all-left c y hc hy =
-    let low = getD-replicate {A = ℕ} 240 (c - 1) 1152921504606846975 0 (omega arith) in
-    let high = getD-replicate {A = ℕ} 240 (120 + c - 1) 1152921504606846975 0 (omega arith) in
-    ap₂ (λ (a b : ℕ). inRow (row a b) y) low high ∙ ap (λ (r : Row). inRow r y) full-row ∙ in-packed-row 120 (λ _. true) y hy
-
--- Rows that had every element have exactly the marked ones.
-pub rows-marked : (m n : ℕ) (scratch : List ℕ) (old new : ℕ → ℕ → Bool) → m ≤ 120 → n ≤ 120 → ((c y : ℕ) → Element 120 c → Element 120 y → old c y ≡ true) → Marked m n scratch old new
-    → (c y : ℕ) → Element m c → Element n y → new c y ≡ marked n scratch c y
-rows-marked m n scratch old new lm ln full M c y hc hy =
-    marked-within m n scratch old new M lm ln c y hc hy ∙ ap (λ (b : Bool). b && marked n scratch c y) (full c y (omega arith) (omega arith))

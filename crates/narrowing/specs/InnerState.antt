@@ -5,7 +5,7 @@ use mathlib.Core.Logic.{_⊎_}
 use mathlib.Core.Option.{Option}
 use mathlib.Core.List.{List}
 use Prim.Native.Nat.{ℕ, _+_, _-_, _≤_, _<_}
-use lib.Dec.{leb}
+use lib.Dec.{eqb}
 use lib.ListN.{length, take, drop, replicate}
 use Rattle.semigroups.specs.Lists.{at}
 use Rattle.semigroups.specs.Tables.{Product, Element}
@@ -14,10 +14,11 @@ use Rattle.semigroups.specs.InnerMaps.{Embedding, Among}
 use Rattle.semigroups.specs.Trials.{passes}
 use Rattle.semigroups.specs.InnerSearch.{Placed}
 use Rattle.backtrack.specs.InnerState.{bounded}
-use Rattle.rows.specs.InnerRows.{has, masked, singleRow, Only, Shrinks}
+use Rattle.colours.specs.InnerColours.{sameColour}
+use Rattle.rows.specs.InnerRows.{has, Only, keptRows}
 use Rattle.rows.specs.InnerRoom.{roomy}
 use Rattle.propagation.specs.InnerRows.{Begins, Images, MultipliedBefore, Narrows, KeptOrEmptied, NarrowedInTurn}
-use Rattle.twins.specs.InnerTwins.{rises, Lifted, earliestRising}
+use Rattle.twins.specs.InnerTwins.{rises, earliestRising}
 use Rattle.narrowing.specs.declared.Partial.{Partial}
 
 -- The list placed so far.
@@ -28,13 +29,21 @@ placedList p = take (p .len) (p .image)
 abbrev pub rowsIn : Partial → ℕ → ℕ → Bool
 rowsIn p = has (p .rows)
 
--- Of the elements 1 to 120, each of the first m rows keeps exactly those that are at most n and pass; the rows above m are as they were.
-abbrev pub KeepsExactly : ℕ → ℕ → (ℕ → ℕ → Bool) → (ℕ → ℕ → Bool) → (ℕ → ℕ → Bool) → Type 0
-KeepsExactly m n p old new = (c y : ℕ) → Element 120 c → Element 120 y → new c y ≡ (old c y && cond (leb c m) (leb y n && p c y) true)
+-- Rows with every target element.
+abbrev pub fullRows : List ℕ
+fullRows = replicate 240 1152921504606846975
 
--- There is no image yet.
-abbrev pub Blank : List ℕ → Type 0
-Blank image = image ≡ replicate 120 0
+-- The map with nothing placed, and these rows.
+abbrev pub blank : List ℕ → Partial
+blank rows = record { image = replicate 120 0; rows = rows; len = 0; ok = true }
+
+-- The map with only those of n target elements in each of its first m rows that pass the test of that row.
+abbrev pub keptPartial : ℕ → ℕ → (ℕ → ℕ → Bool) → Partial → Partial
+keptPartial m n test p = record { image = p .image; rows = keptRows m n test (p .rows); len = p .len; ok = p .ok }
+
+-- The rows with the candidates among n target elements in the first m rows; where the orders are equal, only those of the same colour.
+unfoldable pub startRows : ℕ → Product → ℕ → Product → (ℕ → ℕ → Bool) → List ℕ
+startRows m s n t candidate = let rows = keptRows m n candidate fullRows in cond (eqb m n) (keptRows n n (sameColour n s t) rows) rows
 
 -- What a call must return.
 abbrev pub Due : Product → ℕ → Product → ℕ → List ℕ → List ℕ → (ℕ → ℕ → Bool) → Bool → Partial → Option (List ℕ)
@@ -70,13 +79,6 @@ pub record Tested (m : ℕ) (s : Product) (n : ℕ) (t : Product) (image : List 
   pub multiplied : MultipliedBefore s t image l rows (l + 1) mid
   pub narrowed : NarrowedInTurn m s n t l (at image l) mid kept (p .rows)
   pub verdict : p .ok ≡ (kept && roomy (p .rows) m)
-
--- The rows and `ok` once x is placed for l and tested, after the rows of the elements that the relation leads to from l have lost what is not above x.
-pub record TestedRaised (m : ℕ) (s : Product) (n : ℕ) (t : Product) (relation : ℕ → ℕ → Bool) (image : List ℕ) (l x : ℕ) (rows : List ℕ) (p : Partial) : Type 0 where
-  pub raised : List ℕ
-  pub lifted : Lifted m relation l x (has rows) (has raised)
-  pub shrinks : Shrinks rows raised
-  pub tested : Tested m s n t image l (masked raised l (singleRow x)) p
 
 -- What holds whenever the search goes on from a partial map. The images placed rise along the relation, and the rows of the elements that it leads to from a
 -- placed one are above the image of that one.

@@ -1,12 +1,12 @@
 -- How many elements form each pattern with a given one. Assumes nothing.
 use mathlib.Core.Path.{_≡_}
-use mathlib.Core.Bool.{Bool, _&&_, true, cond}
+use mathlib.Core.Bool.{Bool}
 use mathlib.Core.List.{List}
 use Prim.Native.Nat.{ℕ, _-_, _<_}
 use lib.Dec.{eqb, leb}
 use lib.ListN.{length, getD}
 use Rattle.semigroups.specs.Lists.{elements, at, all, count}
-use Rattle.semigroups.specs.Tables.{Product, Element}
+use Rattle.semigroups.specs.Tables.{Product}
 use Rattle.propagation.specs.InnerRows.{pattern}
 
 -- Whether c and b form pattern k.
@@ -33,8 +33,3 @@ enough n t few y = all (λ k. leb (at few k) (neighbours n t y (k - 1))) (elemen
 -- Whether y, of n elements, has at least as many neighbours of each pattern as c has of m.
 unfoldable pub hasAsMany : ℕ → Product → ℕ → Product → ℕ → ℕ → Bool
 hasAsMany m s n t c y = all (λ k. leb (neighbours m s c (k - 1)) (neighbours n t y (k - 1))) (elements 64)
-
--- Of the elements 1 to 120, each of the first m rows keeps those of its own that are at most n and have at least as many neighbours of each pattern as the
--- element whose row it is; the rows after these keep theirs.
-abbrev pub KeptByNeighbours : ℕ → Product → ℕ → Product → (ℕ → ℕ → Bool) → (ℕ → ℕ → Bool) → Type 0
-KeptByNeighbours m s n t old new = (c y : ℕ) → Element 120 c → Element 120 y → new c y ≡ (old c y && cond (leb c m) (leb y n && hasAsMany m s n t c y) true)

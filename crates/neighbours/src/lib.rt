@@ -2,12 +2,10 @@
 // an element to neighbours of its image, of the same pattern.
 ghost use mathlib.Core.Path.{_≡_};
 ghost use mathlib.Core.Bool.{_&&_};
-ghost use mathlib.Core.List.{List};
-ghost use Prim.Native.Nat.{ℕ, _+_, _≤_};
+ghost use Prim.Native.Nat.{_+_, _≤_};
 ghost use Rattle.semigroups.specs.Tables.{product, Element, Filled};
-ghost use Rattle.semigroups.specs.InnerMaps.{Embedding, Among};
-ghost use Rattle.rows.specs.InnerRows.{inRow, has, word, packedRow};
-ghost use Rattle.neighbours.specs.InnerNeighbours.{Neighbours, noMore, enough, KeptByNeighbours};
+ghost use Rattle.rows.specs.InnerRows.{inRow, word, packedRow, keptRows};
+ghost use Rattle.neighbours.specs.InnerNeighbours.{Neighbours, noMore, enough, hasAsMany};
 use rows::Row;
 use rows::WORDS;
 
@@ -87,8 +85,7 @@ fn enough_row(target: &[u8], n: usize, few: &[u8; 64], row: Row) -> Row
 // is lost.
 pub fn keep_neighbours(source: &[u8], m: usize, target: &[u8], n: usize, rows: &mut [u64; WORDS])
     requires { ⌜ Filled m (now source) × Filled n (now target) ⌝ }
-    ensures kept { λ _. ⌜ KeptByNeighbours m (product m (now (source .entry))) n (product n (now (target .entry))) (has (now (rows .entry))) (has (now (rows .exit))) ⌝ }
-    ensures covers { λ _. ⌜ ((f : List ℕ) → Embedding m (product m (now (source .entry))) n (product n (now (target .entry))) f → Among m (has (now (rows .entry))) f → Among m (has (now (rows .exit))) f) ⌝ }
+    ensures rows { λ _. ⌜ now (rows .exit) ≡ keptRows m n (hasAsMany m (product m (now (source .entry))) n (product n (now (target .entry)))) (now (rows .entry)) ⌝ }
 {
     let mut c: usize = 1;
     while c <= m {

@@ -4,5 +4,7 @@ pub mod Few
 pub mod Rows
 pub mod Room
 pub mod Small
+pub mod Counted
 pub mod Raising
 pub mod Lowering
+pub mod Turns

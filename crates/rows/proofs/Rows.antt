@@ -12,15 +12,14 @@ use lib.Count.{ones, trailingZeros, under}
 use lib.Dec.{eqb, leb}
 use lib.ListN.{getD, set}
 use lib.Pow.{shl-exact, pow-pos}
-use lib.Seq.{getD-set-other}
+use lib.Seq.{getD-set-other, set-getD, set-comm}
 use Rattle.semigroups.specs.Lists.{at}
 use Rattle.semigroups.specs.Tables.{Element}
-use Rattle.semigroups.specs.Scratch.{marked}
 use Rattle.semigroups.proofs.Booleans.{and-left, and-right, at-most-or-above, equal-or-not}
 use Rattle.rows.specs.declared.Row.{Row}
-use Rattle.rows.specs.InnerRows.{hasBit, inRow, isEmpty, rowOf, has, packedRow, maskedWord, masked, singleRow, lowestElement, Alone, RowInside, Only, Shrinks, Forced, Marked}
+use Rattle.rows.specs.InnerRows.{hasBit, inRow, isEmpty, rowOf, has, word, packedRow, maskedWord, masked, singleRow, lowestElement, Alone, RowInside, Only, Shrinks, Forced}
 use Rattle.rows.proofs.Words.{bit-of-word, bit-past, single-word, other-word}
-use Rattle.rows.proofs.Masks.{and-bit, inside-inside, inside-mask, inside-old, ones-zero, ones-power}
+use Rattle.rows.proofs.Masks.{and-bit, same-bits, inside-inside, inside-mask, inside-old, ones-zero, ones-power}
 use Rattle.rows.proofs.Few.{inside-one}
 
 abbrev pub row : ℕ → ℕ → Row
@@ -186,6 +185,35 @@ other-word-masked : (l : List ℕ) (i w j : ℕ) → 1 ≤ i → 1 ≤ j → (j 
 unfolding at maskedWord
 other-word-masked l i w j hi hj ne = getD-set-other l (i - 1) (j - 1) (bitAnd (getD l (i - 1) 0) w) 0 (λ q. ne (omega arith))
 
+-- Two words are masked in either order.
+words-swap : (l : List ℕ) (i j v w : ℕ) → 1 ≤ i → 1 ≤ j → (i ≡ j → ⊥) → maskedWord (maskedWord l i v) j w ≡ maskedWord (maskedWord l j w) i v
+unfolding maskedWord
+words-swap l i j v w hi hj ne =
+    ap (λ (x : ℕ). set (maskedWord l i v) (j - 1) (bitAnd x w)) (other-word-masked l i v j hi hj (λ q. ne (sym q)))
+    ∙ set-comm l (i - 1) (j - 1) (bitAnd (at l i) v) (bitAnd (at l j) w) (λ q. ne (omega arith))
+    ∙ sym (ap (λ (x : ℕ). set (maskedWord l j w) (i - 1) (bitAnd x v)) (other-word-masked l j w i hj hi ne))
+
+-- So are two rows.
+pub masked-swap : (rows : List ℕ) (c d : ℕ) (r q : Row) → Element 120 c → Element 120 d → (c ≡ d → ⊥) → masked (masked rows c r) d q ≡ masked (masked rows d q) c r
+unfolding masked
+masked-swap rows c d r q hc hd ne =
+    let low = maskedWord rows c (r .lo) in
+    let both = maskedWord rows d (q .lo) in
+    ap (λ (l : List ℕ). maskedWord l (120 + d) (q .hi)) (words-swap low (120 + c) d (r .hi) (q .lo) (omega arith) (omega arith) (λ e. let z : ⊥ = omega arith in z))
+    ∙ words-swap (maskedWord low d (q .lo)) (120 + c) (120 + d) (r .hi) (q .hi) (omega arith) (omega arith) (λ e. ne (omega arith))
+    ∙ ap (λ (l : List ℕ). maskedWord (maskedWord l (120 + d) (q .hi)) (120 + c) (r .hi)) (words-swap rows c d (r .lo) (q .lo) (omega arith) (omega arith) ne)
+    ∙ ap (λ (l : List ℕ). maskedWord l (120 + c) (r .hi)) (words-swap both c (120 + d) (r .lo) (q .hi) (omega arith) (omega arith) (λ e. let z : ⊥ = omega arith in z))
+
+-- A word masked by itself.
+self-masked : (l : List ℕ) (i : ℕ) → maskedWord l i (at l i) ≡ l
+unfolding at maskedWord
+self-masked l i = ap (set l (i - 1)) (and-self (getD l (i - 1) 0)) ∙ set-getD l (i - 1) 0
+
+-- Rows of which one is masked by itself.
+pub masked-self : (rows : List ℕ) (c : ℕ) → masked rows c (rowOf rows c) ≡ rows
+unfolding masked
+masked-self rows c = ap (λ (l : List ℕ). maskedWord l (120 + c) (at rows (120 + c))) (self-masked rows c) ∙ self-masked rows (120 + c)
+
 module _ (rows : List ℕ) (c : ℕ) (hc : Element 120 c) (r : Row) where
   -- The masked row.
   row-masked : rowOf (masked rows c r) c ≡ row (bitAnd (at rows c) (r .lo)) (bitAnd (at rows (120 + c)) (r .hi))
@@ -211,6 +239,40 @@ module _ (rows : List ℕ) (c : ℕ) (hc : Element 120 c) (r : Row) where
   pub other-masked : (y d : ℕ) → Element 120 d → (d ≡ c → ⊥) → has (masked rows c r) d y ≡ has rows d y
   unfolding has
   other-masked y d hd ne = ap (λ (w : Row). inRow w y) (row-other d hd ne)
+
+-- A word that is masked needs no test of its own bits.
+own-word : (w from k : ℕ) (p q : ℕ → Bool) → ((j : ℕ) → j < k → p (from + j) ≡ (hasBit w j && q (from + j))) → bitAnd w (word p from k) ≡ bitAnd w (word q from k)
+own-word w from k p q own = same-bits (bitAnd w (word p from k)) (bitAnd w (word q from k)) (λ j. and-bit w (word p from k) j ∙ go j (at-most-or-above k j) ∙ sym (and-bit w (word q from k) j))
+  where
+    twice : (a b : Bool) → (a && (a && b)) ≡ (a && b)
+    twice true b = refl
+    twice false b = refl
+
+    go : (j : ℕ) → (k ≤ j) ⊎ (j < k) → (hasBit w j && hasBit (word p from k) j) ≡ (hasBit w j && hasBit (word q from k) j)
+    go j (inl h) = ap (λ (b : Bool). hasBit w j && b) (bit-past p from k j h ∙ sym (bit-past q from k j h))
+    go j (inr h) = ap (λ (b : Bool). hasBit w j && b) (bit-of-word p from k j h ∙ own j h) ∙ twice (hasBit w j) (q (from + j)) ∙ sym (ap (λ (b : Bool). hasBit w j && b) (bit-of-word q from k j h))
+
+-- Nor does a row.
+pub masked-own : (rows : List ℕ) (c n : ℕ) (q : ℕ → Bool) → 1 ≤ c → n ≤ 120 → masked rows c (packedRow n (λ y. inRow (rowOf rows c) y && q y)) ≡ masked rows c (packedRow n q)
+unfolding masked maskedWord packedRow
+masked-own rows c n q hc hn =
+    ap (λ (l : List ℕ). maskedWord l (120 + c) (word own 61 (n - 60))) (ap (set rows (c - 1)) low)
+    ∙ ap (set kept (120 + c - 1)) (ap (λ (w : ℕ). bitAnd w (word own 61 (n - 60))) other ∙ high ∙ sym (ap (λ (w : ℕ). bitAnd w (word q 61 (n - 60))) other))
+  where
+    own : ℕ → Bool
+    own y = inRow (rowOf rows c) y && q y
+
+    kept : List ℕ
+    kept = maskedWord rows c (word q 1 (min n 60))
+
+    other : at kept (120 + c) ≡ at rows (120 + c)
+    other = other-word-masked rows c (word q 1 (min n 60)) (120 + c) hc (omega arith) (λ e. let z : ⊥ = omega arith in z)
+
+    low : bitAnd (at rows c) (word own 1 (min n 60)) ≡ bitAnd (at rows c) (word q 1 (min n 60))
+    low = own-word (at rows c) 1 (min n 60) own q (λ j h. ap (λ (b : Bool). b && q (1 + j)) (sym (row-low (rowOf rows c) (1 + j) (omega arith)) ∙ ap (hasBit (at rows c)) (let z : 1 + j - 1 ≡ j = omega arith in z)))
+
+    high : bitAnd (at rows (120 + c)) (word own 61 (n - 60)) ≡ bitAnd (at rows (120 + c)) (word q 61 (n - 60))
+    high = own-word (at rows (120 + c)) 61 (n - 60) own q (λ j h. ap (λ (b : Bool). b && q (61 + j)) (sym (row-high (rowOf rows c) (61 + j) (omega arith)) ∙ ap (hasBit (at rows (120 + c))) (let z : 61 + j - 61 ≡ j = omega arith in z)))
 
 -- What is left where row c is masked by the row of v: of row c v alone, of the others what was.
 pub forced-has : (rows newRows : List ℕ) (c v : ℕ) → Element 120 c → Element 120 v → Forced c v rows newRows
@@ -274,43 +336,3 @@ module _ (rows newRows : List ℕ) where
 
     pub forced-shrinks : Shrinks rows newRows
     forced-shrinks = subst (Shrinks rows) (sym F) (masked-shrinks rows c hc (singleRow v))
-
--- ---- rows masked one after another: those before c are done
-
-pub record Masking (n : ℕ) (scratch : List ℕ) (old new : ℕ → ℕ → Bool) (c : ℕ) : Type 0 where
-  pub done : (d y : ℕ) → 1 ≤ d → d < c → Element 120 y → new d y ≡ (old d y && (leb y n && marked n scratch d y))
-  pub ahead : (d y : ℕ) → c ≤ d → d ≤ 120 → Element 120 y → new d y ≡ old d y
-
-pub masking-start : (n : ℕ) (scratch : List ℕ) (old : ℕ → ℕ → Bool) → Masking n scratch old old 1
-masking-start n scratch old = record { done = λ d y a b hy. absurd (let z : ⊥ = omega arith in z); ahead = λ d y a b hy. refl }
-
-pub masking-step : (n : ℕ) (scratch : List ℕ) (old : ℕ → ℕ → Bool) (rows : List ℕ) (c : ℕ) → Element 120 c → Masking n scratch old (has rows) c → (r : Row) → r ≡ packedRow n (marked n scratch c)
-    → Masking n scratch old (has (masked rows c r)) (c + 1)
-masking-step n scratch old rows c hc M r e =
-    record {
-      done = λ d y a b hy. go d y a b hy (equal-or-not d c);
-      ahead = λ d y a b hy. other-masked rows c hc r y d (omega arith) (λ q. let z : ⊥ = omega arith in z) ∙ M .ahead d y (omega arith) b hy;
-    }
-  where
-    new : ℕ → ℕ → Bool
-    new = has (masked rows c r)
-
-    go : (d y : ℕ) → 1 ≤ d → d < c + 1 → Element 120 y → (d ≡ c) ⊎ (d ≡ c → ⊥) → new d y ≡ (old d y && (leb y n && marked n scratch d y))
-    go d y a b hy (inl q) =
-        subst (λ (k : ℕ). new k y ≡ (old k y && (leb y n && marked n scratch k y))) (sym q)
-        (has-masked rows c hc r y ∙ ap₂ _&&_ (M .ahead c y (omega arith) (hc .1) hy) (ap (λ (w : Row). inRow w y) e ∙ all-packed-row n (marked n scratch c) y hy))
-    go d y a b hy (inr ne) = other-masked rows c hc r y d (omega arith) ne ∙ M .done d y a (omega arith) hy
-
-pub masking-end : (m n : ℕ) (scratch : List ℕ) (old new : ℕ → ℕ → Bool) (c : ℕ) → c ≡ m + 1 → Masking n scratch old new c → Marked m n scratch old new
-masking-end m n scratch old new c e M d y hd hy = ⊎-elim below above (at-most-or-above d m)
-  where
-    below : d ≤ m → new d y ≡ (old d y && cond (leb d m) (leb y n && marked n scratch d y) true)
-    below h = M .done d y (hd .0) (omega arith) hy ∙ sym (ap (λ (b : Bool). old d y && cond b (leb y n && marked n scratch d y) true) (le-leb d m h))
-
-    above : m < d → new d y ≡ (old d y && cond (leb d m) (leb y n && marked n scratch d y) true)
-    above h = M .ahead d y (omega arith) (hd .1) hy ∙ sym (ap (λ (b : Bool). old d y && cond b (leb y n && marked n scratch d y) true) (lt-leb d m h) ∙ and-true (old d y))
-
--- What is left of the first m rows and of n elements.
-pub marked-within : (m n : ℕ) (scratch : List ℕ) (old new : ℕ → ℕ → Bool) → Marked m n scratch old new → m ≤ 120 → n ≤ 120 → (c y : ℕ) → Element m c → Element n y → new c y ≡ (old c y && marked n scratch c y)
-marked-within m n scratch old new M lm ln c y hc hy =
-    M c y (omega arith) (omega arith) ∙ ap₂ (λ (a b : Bool). old c y && cond a (b && marked n scratch c y) true) (le-leb c m (hc .1)) (le-leb y n (hy .1))

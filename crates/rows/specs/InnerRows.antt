@@ -1,17 +1,15 @@
 -- Rows of bits: for each source element the target elements that are left for it. Target elements 1 to 60 are the bits of one word, from its lowest,
 -- and 61 to 120 those of another. All rows are one list of words, the 120 low ones first. Assumes nothing.
 use mathlib.Core.Path.{_≡_}
-use mathlib.Core.Bool.{Bool, true, _&&_, cond}
-use mathlib.Core.Logic.{_↔_}
+use mathlib.Core.Bool.{Bool, _&&_, cond}
 use mathlib.Core.List.{List}
-use Prim.Native.Nat.{ℕ, zero, suc, _+_, _-_, _/_, _%_, _^_, _≤_, _<_, min}
+use Prim.Native.Nat.{ℕ, zero, suc, _+_, _-_, _*_, _/_, _%_, _^_, _≤_, min}
 use lib.Bits.{bitAnd}
 use lib.Count.{trailingZeros}
 use lib.Dec.{eqb, leb}
 use lib.ListN.{set}
 use Rattle.semigroups.specs.Lists.{at}
 use Rattle.semigroups.specs.Tables.{largestOrder, Element}
-use Rattle.semigroups.specs.Scratch.{marked}
 use Rattle.rows.specs.declared.Row.{Row}
 
 -- Whether bit j of the word is set.
@@ -81,14 +79,33 @@ Shrinks rows newRows = (c : ℕ) → Element largestOrder c → RowInside (rowOf
 abbrev pub Forced : ℕ → ℕ → List ℕ → List ℕ → Type 0
 Forced c v rows newRows = newRows ≡ masked rows c (singleRow v)
 
--- Each of the first m rows has exactly those of its elements that are at most n and marked; the rows above m are as they were.
-abbrev pub Marked : ℕ → ℕ → List ℕ → (ℕ → ℕ → Bool) → (ℕ → ℕ → Bool) → Type 0
-Marked m n scratch old new = (c y : ℕ) → Element largestOrder c → Element largestOrder y → new c y ≡ (old c y && cond (leb c m) (leb y n && marked n scratch c y) true)
+-- The row with only those of its elements that are above x. Bits that stand for no element count as coming after the last one of their word.
+unfoldable pub upperRow : Row → ℕ → Row
+upperRow row x = cond (leb x 60) (record { lo = row .lo / 2 ^ x * 2 ^ x; hi = row .hi }) (record { lo = 0; hi = row .hi / 2 ^ (x - 60) * 2 ^ (x - 60) })
 
--- Of the elements 1 to 120, row j loses those up to x, and no other row changes.
-abbrev pub Raised : ℕ → ℕ → (ℕ → ℕ → Bool) → (ℕ → ℕ → Bool) → Type 0
-Raised j x old new = (d y : ℕ) → Element largestOrder d → Element largestOrder y → (new d y ≡ true) ↔ ((old d y ≡ true) × (d ≡ j → x < y))
+-- The row with only those of its elements that are below x, such bits counted in the same way. If x is above 120, nothing is taken out.
+unfoldable pub underRow : Row → ℕ → Row
+underRow row x =
+    cond (leb x 60) (record { lo = row .lo % 2 ^ (x - 1); hi = 0 })
+    (cond (leb x 120) (record { lo = row .lo; hi = row .hi % 2 ^ (x - 61) }) row)
 
--- Of the elements 1 to 120, row j loses those from x on, and no other row changes.
-abbrev pub Lowered : ℕ → ℕ → (ℕ → ℕ → Bool) → (ℕ → ℕ → Bool) → Type 0
-Lowered j x old new = (d y : ℕ) → Element largestOrder d → Element largestOrder y → (new d y ≡ true) ↔ ((old d y ≡ true) × (d ≡ j → y < x))
+-- The rows, with only the elements above x in row j.
+abbrev pub raised : List ℕ → ℕ → ℕ → List ℕ
+raised rows j x = masked rows j (upperRow (rowOf rows j) x)
+
+-- The rows, with only the elements below x in row j.
+abbrev pub lowered : List ℕ → ℕ → ℕ → List ℕ
+lowered rows j x = masked rows j (underRow (rowOf rows j) x)
+
+-- The rows after a step for each of the first m rows in turn.
+unfoldable pub inTurn : (ℕ → List ℕ → List ℕ) → ℕ → List ℕ → List ℕ
+inTurn step zero rows = rows
+inTurn step (suc c) rows = step (suc c) (inTurn step c rows)
+
+-- The rows, with only those of n elements in each of the first m rows that pass the test of that row.
+abbrev pub keptRows : ℕ → ℕ → (ℕ → ℕ → Bool) → List ℕ → List ℕ
+keptRows m n p = inTurn (λ c rows. masked rows c (packedRow n (p c))) m
+
+-- The rows after those of the first m rows that are chosen are cut in turn.
+abbrev pub cutRows : ℕ → (ℕ → Bool) → (List ℕ → ℕ → List ℕ) → List ℕ → List ℕ
+cutRows m chosen cut = inTurn (λ c rows. cond (chosen c) (cut rows c) rows) m

@@ -18,8 +18,10 @@ use Rattle.backtrack.specs.InnerState.{foundIn, bounded}
 use Rattle.rows.specs.InnerRows.{has}
 use Rattle.rows.proofs.Rows.{shrinks-has}
 use Rattle.rows.proofs.Room.{roomy-kept}
-use Rattle.narrowing.specs.InnerState.{rowsIn}
-use Rattle.narrowing.proofs.Alike.{search-alike, rows-marked}
+use Rattle.narrowing.specs.declared.Partial.{Partial}
+use Rattle.narrowing.specs.InnerState.{rowsIn, keptPartial}
+use Rattle.narrowing.proofs.Alike.{search-alike}
+use Rattle.narrowing.proofs.Starting.{rows-marked}
 use Rattle.narrowing.proofs.Extending.{nowhere}
 use Rattle.narrowing.proofs.find_narrowed.Statement.{statement}
 use Rattle.narrowing.proofs.find_narrowed.Tie as tie
@@ -54,9 +56,9 @@ module _ (k : tie.After-propagate) where
   closed = filled-closed m (start .args .source .now) (start .pre .0 .0)
 
   row : (i j : ℕ) → Element m i → Element n j → rowsIn (marking .keep-marked .result) i j ≡ candidate i j
-  row =
-      rows-marked m n (start .args .scratch .now) (rowsIn (marking .before .new .result)) (rowsIn (marking .keep-marked .result)) (start .pre .0 .0 .order .1) (start .pre .0 .1 .order .1)
-      (marking .before .new .ensures .1) (marking .keep-marked .ensures .0)
+  row i j hi hj =
+      ap (λ (p : Partial). rowsIn p i j) (marking .keep-marked .ensures ∙ ap (keptPartial m n candidate) (marking .before .new .ensures))
+      ∙ rows-marked m n (start .pre .0 .0 .order .1) (start .pre .0 .1 .order .1) candidate i j hi hj
 
   covered : (f : List ℕ) → Embedding m s n t f → Among m candidate f → Among m (rowsIn (marking .keep-marked .result)) f
   covered f F among i hi = row i (at f i) hi (F .homomorphism .within i hi) ∙ among i hi

@@ -1,30 +1,30 @@
--- `keep_neighbours` meets its contract: the rows before c keep what has neighbours enough, and no embedding is lost. Assumes nothing.
-use mathlib.Core.Path.{sym, subst}
+-- `keep_neighbours` meets its contract: the rows before c keep what has neighbours enough. Assumes nothing.
+use mathlib.Core.Path.{_≡_, _∙_}
 use mathlib.Core.List.{List}
 use Prim.Native.Nat.{ℕ, _+_, _-_, _≤_}
 use native.Mathlib.Omega.{arith}
-use Rattle.semigroups.specs.Tables.{product, Element}
-use Rattle.semigroups.specs.TablesLaws.{Closed}
-use Rattle.semigroups.specs.InnerMaps.{Embedding, Among}
-use Rattle.semigroups.proofs.Tables.{product-element}
-use Rattle.rows.specs.InnerRows.{has}
-use Rattle.neighbours.proofs.Sending.{row-keeps, KeptBefore, kept-start, kept-step, kept-end}
+use Rattle.semigroups.specs.Tables.{Product, product}
+use Rattle.rows.specs.InnerRows.{packedRow, masked, keptRows}
+use Rattle.rows.proofs.Turns.{turn-start, turn-next, turn-end}
+use Rattle.neighbours.specs.InnerNeighbours.{hasAsMany}
+use Rattle.neighbours.proofs.Sending.{enough-masked}
 use Rattle.neighbours.proofs.keep_neighbours.Statement.{statement}
 use Rattle.neighbours.proofs.keep_neighbours.Tie as tie
 
+-- What is done for each row.
+abbrev step : ℕ → Product → ℕ → Product → ℕ → List ℕ → List ℕ
+step m s n t c rows = masked rows c (packedRow n (hasAsMany m s n t c))
+
 abbrev Inv-loop : tie.InvT-loop
-Inv-loop source m target n rows₀ c₀ rows c =
-    (1 ≤ c) × (c ≤ m + 1) × KeptBefore m (product m source) n (product n target) (has rows₀) (has rows) c
-    × ((f : List ℕ) → Embedding m (product m source) n (product n target) f → Among m (has rows₀) f → Among m (has rows) f)
+Inv-loop source m target n rows₀ c₀ rows c = (1 ≤ c) × (c ≤ m + 1) × (rows ≡ keptRows (c - 1) n (hasAsMany m (product m source) n (product n target)) rows₀)
 
 abbrev μ-loop : tie.MeasureT-loop
 μ-loop source m target n rows₀ c₀ rows c = m + 1 - c
 
 loop-holds : tie.Need-loop-holds Inv-loop μ-loop
 loop-holds c =
-    let z = c .before .before in
-    let a = z .args in
-    (omega arith, omega arith, kept-start (a .m) (product (a .m) (a .source .now)) (a .n) (product (a .n) (a .target .now)) (has (a .rows .now)), λ f F a. a)
+    let a = c .before .before .args in
+    (omega arith, omega arith, turn-start (step (a .m) (product (a .m) (a .source .now)) (a .n) (product (a .n) (a .target .now))) (a .rows .now))
 
 neighbours-requires : tie.Need-neighbours-requires Inv-loop μ-loop
 neighbours-requires c κs = (c .before .before .before .before .pre .0, (c .before .loop .inv .0, c .loop-test .taken))
@@ -59,23 +59,25 @@ loop-again : tie.Need-loop-again Inv-loop μ-loop
 loop-again c =
     let z = c .before .before .before .before .before .before .before .before .before .before .before in
     let a = z .args in
-    let source = z .pre .0 in
     let s = product (a .m) (a .source .now) in
     let t = product (a .n) (a .target .now) in
-    let closed : Closed (a .m) s = product-element (a .m) (a .source .now) (source .size) (source .in-range) in
     let l = c .before .before .before .before .before .before .before .before .loop in
     let i = l .inv .0 in
     let few = c .before .before .before .before .before .before .neighbours in
     let old = c .before .before .before .row-of in
     let row = c .before .before .enough-row in
-    let hc : Element (a .m) (l .c) = (i, c .before .before .before .before .before .before .before .loop-test .taken) in
-    (omega arith, omega arith, subst (λ (x : List ℕ). KeptBefore (a .m) s (a .n) t (has (a .rows .now)) (has x) (l .c + 1)) (sym (c .mask .ensures)) (kept-step (a .m) s (a .n) t (has (a .rows .now)) (l .rows) (l .c) (let m = source .order .1 in let t' = hc .1 in omega arith) (l .inv .2) (few .result) (few .ensures) (old .result) (row .result) (old .ensures) (row .ensures)), λ f F h. subst (λ (x : List ℕ). Among (a .m) (has x) f) (sym (c .mask .ensures)) (row-keeps (a .m) s (a .n) t closed (source .order .1) (l .rows) (l .c) hc (few .result) (few .ensures) (old .result) (row .result) (old .ensures) (row .ensures) f F (l .inv .3 f F h)))
+    let h = c .before .before .before .before .before .before .before .loop-test .taken in (
+      omega arith,
+      omega arith,
+      turn-next (step (a .m) s (a .n) t) (a .rows .now) (l .c) (l .rows) _ i (l .inv .2)
+          (c .mask .ensures ∙ enough-masked (a .m) s (a .n) t (z .pre .1 .order .1) (l .rows) (l .c) i (few .result) (few .ensures) (old .result) (row .result) (old .ensures) (row .ensures)),
+    )
 
 returns : tie.Need-returns Inv-loop μ-loop
 returns c =
     let a = c .before .before .before .before .args in
     let l = c .before .loop in
-    (kept-end (a .m) (product (a .m) (a .source .now)) (a .n) (product (a .n) (a .target .now)) (has (a .rows .now)) (has (l .rows)) (l .c) (c .loop-test .left) (l .inv .1) (l .inv .2), l .inv .3)
+    turn-end (step (a .m) (product (a .m) (a .source .now)) (a .n) (product (a .n) (a .target .now))) (a .rows .now) (a .m) (l .c) (l .rows) (c .loop-test .left) (l .inv .1) (l .inv .2)
 
 pub keep-neighbours-spec : {M : Type 1} → statement M
 keep-neighbours-spec =
