@@ -1,15 +1,12 @@
-// The answers of searches, of counts of copies and about least degrees as sixteen numbers, for programs in C and Rust: the number of the earliest failed
-// question, or 0; the side that a refusal names, 1 for source or 2 for target, or 0; then the values of the answer, and zeros.
+// The answers of searches and about least degrees as sixteen numbers, for programs in C and Rust: the number of the earliest failed question, or 0; the side
+// that a refusal names, 1 for source or 2 for target, or 0; then the values of the answer, and zeros.
 ghost use mathlib.Core.Path.{_≡_};
-ghost use Rattle.copies.specs.Answers.{copiesAnswerSays};
 ghost use Rattle.search.specs.Answers.{searchAnswerSays, limitedAnswerSays};
 ghost use Rattle.planning.specs.Answers.{degreeAnswerSays};
-ghost use Rattle.numbers.specs.Numbers.{answerWords, soughtValues, limitedValues, degreeValues, copiesValues};
-use copies::CopiesAnswer;
+ghost use Rattle.numbers.specs.Numbers.{answerWords, soughtValues, limitedValues, degreeValues};
 use planning::DegreeAnswer;
 use search::LimitedAnswer;
 use search::SearchAnswer;
-use tables::Refusal;
 use words::refusal_words;
 use words::words;
 
@@ -33,18 +30,6 @@ pub fn limited_words(said: LimitedAnswer) -> [u64; 16]
         LimitedAnswer::Nothing(trials) => words(0, 0, &[0, trials as usize]),
         LimitedAnswer::Stopped => words(0, 0, &[2]),
         LimitedAnswer::Refused(fault) => refusal_words(fault.refusal()),
-    }
-}
-
-// Returns the sixteen numbers of an answer about the number of copies.
-pub fn copies_words(said: CopiesAnswer) -> [u64; 16]
-    ensures answer { λ r. ⌜ r ≡ answerWords copiesValues (copiesAnswerSays said) ⌝ }
-{
-    match said {
-        CopiesAnswer::Number(k) => words(0, 0, &[0, k]),
-        CopiesAnswer::More => words(0, 0, &[1]),
-        CopiesAnswer::Refused(side, fault) => refusal_words(fault.refusal().naming(side)),
-        CopiesAnswer::ScratchLength => refusal_words(Refusal::by(6, 0)),
     }
 }
 
