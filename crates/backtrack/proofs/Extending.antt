@@ -17,9 +17,11 @@ use Rattle.semigroups.specs.Trials.{passes, Work, work}
 use Rattle.semigroups.specs.InnerTrials.{counted}
 use Rattle.semigroups.proofs.Booleans.{and-left, and-right}
 use Rattle.semigroups.proofs.Candidates.{size-rows}
-use Rattle.backtrack.specs.declared.Partial.{Partial}
+use Rattle.placing.specs.declared.Partial.{Partial}
+use Rattle.placing.specs.InnerPlaced.{prefix}
+use Rattle.placing.proofs.Placed.{handed-on}
 use Rattle.backtrack.specs.declared.Outcome.{Outcome}
-use Rattle.backtrack.specs.InnerState.{prefix, Ready, foundIn, Remainder, exhausted, remaining, within, imagesIn, outcomeOf, bounded}
+use Rattle.backtrack.specs.InnerState.{Ready, foundIn, Remainder, exhausted, remaining, within, imagesIn, outcomeOf, bounded}
 use Rattle.constraints.specs.InnerTracking.{Placing, Tracks}
 use Rattle.constraints.proofs.Placing.{prefix-length, image-padded, used-image}
 use Rattle.backtrack.proofs.Limits.{resumed, within-nothing, within-skip, within-unpaid, within-paid, over-stopped, over-found, not-over}
@@ -131,15 +133,6 @@ pub record Verdict (s : Product) (n : ℕ) (t : Product) (p : Partial) (x : ℕ)
   pub before : take (p .len) (q .image) ≡ prefix p
   pub one-more : q .len ≡ p .len + 1
   pub says : b ≡ passes s t (prefix p ++ x ∷ [])
-
--- The constraints as a map is handed on with one more image.
-pub handed-on : (s t : Product) (p q : Partial) → q .len ≡ p .len + 1 → take (p .len) (q .image) ≡ prefix p → (forced owner : List ℕ) → Tracks s t (prefix p) (p .len) 0 forced owner
-    → Tracks s t (take (q .len - 1) (q .image)) (q .len - 1) 0 forced owner
-handed-on s t p q el ep forced owner W = let e : q .len - 1 ≡ p .len = omega arith in rw (e, ep) W
-
--- What was placed before x passes still.
-pub handed-passes : (s t : Product) (p q : Partial) → q .len ≡ p .len + 1 → take (p .len) (q .image) ≡ prefix p → passes s t (prefix p) ≡ true → passes s t (take (q .len - 1) (q .image)) ≡ true
-handed-passes s t p q el ep e = let k : q .len - 1 ≡ p .len = omega arith in rw (k, ep) e
 
 module _ {s : Product} {m : ℕ} {t : Product} {n : ℕ} {scratch after : List ℕ} {tight : Bool} {limit : ℕ} {known held : List ℕ} {p : Partial} {low left x : ℕ} {o : Bool} (T : Turn s m t n scratch after tight limit known held p low left x o) where
   abbrev longer : List ℕ

@@ -12,16 +12,13 @@ use Rattle.semigroups.specs.Scratch.{scratchSize}
 use Rattle.semigroups.specs.Maps.{Ask, first, next}
 use Rattle.semigroups.specs.Trials.{passes, Work}
 use Rattle.constraints.specs.InnerTracking.{Placing, Tracks}
-use Rattle.backtrack.specs.declared.Partial.{Partial}
+use Rattle.placing.specs.declared.Partial.{Partial}
+use Rattle.placing.specs.InnerPlaced.{prefix}
 use Rattle.backtrack.specs.declared.Outcome.{Outcome}
 
 -- How many trials a search without a limit makes at most before a search with rows takes over.
 abbrev pub firstTrials : ℕ
 firstTrials = 8000
-
--- The list placed so far.
-abbrev pub prefix : Partial → List ℕ
-prefix p = take (p .len) (p .image)
 
 -- What becomes of the trials that a search may take: they are not enough; or this many are left, with what is found.
 pub data Remainder : Type 0 where

@@ -14,26 +14,14 @@ ghost use Rattle.semigroups.specs.Scratch.{scratchSize, marked};
 ghost use Rattle.semigroups.specs.Trials.{passes, work};
 ghost use Rattle.semigroups.specs.InnerTrials.{counted};
 ghost use Rattle.constraints.specs.InnerTracking.{Placing, Tracks};
-ghost use Rattle.backtrack.specs.InnerState.{prefix, Ready, bounded, exhausted, remaining, within, outcomeOf};
+ghost use Rattle.placing.specs.InnerPlaced.{prefix};
+ghost use Rattle.backtrack.specs.InnerState.{Ready, bounded, exhausted, remaining, within, outcomeOf};
+use placing::Partial;
 use tables::limits::ORDER;
 use tables::limits::PLACES;
 
 // How many trials a search without a limit makes at most before a search with rows takes over. They end nearly every easy search.
 pub const FIRST_TRIALS: u32 = 8000;
-
-// The map placed so far. The image of element i is image[i - 1]; used[y] is 1 where y is an image. The constraints, `forced` and `owner`, are no part of it:
-// each call of the search lends its own to the calls inside it, so that they are copied once and not with every map that is placed, tested and passed on.
-pub struct Partial {
-    pub image: [u8; ORDER],
-    pub used: [u8; PLACES],
-    pub len: usize,
-}
-
-// The result of a test: whether the list placed passes, and the map, handed back.
-pub struct Tested {
-    pub ok: bool,
-    pub partial: Partial,
-}
 
 // The result of a search: whether its limit stopped it; if not, how many trials are left; whether it found a map; and the map's images followed by zeros,
 // or only zeros. A search without a limit is never stopped and counts no trials: none is left.
@@ -63,95 +51,6 @@ fn open(used: &[u8; PLACES], scratch: &[u8], n: usize, i: usize, low: usize, x: 
         return false;
     }
     candidates::marked(scratch, n, i, x)
-}
-
-impl Partial {
-    // Returns the map with nothing placed.
-    pub fn new() -> Self
-        ensures empty { λ r. ⌜ r .len ≡ 0 ⌝ }
-        ensures placing { λ r. ⌜ ((n : ℕ) → Placing n (r .image) (r .used) (r .len)) ⌝ }
-    {
-        Partial {
-            image: [0u8; ORDER],
-            used: [0u8; PLACES],
-            len: 0,
-        }
-    }
-
-    // Returns the map with x as the image of the next element.
-    fn place(self, n: usize, x: usize) -> Self
-        requires { ⌜ Placing n (self .image) (self .used) (self .len) ⌝ }
-        requires { ⌜ Element n x × (n ≤ largestOrder) × (self .len < largestOrder) × (member x (prefix self) ≡ false) ⌝ }
-        ensures placing { λ r. ⌜ Placing n (r .image) (r .used) (r .len) ⌝ }
-        ensures more { λ r. ⌜ (prefix r ≡ prefix self ++ x ∷ []) × (take (self .len) (r .image) ≡ prefix self) × (r .len ≡ self .len + 1) ⌝ }
-        ensures image { λ r. ⌜ r .image ≡ set (self .image) (self .len) x ⌝ }
-    {
-        let at = self.len;
-        let mut p = self;
-        p.image[at] = x as u8;
-        p.used[x] = 1;
-        p.len = at + 1;
-        p
-    }
-
-    // Tests the newest element: returns whether the list placed passes, given that it passes without that element, and the map as it was. The constraints are
-    // those of the list without that element.
-    fn test(
-        self,
-        source: &[u8],
-        m: usize,
-        target: &[u8],
-        n: usize,
-        forced: &[u8; PLACES],
-        owner: &[u8; PLACES],
-    ) -> Tested
-        requires { ⌜ Filled m (now source) × Filled n (now target) ⌝ }
-        requires { ⌜ Placing n (self .image) (self .used) (self .len) × Element m (self .len) ⌝ }
-        requires { ⌜ Tracks (product m (now source)) (product n (now target)) (take (self .len - 1) (self .image)) (self .len - 1) 0 (now forced) (now owner) × (passes (product m (now source)) (product n (now target)) (take (self .len - 1) (self .image)) ≡ true) ⌝ }
-        ensures answer { λ r. ⌜ r .ok ≡ passes (product m (now (source .entry))) (product n (now (target .entry))) (prefix self) ⌝ }
-        ensures same { λ r. ⌜ r .partial ≡ self ⌝ }
-    {
-        let before = self.len - 1;
-        let x = self.image[before] as usize;
-        let image = &self.image;
-        let used = &self.used;
-        let ok = constraints::passes_with(
-            source,
-            m,
-            target,
-            n,
-            image,
-            used,
-            forced,
-            owner,
-            before,
-            x,
-        );
-        Tested { ok, partial: self }
-    }
-
-    // Returns whether the list placed passes with x as the image of the next element, and the map with it: placed and tested. The constraints are those of the
-    // list placed.
-    pub fn tried(
-        self,
-        source: &[u8],
-        m: usize,
-        target: &[u8],
-        n: usize,
-        forced: &[u8; PLACES],
-        owner: &[u8; PLACES],
-        x: usize,
-    ) -> Tested
-        requires { ⌜ Filled m (now source) × Filled n (now target) ⌝ }
-        requires { ⌜ Placing n (self .image) (self .used) (self .len) × Tracks (product m (now source)) (product n (now target)) (prefix self) (self .len) 0 (now forced) (now owner) × (passes (product m (now source)) (product n (now target)) (prefix self) ≡ true) ⌝ }
-        requires { ⌜ Element n x × (self .len < m) × (member x (prefix self) ≡ false) ⌝ }
-        ensures answer { λ r. ⌜ r .ok ≡ passes (product m (now (source .entry))) (product n (now (target .entry))) (prefix self ++ x ∷ []) ⌝ }
-        ensures placing { λ r. ⌜ Placing n (r .partial .image) (r .partial .used) (r .partial .len) ⌝ }
-        ensures more { λ r. ⌜ (prefix (r .partial) ≡ prefix self ++ x ∷ []) × (take (self .len) (r .partial .image) ≡ prefix self) × (r .partial .len ≡ self .len + 1) ⌝ }
-        ensures image { λ r. ⌜ r .partial .image ≡ set (self .image) (self .len) x ⌝ }
-    {
-        self.place(n, x).test(source, m, target, n, forced, owner)
-    }
 }
 
 // Returns the outcome with no map: the search was stopped, or it ended with `left` trials left.

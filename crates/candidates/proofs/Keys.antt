@@ -19,12 +19,12 @@ use Rattle.semigroups.specs.Candidates.{candidate}
 use Rattle.semigroups.specs.InnerCalls.{scratchAfter}
 use Rattle.semigroups.proofs.Booleans.{same-truth, both, and-left, and-right, trichotomy}
 use Rattle.semigroups.proofs.Tables.{product-element}
-use Rattle.invariants.specs.declared.ElementCounts.{ElementCounts}
-use Rattle.tables.specs.InnerPerElement.{perElement}
-use Rattle.invariants.specs.InnerPerElement.{AllCounts}
+use Rattle.counts.specs.declared.ElementCounts.{ElementCounts}
+use Rattle.products.specs.InnerPerElement.{perElement}
+use Rattle.counts.specs.InnerCounts.{AllCounts}
 use Rattle.invariants.proofs.Powers.{index-at-most, period-at-most}
-use Rattle.invariants.proofs.Counts.{frequency-at-most, diagonal-at-most, row-at-most, column-at-most, commuting-at-most}
-use Rattle.invariants.proofs.PerElement.{per-element-at, per-element-same, zero-start}
+use Rattle.counts.proofs.Counts.{frequency-at-most, diagonal-at-most, row-at-most, column-at-most, commuting-at-most}
+use Rattle.products.proofs.PerElement.{per-element-at, per-element-same, zero-start}
 use Rattle.candidates.specs.InnerKeys.{KeyPart, packed, indexPeriodParts, countParts, indexPeriodKey, profileKey, appended, Room, sameKey}
 use Rattle.candidates.proofs.Marks.{scratch-same}
 

@@ -10,7 +10,7 @@ ghost use Rattle.semigroups.specs.Candidates.{candidate};
 ghost use Rattle.semigroups.specs.Scratch.{packedByte, scratchSize, marked};
 ghost use Rattle.semigroups.specs.InnerScratch.{pairMarks};
 ghost use Rattle.semigroups.specs.InnerCalls.{scratchAfter};
-ghost use Rattle.tables.specs.InnerPerElement.{perElement};
+ghost use Rattle.products.specs.InnerPerElement.{perElement};
 ghost use Rattle.candidates.specs.InnerPairs.{PairAt};
 ghost use Rattle.candidates.specs.InnerKeys.{indexPeriodKey, profileKey, appended, Room, sameKey};
 use tables::limits::ORDER;
@@ -77,7 +77,7 @@ pub fn profile_keys(cells: &[u8], n: usize) -> [u64; ORDER]
     requires { ⌜ Filled n (now cells) ⌝ }
     ensures answer { λ r. ⌜ r ≡ perElement n (λ a. profileKey (profile n (product n (now (cells .entry))) a)) ⌝ }
 {
-    let counts = invariants::all_counts(cells, n);
+    let counts = counts::all_counts(cells, n);
     let powers = index_period_keys(cells, n);
     let frequencies = append(&powers, n, 65536, &counts.frequency);
     let diagonals = append(&frequencies, n, 256, &counts.diagonal);

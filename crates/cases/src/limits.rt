@@ -5,7 +5,7 @@ ghost use mathlib.Core.List.{_∷_, []};
 ghost use Prim.Native.Nat.{_≤_, suc};
 ghost use lib.ListN.{replicate};
 ghost use Rattle.semigroups.specs.Transformations.{transformationCells};
-ghost use Rattle.tables.specs.Answers.{numberedSays};
+ghost use Rattle.answers.specs.Answers.{numberedSays};
 ghost use Rattle.transformations.specs.Calls.{transformationSays, transformationCellsAfter};
 ghost use Rattle.semigroups.specs.Copies.{sameList};
 ghost use Rattle.cases.specs.InnerAnswering.{answerSaid};

@@ -11,8 +11,8 @@ ghost use Rattle.semigroups.specs.Tables.{largestOrder, Product, product, Eleme
 ghost use Rattle.semigroups.specs.Trials.{fits, passes};
 ghost use Rattle.constraints.specs.InnerConstraints.{permits, askedAt, imageProduct, newFits, nearFits};
 ghost use Rattle.constraints.specs.InnerTracking.{Trial, Tracks};
-use tables::limits::ORDER;
-use tables::limits::PLACES;
+use products::limits::ORDER;
+use products::limits::PLACES;
 
 // Returns whether a constraint permits the value y.
 fn allowed(constraint: u8, y: usize) -> bool
@@ -61,10 +61,10 @@ fn note_pair(
     ensures forced { λ _. ⌜ now (forced .exit) ≡ askedAt (now (forced .entry)) (product m (now (source .entry)) a b) (imageProduct (product n (now (target .entry))) (now (image .entry)) a b) ⌝ }
     ensures owner { λ _. ⌜ now (owner .exit) ≡ askedAt (now (owner .entry)) (imageProduct (product n (now (target .entry))) (now (image .entry)) a b) (product m (now (source .entry)) a b) ⌝ }
 {
-    let c = tables::times(source, m, a, b);
+    let c = products::times(source, m, a, b);
     let x = image[a - 1] as usize;
     let y = image[b - 1] as usize;
-    let z = tables::times(target, n, x, y);
+    let z = products::times(target, n, x, y);
     note(forced, c, z);
     note(owner, z, c);
 }
@@ -124,10 +124,10 @@ fn pair_fits(
     requires { ⌜ Element (len + 1) a × Element (len + 1) b ⌝ }
     ensures answer { λ r. ⌜ r ≡ fits (product m (now (source .entry))) (product n (now (target .entry))) (take len (now (image .entry)) ++ x ∷ []) a b ⌝ }
 {
-    let c = tables::times(source, m, a, b);
+    let c = products::times(source, m, a, b);
     let y = image_of(image, len, x, a);
     let z = image_of(image, len, x, b);
-    let v = tables::times(target, n, y, z);
+    let v = products::times(target, n, y, z);
     if c <= len + 1 {
         return image_of(image, len, x, c) == v;
     }

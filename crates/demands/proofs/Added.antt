@@ -20,7 +20,7 @@ use Rattle.semigroups.proofs.Light.{generators-pass, generators-refused}
 use Rattle.semigroups.proofs.Subsemigroups.{subsemigroup-passes, subsemigroup-examples}
 use Rattle.semigroups.proofs.Copies.{copies-pass, copies-examples}
 use Rattle.calls.specs.Subsemigroups.{subsemigroupSays, partAfter, elementsAfter}
-use Rattle.generated.proofs.Parts.{subsemigroup-keeps}
+use Rattle.parts.proofs.Parts.{subsemigroup-keeps}
 use Rattle.planning.specs.Degrees.{leastDegree, degreeQuestions, degreeRefusal}
 use Rattle.planning.specs.Calls.{degreeSays}
 use Rattle.planning.proofs.Questions.{degree-passes, positions-kept}

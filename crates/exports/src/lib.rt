@@ -21,16 +21,16 @@ ghost use Rattle.numbers.specs.Returned.{wordsOf};
 ghost use Rattle.planning.specs.Calls.{degreeSays, positionsAfter};
 ghost use Rattle.sheets.specs.Readings.{Reading};
 ghost use Rattle.sheets.specs.Calls.{loadNamesAnswer, namesAfter, lengthsAfter, saveNamesAnswer, sheetAfter};
+use copies::copies_words;
 use kinds::Kind;
-use words::copies_words;
-use words::degree_words;
+use outcomes::degree_words;
+use outcomes::limited_words;
+use outcomes::search_words;
 use words::generators_words;
 use words::index_period_words;
-use words::limited_words;
 use words::map_words;
 use words::numbered_words;
 use words::profile_words;
-use words::search_words;
 use words::verdict_words;
 
 // ---- tables and elements
@@ -214,7 +214,7 @@ pub extern "C" fn tickdrizzle_subsemigroup(
     ensures part { λ _. ⌜ now (part .exit) ≡ partAfter order (now (cells .entry)) (now (chosen .entry)) (now (part .entry)) (length (now (elements .entry))) ⌝ }
     ensures elements { λ _. ⌜ now (elements .exit) ≡ elementsAfter order (now (cells .entry)) (now (chosen .entry)) (length (now (part .entry))) (now (elements .entry)) ⌝ }
 {
-    *answer = numbered_words(generated::subsemigroup(cells, order, chosen, part, elements));
+    *answer = numbered_words(parts::subsemigroup(cells, order, chosen, part, elements));
 }
 
 // ---- transformations
@@ -254,7 +254,7 @@ pub extern "C" fn tickdrizzle_save(
     ensures answer { λ _. ⌜ now (answer .exit) ≡ answerWords numberValues (saveAnswer order (now (cells .entry)) (now (text .entry))) ⌝ }
     ensures text { λ _. ⌜ now (text .exit) ≡ textAfter order (now (cells .entry)) (now (text .entry)) ⌝ }
 {
-    *answer = numbered_words(text::save(cells, order, text));
+    *answer = numbered_words(saving::save(cells, order, text));
 }
 
 // ---- searches among given pairs

@@ -26,10 +26,10 @@ use Rattle.csv.proofs.Accepted.{first-row}
 use Rattle.csv.proofs.RoundTrips.{given-passed, loads-given}
 use denote.Enum.Declared.{tagOf}
 use types.Run.{OneOf, miss}
-use Rattle.tables.specs.Answers.{noRefusal, numberedSays}
-use Rattle.tables.specs.declared.Numbered.{Numbered}
-use Rattle.tables.specs.declared.Numbered.the-variants.{Number, Refused as NumberRefused}
-use Rattle.tables.proofs.Numbered as numbered
+use Rattle.answers.specs.Answers.{noRefusal, numberedSays}
+use Rattle.answers.specs.declared.Numbered.{Numbered}
+use Rattle.answers.specs.declared.Numbered.the-variants.{Number, Refused as NumberRefused}
+use Rattle.answers.proofs.Numbered as numbered
 use Rattle.files.specs.Files.{loadedQuestions, fileRefusal}
 use Rattle.files.specs.FilesLaws.{FilePasses}
 use Rattle.files.specs.Answers.{fileAnswer}

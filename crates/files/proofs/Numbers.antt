@@ -13,9 +13,9 @@ use Rattle.semigroups.specs.Questions.{ask, Refusal, firstNo}
 use Rattle.semigroups.specs.Calls.{givenUnless}
 use Rattle.semigroups.proofs.Lists.{all-at, member-mem}
 use Rattle.semigroups.proofs.Questions.{Listed, listed, listed-append}
-use Rattle.tables.specs.Answers.{numberedSays}
-use Rattle.tables.specs.declared.Numbered.{Numbered}
-use Rattle.tables.proofs.Questions.{square-small}
+use Rattle.answers.specs.Answers.{numberedSays}
+use Rattle.answers.specs.declared.Numbered.{Numbered}
+use Rattle.products.proofs.Products.{square-small}
 use Rattle.csv.specs.Tables.{orderOf}
 use Rattle.csv.specs.Questions.{sizeQuestions, loadQuestions}
 use Rattle.csv.proofs.Loading.{load-listed}

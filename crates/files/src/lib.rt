@@ -1,6 +1,6 @@
 // The questions about a file that holds a table: its bytes are loaded as text, and the table is checked.
 ghost use mathlib.Core.Path.{_≡_};
-ghost use Rattle.tables.specs.Answers.{numberedSays};
+ghost use Rattle.answers.specs.Answers.{numberedSays};
 ghost use Rattle.csv.specs.Calls.{cellsAfter};
 ghost use Rattle.files.specs.Answers.{fileAnswer, failedNumber};
 use tables::Numbered;

@@ -18,9 +18,9 @@ use Rattle.semigroups.proofs.Lists.{mem-take}
 use Rattle.semigroups.proofs.FlatMap.{mem-flatMap, flatMap-mem}
 use Rattle.semigroups.proofs.NoRepeats.{mem-place, place-mem}
 use Rattle.semigroups.proofs.Generated.{same-length, generated-inside, generated-no-repeats, generated-closed, generated-holds, generated-smallest}
-use Rattle.tables.specs.InnerFound.{indicator, adding, addingAll, Found}
-use Rattle.tables.proofs.Indicators.{indicator-same}
-use Rattle.tables.proofs.Found.{adding-last, all-keeps, all-longer, all-place, all-holds, mem-all, found-list, found-again, found-at}
+use Rattle.light.specs.InnerFound.{indicator, adding, addingAll, Found}
+use Rattle.light.proofs.Indicators.{indicator-same}
+use Rattle.light.proofs.Found.{adding-last, all-keeps, all-longer, all-place, all-holds, mem-all, found-list, found-again, found-at}
 use Rattle.generated.specs.InnerFound.{productsWith, productsUpTo}
 
 -- ---- products of one entry

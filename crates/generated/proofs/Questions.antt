@@ -12,7 +12,7 @@ use Rattle.semigroups.specs.InnerGenerated.{Inside}
 use Rattle.semigroups.proofs.Booleans.{both, not-of-true, not-of-false, impossible}
 use Rattle.semigroups.proofs.NoRepeats.{mem-place, place-mem}
 use Rattle.semigroups.proofs.Tables.{cells-in-range, no-bad-cell}
-use Rattle.tables.proofs.Triples.{fails}
+use Rattle.products.proofs.Triples.{fails}
 
 module _ (n : ℕ) (l : List ℕ) where
   pub entries-inside : badCell n l ≡ none → Inside n l

@@ -1,7 +1,7 @@
--- The refusals of the shorter check carry at most three values (`Brief` in `tables`). Assumes nothing.
+-- The refusals of the shorter check carry at most three values (`Brief` in `answers`). Assumes nothing.
 use native.Mathlib.Omega.{arith}
-use Rattle.tables.specs.AnswersLaws.{Brief}
-use Rattle.tables.proofs.Refusals.{fault-brief}
+use Rattle.answers.specs.AnswersLaws.{Brief}
+use Rattle.answers.proofs.Refusals.{fault-brief}
 use Rattle.generated.specs.Answers.{generatorsFaultRefusal}
 use Rattle.generated.specs.declared.GeneratorsFault.{GeneratorsFault}
 use Rattle.generated.specs.declared.GeneratorsFault.the-variants.{Table, Entry, Elements}

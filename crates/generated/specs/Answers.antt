@@ -3,7 +3,7 @@ use mathlib.Core.List.{[]}
 use mathlib.Core.Option.{Option, none, some}
 use Rattle.semigroups.specs.Questions.{Refusal}
 use Rattle.semigroups.specs.InnerQuestions.{no}
-use Rattle.tables.specs.Answers.{faultRefusal}
+use Rattle.answers.specs.Answers.{faultRefusal}
 use Rattle.generated.specs.declared.GeneratorsFault.{GeneratorsFault}
 use Rattle.generated.specs.declared.GeneratorsFault.the-variants.{Table, Entry, Elements}
 use Rattle.generated.specs.declared.GeneratorsVerdict.{GeneratorsVerdict}

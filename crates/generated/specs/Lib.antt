@@ -1,4 +1,2 @@
 pub mod Answers
-pub mod CallsLaws
 pub mod InnerFound
-pub mod InnerParts

@@ -1,4 +1,2 @@
-pub mod Counts
-pub mod PerElement
 pub mod Powers
 pub mod Questions

@@ -15,10 +15,10 @@ use Rattle.semigroups.proofs.Booleans.{equal-or-not, at-most-or-above}
 use Rattle.semigroups.proofs.Tables.{product-element}
 use Rattle.semigroups.proofs.IndexPeriod.{power-one, power-next, power-element, repeat-early, index-period, index-period-bound, index-period-of-first-repeat}
 use Rattle.semigroups.proofs.Idempotents.{multiple-between, idempotent-power-at}
-use Rattle.tables.specs.InnerPerElement.{perElement}
+use Rattle.products.specs.InnerPerElement.{perElement}
 use Rattle.invariants.specs.InnerPowers.{settling, settled}
-use Rattle.tables.proofs.Values.{getD-zeros}
-use Rattle.invariants.proofs.PerElement.{per-element-at, fill-start, fill-step}
+use Rattle.products.proofs.Values.{getD-zeros}
+use Rattle.products.proofs.PerElement.{per-element-at, fill-start, fill-step}
 
 -- The powers before k were noted, each at its own place, and nothing else was.
 pub record Noted (s : Product) (a k : ℕ) (met : List ℕ) : Type 0 where

@@ -4,7 +4,7 @@ use mathlib.Core.Option.{Option, none, some}
 use Rattle.semigroups.specs.Questions.{Refusal}
 use Rattle.semigroups.specs.Calls.{Answer, refused, gives}
 use Rattle.semigroups.specs.Invariants as marks
-use Rattle.tables.specs.Answers.{noRefusal}
+use Rattle.answers.specs.Answers.{noRefusal}
 use Rattle.invariants.specs.declared.ElementVerdict.{ElementVerdict}
 use Rattle.invariants.specs.declared.ElementVerdict.the-variants as verdict
 use Rattle.invariants.specs.declared.IndexPeriod.{IndexPeriod}

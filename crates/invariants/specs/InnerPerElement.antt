@@ -4,28 +4,9 @@ use Prim.Native.Nat.{ℕ}
 use Rattle.semigroups.specs.Tables.{Product}
 use Rattle.semigroups.specs.Invariants as marks
 use Rattle.invariants.specs.declared.IndexPeriodKeys.{IndexPeriodKeys}
-use Rattle.invariants.specs.declared.LineCounts.{LineCounts}
-use Rattle.invariants.specs.declared.ElementCounts.{ElementCounts}
-use Rattle.tables.specs.InnerPerElement.{perElement}
-use Rattle.invariants.specs.declared.IndexPeriodKeys.{IndexPeriodKeys}
-use Rattle.invariants.specs.declared.LineCounts.{LineCounts}
-use Rattle.invariants.specs.declared.ElementCounts.{ElementCounts}
+use Rattle.products.specs.InnerPerElement.{perElement}
 
 -- The keys of every element that are compared: its index and its period. The idempotent power is not compared.
 pub record AllIndexPeriodKeys (n : ℕ) (s : Product) (r : IndexPeriodKeys) : Type 0 where
   pub index : r .index ≡ perElement n (marks.index n s)
   pub period : r .period ≡ perElement n (marks.period n s)
-
--- The counts of every element over its row and its column.
-pub record AllLineCounts (n : ℕ) (s : Product) (r : LineCounts) : Type 0 where
-  pub row : r .row ≡ perElement n (marks.rowFrequency n s)
-  pub column : r .column ≡ perElement n (marks.columnFrequency n s)
-  pub commuting : r .commuting ≡ perElement n (marks.commuting n s)
-
--- The counts of every element's profile.
-pub record AllCounts (n : ℕ) (s : Product) (r : ElementCounts) : Type 0 where
-  pub frequency : r .frequency ≡ perElement n (marks.frequency n s)
-  pub diagonal : r .diagonal ≡ perElement n (marks.diagonalFrequency n s)
-  pub row : r .row ≡ perElement n (marks.rowFrequency n s)
-  pub column : r .column ≡ perElement n (marks.columnFrequency n s)
-  pub commuting : r .commuting ≡ perElement n (marks.commuting n s)

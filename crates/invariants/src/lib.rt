@@ -1,19 +1,20 @@
 // Invariants of the elements of a table (arXiv 1603.06204, sections 3 and 4; RULES 4): index, period and idempotent power, and the profile. `index_period`
 // and `profile` answer for one element; cells, order and element may have any content, and the questions about them are asked first. `all_index_period_keys`
-// and `all_counts` return the values of every element, for cells that fill a table.
+// returns the index and the period of every element, for cells that fill a table.
 ghost use mathlib.Core.Path.{_≡_};
 ghost use Rattle.semigroups.specs.Tables.{product, Element, Filled, Associative};
 ghost use Rattle.semigroups.specs.Questions.{elementRefusal};
-ghost use Rattle.semigroups.specs.Invariants.{indexPeriod, rowFrequency, columnFrequency, commuting, profile};
+ghost use Rattle.semigroups.specs.Invariants.{indexPeriod, profile};
 ghost use Rattle.semigroups.specs.Calls.{givenUnless};
-ghost use Rattle.tables.specs.InnerCounting.{occurrences, InRange};
 ghost use Rattle.invariants.specs.Answers.{elementVerdictRefusal, indexPeriodValue, indexPeriodSays, profileValue, profileSays};
-ghost use Rattle.invariants.specs.InnerPerElement.{AllIndexPeriodKeys, AllLineCounts, AllCounts};
+ghost use Rattle.invariants.specs.InnerPerElement.{AllIndexPeriodKeys};
 ghost use Rattle.invariants.specs.InnerPowers.{settled};
+use counts::column_frequency;
+use counts::commuting;
+use counts::count;
+use counts::row_frequency;
 use tables::No;
 use tables::Verdict;
-use tables::counts::frequencies;
-use tables::counts::tally;
 use tables::limits::ORDER;
 use tables::limits::PLACES;
 
@@ -118,89 +119,6 @@ pub fn all_index_period_keys(cells: &[u8], n: usize) -> IndexPeriodKeys
     IndexPeriodKeys { index, period }
 }
 
-// ---- counts
-
-// Returns how often a stands among k cells: the first, and then each that is `step` cells after the one before.
-fn count(cells: &[u8], k: usize, step: usize, a: usize) -> usize
-    requires { ⌜ InRange k step (now cells) ⌝ }
-    ensures answer { λ r. ⌜ r ≡ occurrences a step k (now (cells .entry)) ⌝ }
-{
-    let mut found: usize = 0;
-    let mut i: usize = 0;
-    while i < k {
-        if cells[i * step] as usize == a {
-            found += 1;
-        }
-        i += 1;
-    }
-    found
-}
-
-// Returns how often a stands in row a, the n cells that start at (a - 1) × n.
-fn row_frequency(cells: &[u8], n: usize, a: usize) -> usize
-    requires { ⌜ Filled n (now cells) ⌝ ∗ ⌜ Element n a ⌝ }
-    ensures answer { λ r. ⌜ r ≡ rowFrequency n (product n (now (cells .entry))) a ⌝ }
-{
-    let at = (a - 1) * n;
-    count(&cells[at..], n, 1, a)
-}
-
-// Returns how often a stands in column a, whose n cells stand n apart.
-fn column_frequency(cells: &[u8], n: usize, a: usize) -> usize
-    requires { ⌜ Filled n (now cells) ⌝ ∗ ⌜ Element n a ⌝ }
-    ensures answer { λ r. ⌜ r ≡ columnFrequency n (product n (now (cells .entry))) a ⌝ }
-{
-    let at = a - 1;
-    count(&cells[at..], n, n, a)
-}
-
-// Returns how many b have a·b = b·a, by comparing row a with column a.
-fn commuting(cells: &[u8], n: usize, a: usize) -> usize
-    requires { ⌜ Filled n (now cells) ⌝ ∗ ⌜ Element n a ⌝ }
-    ensures answer { λ r. ⌜ r ≡ commuting n (product n (now (cells .entry))) a ⌝ }
-{
-    let mut found: usize = 0;
-    let mut b: usize = 1;
-    while b <= n {
-        let product = tables::times(cells, n, a, b);
-        let turned = tables::times(cells, n, b, a);
-        if product == turned {
-            found += 1;
-        }
-        b += 1;
-    }
-    found
-}
-
-// The counts of element a over its row and its column stand at place a - 1; places after the last element hold 0.
-struct LineCounts {
-    row: [u16; ORDER],
-    column: [u16; ORDER],
-    commuting: [u16; ORDER],
-}
-
-// Returns the counts of every element over its row and its column.
-fn line_counts(cells: &[u8], n: usize) -> LineCounts
-    requires { ⌜ Filled n (now cells) ⌝ }
-    ensures answer { λ r. ⌜ AllLineCounts n (product n (now (cells .entry))) r ⌝ }
-{
-    let mut row = [0u16; ORDER];
-    let mut column = [0u16; ORDER];
-    let mut commute = [0u16; ORDER];
-    let mut a: usize = 1;
-    while a <= n {
-        row[a - 1] = row_frequency(cells, n, a) as u16;
-        column[a - 1] = column_frequency(cells, n, a) as u16;
-        commute[a - 1] = commuting(cells, n, a) as u16;
-        a += 1;
-    }
-    LineCounts {
-        row,
-        column,
-        commuting: commute,
-    }
-}
-
 // ---- the profile
 
 // The index-period and the counts of a profile (definition 4.1; RULES 4.5).
@@ -241,32 +159,5 @@ pub fn profile(cells: &[u8], n: usize, a: usize) -> ProfileAnswer
     match check_element(cells, n, a) {
         ElementVerdict::Refused(no) => ProfileAnswer::Refused(no),
         ElementVerdict::Accepted => ProfileAnswer::Value(profile_of(cells, n, a)),
-    }
-}
-
-// Each count of element a stands at place a - 1; places after the last element hold 0.
-pub struct ElementCounts {
-    pub frequency: [u16; ORDER],
-    pub diagonal: [u16; ORDER],
-    pub row: [u16; ORDER],
-    pub column: [u16; ORDER],
-    pub commuting: [u16; ORDER],
-}
-
-// Returns the counts of every element's profile.
-pub fn all_counts(cells: &[u8], n: usize) -> ElementCounts
-    requires { ⌜ Filled n (now cells) ⌝ }
-    ensures answer { λ r. ⌜ AllCounts n (product n (now (cells .entry))) r ⌝ }
-{
-    let lines = line_counts(cells, n);
-    let row = lines.row;
-    let column = lines.column;
-    let commuting = lines.commuting;
-    ElementCounts {
-        frequency: frequencies(cells, n),
-        diagonal: tally(cells, n, n, n + 1),
-        row,
-        column,
-        commuting,
     }
 }

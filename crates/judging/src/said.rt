@@ -1,6 +1,6 @@
 // The answer to the questions about a table, as numbers.
 ghost use mathlib.Core.Path.{_≡_};
-ghost use Rattle.tables.specs.Answers.{noRefusal, verdictRefusal};
+ghost use Rattle.answers.specs.Answers.{noRefusal, verdictRefusal};
 ghost use Rattle.plain.specs.InnerSaid.{refusalSaid, saidOf};
 ghost use Rattle.judging.specs.InnerSaid.{sameSaid};
 use plain::Said;

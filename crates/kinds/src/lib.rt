@@ -136,7 +136,7 @@ fn search_turned(
     ensures room { λ _. ⌜ now (room .exit) ≡ overwritten (turnedCells n (now (target .entry))) (now (room .entry)) ⌝ }
 {
     let size = n * n;
-    tables::turn(target, n, room);
+    products::turn(target, n, room);
     search_straight(true, next, limit, source, m, &room[..size], n, map, scratch)
 }
 

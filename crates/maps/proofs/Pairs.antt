@@ -7,7 +7,7 @@ use mathlib.Core.Option.{Option, none, some}
 use Prim.Native.Nat.{ℕ, _+_, _≤_, _<_}
 use Rattle.semigroups.specs.Lists.{find, lists}
 use Rattle.semigroups.specs.Tables.{Element}
-use Rattle.tables.proofs.Remaining.{remaining, begin, enter, skip, pass, hit, leave}
+use Rattle.products.proofs.Remaining.{remaining, begin, enter, skip, pass, hit, leave}
 
 module _ (test : List ℕ → Bool) (m : ℕ) where
   unfoldable pub fromFirst : ℕ → Option (List ℕ)

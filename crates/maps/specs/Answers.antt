@@ -5,7 +5,7 @@ use Prim.Native.Nat.{ℕ}
 use Rattle.semigroups.specs.InnerQuestions.{no, naming}
 use Rattle.semigroups.specs.Calls.{Answer, refused, gives}
 use Rattle.semigroups.specs.MapCheck.{Checked, holds, outside, equalImages, wrongProduct}
-use Rattle.tables.specs.Answers.{faultRefusal, sideNumber}
+use Rattle.answers.specs.Answers.{faultRefusal, sideNumber}
 use Rattle.maps.specs.declared.MapAnswer.{MapAnswer}
 use Rattle.maps.specs.declared.MapAnswer.the-variants.{Refused, MapLength, Holds, Outside, EqualImages, WrongProduct}
 use Rattle.maps.specs.declared.Pair.{Pair}

@@ -8,7 +8,7 @@ use lib.Dec.{leb}
 use lib.ListN.{length, take, drop, set, replicate}
 use Rattle.semigroups.specs.Tables.{largestOrder}
 use Rattle.semigroups.specs.Questions.{firstNo}
-use Rattle.tables.specs.Answers.{noRefusal}
+use Rattle.answers.specs.Answers.{noRefusal}
 use Rattle.sheets.specs.Grammar.{Row}
 use Rattle.sheets.specs.Readings.{rowsNames}
 use Rattle.sheets.specs.Names.{namesText, namesAt}

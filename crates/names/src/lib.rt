@@ -8,7 +8,7 @@ ghost use lib.ListN.{length, take, drop, replicate};
 ghost use lib.Seq.{sets};
 ghost use Rattle.semigroups.specs.Tables.{largestOrder};
 ghost use Rattle.semigroups.specs.Calls.{overwritten};
-ghost use Rattle.tables.specs.Answers.{numberedSays};
+ghost use Rattle.answers.specs.Answers.{numberedSays};
 ghost use Rattle.sheets.specs.Grammar.{IsSheet, sheetRows};
 ghost use Rattle.sheets.specs.Readings.{Reading, rowsNames};
 ghost use Rattle.sheets.specs.Names.{isName, isNumber, needsQuotes, doubled, nameText, namesText, namesAt};

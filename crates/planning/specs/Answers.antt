@@ -3,7 +3,7 @@
 use mathlib.Core.Option.{Option, none, some}
 use Prim.Native.Nat.{ℕ}
 use Rattle.semigroups.specs.Calls.{Answer, refused, gives}
-use Rattle.tables.specs.Answers.{noRefusal}
+use Rattle.answers.specs.Answers.{noRefusal}
 use Rattle.planning.specs.declared.DegreeAnswer.{DegreeAnswer}
 use Rattle.planning.specs.declared.DegreeAnswer.the-variants.{Degree, Nothing, Refused}
 

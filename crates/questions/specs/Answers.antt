@@ -3,7 +3,7 @@ use mathlib.Core.List.{[]}
 use mathlib.Core.Option.{Option, none, some}
 use Rattle.semigroups.specs.Questions.{Refusal}
 use Rattle.semigroups.specs.InnerQuestions.{no, naming}
-use Rattle.tables.specs.Answers.{faultRefusal, sideNumber}
+use Rattle.answers.specs.Answers.{faultRefusal, sideNumber}
 use Rattle.questions.specs.declared.SearchFault.{SearchFault}
 use Rattle.questions.specs.declared.SearchFault.the-variants.{Table, MapLength, ScratchLength, PairsLength}
 use Rattle.questions.specs.declared.Questions.{Questions}

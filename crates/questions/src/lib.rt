@@ -1,7 +1,7 @@
 // The questions that a search asks of its two tables and its buffers, one after another, and the refusal of each.
 ghost use mathlib.Core.Path.{_≡_};
 ghost use Rattle.semigroups.specs.Questions.{searchRefusal};
-ghost use Rattle.tables.specs.Answers.{refusalNumbers};
+ghost use Rattle.answers.specs.Answers.{refusalNumbers};
 ghost use Rattle.questions.specs.Answers.{searchFaultRefusal, questionsRefusal};
 ghost use Rattle.calls.specs.Among.{amongRefusal};
 use tables::Fault;

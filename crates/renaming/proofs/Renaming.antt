@@ -21,9 +21,9 @@ use Rattle.semigroups.proofs.NoRepeats.{mem-place, elements-no-repeats}
 use Rattle.semigroups.proofs.Tables.{filled-closed}
 use Rattle.semigroups.proofs.Generated.{same-length}
 use Rattle.semigroups.proofs.Subsemigroups.{part-accepted, part-embeds}
-use Rattle.tables.specs.InnerFound.{adding, addingAll, Found}
-use Rattle.tables.proofs.Found.{mem-all, all-holds, found-nil, found-kept, found-added, entry-added}
-use Rattle.generated.specs.InnerParts.{ClosedPart}
+use Rattle.light.specs.InnerFound.{adding, addingAll, Found}
+use Rattle.light.proofs.Found.{mem-all, all-holds, found-nil, found-kept, found-added, entry-added}
+use Rattle.parts.specs.InnerParts.{ClosedPart}
 use Rattle.renaming.specs.InnerRenaming.{byFirstPlaces, renamedCells}
 
 -- The elements of a list are found: some arrays hold them.

@@ -4,7 +4,7 @@ use Prim.Native.Nat.{ℕ}
 use Rattle.semigroups.specs.Lists.{elements}
 use Rattle.semigroups.specs.Tables.{product}
 use Rattle.semigroups.specs.Subsemigroups.{partCells}
-use Rattle.tables.specs.InnerFound.{addingAll}
+use Rattle.light.specs.InnerFound.{addingAll}
 
 -- The elements of a table of order n, each once, in the order of their first places in the cells, read row after row; then those that stand nowhere, in rising
 -- order.

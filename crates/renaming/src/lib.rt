@@ -6,7 +6,7 @@ ghost use lib.ListN.{length, replicate};
 ghost use Rattle.semigroups.specs.Tables.{Filled};
 ghost use Rattle.semigroups.specs.Calls.{overwritten};
 ghost use Rattle.renaming.specs.InnerRenaming.{byFirstPlaces, renamedCells};
-use tables::generators::add;
+use light::add;
 use tables::limits::ORDER;
 use tables::limits::PLACES;
 
@@ -38,5 +38,5 @@ pub fn rename(cells: &[u8], n: usize, renamed: &mut [u8])
     ensures renamed { λ _. ⌜ now (renamed .exit) ≡ overwritten (renamedCells n (now (cells .entry))) (now (renamed .entry)) ⌝ }
 {
     let elements = by_first_places(cells, n);
-    generated::write_part(cells, n, &elements, n, renamed);
+    parts::write_part(cells, n, &elements, n, renamed);
 }

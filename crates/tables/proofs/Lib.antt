@@ -1,10 +1,1 @@
-pub mod Remaining
-pub mod Triples
 pub mod Questions
-pub mod Values
-pub mod Counting
-pub mod PerElement
-pub mod Indicators
-pub mod Found
-pub mod Choice
-pub mod Refusals

@@ -17,23 +17,7 @@ use Rattle.semigroups.proofs.Tables.{place-below, accepted}
 use Rattle.semigroups.proofs.Questions.{first-sided, first-append, failed-before, passed-before}
 use Rattle.semigroups.proofs.Completions.{orElse-nothing, orElse-none, find-firstOf, firstFrom, first-start, first-skip, first-hit, first-end}
 
-pub square-small : (n : ℕ) → n ≤ 120 → n * n ≤ 14400
-square-small n h = mul-le-mul h h
-
 module _ (n : ℕ) (cells : List ℕ) where
-  -- ---- the product of two elements
-
-  module _ (f : Filled n cells) (i j : ℕ) (hi : Element n i) (hj : Element n j) where
-    pub place-in : (i - 1) * n + (j - 1) < length cells
-    place-in = rw (f .size) (place-below n n i j hi hj)
-
-    pub product-found : getD cells ((i - 1) * n + (j - 1)) 0 ≡ product n cells i j
-    unfolding product
-    product-found = refl
-
-    pub found-element : Element n (getD cells ((i - 1) * n + (j - 1)) 0)
-    found-element = f .in-range ((i - 1) * n + (j - 1)) place-in
-
   -- ---- question 3
 
   -- Cell k where it is not 1 to n.

@@ -1,7 +1,7 @@
 -- What some of the questions about a text say: the number of the question (RULES 7.2), and what it carries. Assumes nothing.
 use mathlib.Core.Option.{Option, none, some}
 use Rattle.semigroups.specs.Questions.{Refusal}
-use Rattle.tables.specs.Answers.{noRefusal}
+use Rattle.answers.specs.Answers.{noRefusal}
 use Rattle.text.specs.declared.Judged.{Judged}
 use Rattle.text.specs.declared.Judged.the-variants.{Passed, Failed}
 

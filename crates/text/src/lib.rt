@@ -1,27 +1,23 @@
-// Cayley tables as RFC 4180 text: a record for each row, a decimal field for each cell, each record closed by CR LF; a text that is loaded may lack the last
-// CR LF. `load` asks questions 20, 21, 23 to 27 and 1 of a text, `save` asks 1, 2, 3 and 28; a refusal changes no byte. The definitions that the contracts
-// cite, and the proof that saving and loading undo each other, are in the crate `csv`.
+// Loads Cayley tables from RFC 4180 text: a record for each row, a decimal field for each cell, each record closed by CR LF, which the last may lack. `load`
+// asks questions 20, 21, 23 to 27 and 1 of a text; a refusal changes no byte. The definitions that the contracts cite, and the proof that saving and loading
+// undo each other, are in the crate `csv`.
 ghost use mathlib.Core.Path.{_≡_};
 ghost use mathlib.Core.Option.{none};
-ghost use Prim.Native.Nat.{_+_, _≤_};
+ghost use Prim.Native.Nat.{_≤_};
 ghost use lib.ListN.{length, drop};
-ghost use lib.Seq.{sets};
-ghost use Rattle.semigroups.specs.Tables.{Element, Filled};
 ghost use Rattle.csv.specs.InnerCursor.{digits, fieldEnd};
 ghost use Rattle.csv.specs.Decimals.{value};
-ghost use Rattle.csv.specs.Records.{lineText};
-ghost use Rattle.csv.specs.Tables.{fieldsOf, orderOf, cellsOf, rowFields, tableText};
+ghost use Rattle.csv.specs.Tables.{fieldsOf, orderOf, cellsOf};
 ghost use Rattle.csv.specs.InnerQuestions.{bytesRefusal, fieldsRefusal, gridRefusal, fieldRefusal};
 ghost use Rattle.semigroups.specs.Calls.{overwritten};
-ghost use Rattle.csv.specs.Calls.{loadAnswer, cellsAfter, saveAnswer, textAfter};
-ghost use Rattle.tables.specs.Answers.{numberedSays};
+ghost use Rattle.csv.specs.Calls.{loadAnswer, cellsAfter};
+ghost use Rattle.answers.specs.Answers.{numberedSays};
 ghost use Rattle.text.specs.Answers.{judgedRefusal};
 ghost use Rattle.text.specs.InnerFields.{fieldAt};
-use tables::No;
-use tables::Numbered;
-use tables::Verdict;
-use tables::limits::ORDER;
-use tables::limits::TEXT;
+use answers::No;
+use answers::Numbered;
+use products::limits::ORDER;
+use products::limits::TEXT;
 
 // Whether some of the questions about a text pass, or the first that fails.
 enum Judged {
@@ -258,67 +254,4 @@ pub fn load(text: &[u8], cells: &mut [u8]) -> Numbered
     }
     fill(text, cells);
     Numbered::Number(n)
-}
-
-// Returns the length of the text of a table: each cell is followed by a comma or a CR, each row by an LF.
-fn text_length(cells: &[u8], n: usize) -> usize
-    requires { ⌜ Filled n (now cells) ⌝ }
-    ensures answer { λ r. ⌜ r ≡ length (tableText n (now (cells .entry))) ⌝ }
-{
-    let mut total = n;
-    let mut place: usize = 0;
-    while place < cells.len() {
-        total += lines::digit_count(cells[place] as usize) + 1;
-        place += 1;
-    }
-    total
-}
-
-// Writes row i of a table at `start`, with its line break. Returns the place after it.
-fn put_row(cells: &[u8], n: usize, i: usize, text: &mut [u8], start: usize) -> usize
-    requires table { ⌜ Filled n (now cells) ⌝ }
-    requires row { ⌜ Element n i ⌝ }
-    requires room { ⌜ start + length (lineText (rowFields n (now cells) i)) ≤ length (now text) ⌝ }
-    ensures answer { λ r. ⌜ r ≡ start + length (lineText (rowFields n (now (cells .entry)) i)) ⌝ }
-    ensures text { λ _. ⌜ now (text .exit) ≡ sets (now (text .entry)) start (lineText (rowFields n (now (cells .entry)) i)) ⌝ }
-{
-    let mut at = lines::put_number(text, start, tables::times(cells, n, i, 1));
-    let mut j: usize = 2;
-    while j <= n {
-        at = lines::put_field(text, at, tables::times(cells, n, i, j));
-        j += 1;
-    }
-    lines::put_break(text, at)
-}
-
-// Writes the text of a table to the start of `text`. Returns its length.
-fn put_rows(cells: &[u8], n: usize, text: &mut [u8]) -> usize
-    requires table { ⌜ Filled n (now cells) ⌝ }
-    requires room { ⌜ length (tableText n (now cells)) ≤ length (now text) ⌝ }
-    ensures answer { λ r. ⌜ r ≡ length (tableText n (now (cells .entry))) ⌝ }
-    ensures text { λ _. ⌜ now (text .exit) ≡ overwritten (tableText n (now (cells .entry))) (now (text .entry)) ⌝ }
-{
-    let mut at: usize = 0;
-    let mut i: usize = 1;
-    while i <= n {
-        at = put_row(cells, n, i, text, at);
-        i += 1;
-    }
-    at
-}
-
-// Saves the table of this order with these cells: writes its text to the start of `text` and answers its length; or answers the earliest
-// question that fails, and writes nothing.
-pub fn save(cells: &[u8], order: usize, text: &mut [u8]) -> Numbered
-    ensures answer { λ r. ⌜ numberedSays r ≡ saveAnswer order (now (cells .entry)) (now (text .entry)) ⌝ }
-    ensures text { λ _. ⌜ now (text .exit) ≡ textAfter order (now (cells .entry)) (now (text .entry)) ⌝ }
-{
-    let verdict = tables::check_cells(cells, order);
-    if let Verdict::Refused(f) = verdict {
-        return Numbered::Refused(f.no());
-    }
-    if text.len() < text_length(cells, order) {
-        return Numbered::Refused(No::Bare(28));
-    }
-    Numbered::Number(put_rows(cells, order, text))
 }

@@ -3,7 +3,7 @@
 ghost use mathlib.Core.Path.{_≡_};
 ghost use lib.ListN.{length};
 ghost use Rattle.semigroups.specs.Calls.{givenUnless, writtenUnless};
-ghost use Rattle.tables.specs.Answers.{numberedSays};
+ghost use Rattle.answers.specs.Answers.{numberedSays};
 ghost use Rattle.transformations.specs.Calls.{transformationSays, transformationCellsAfter};
 ghost use Rattle.transformations.specs.InnerQuestions.{roomRefusal};
 use tables::No;

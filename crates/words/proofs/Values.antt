@@ -1,4 +1,4 @@
--- The numbers of a refusal that carries at most three values (`Brief` in `tables`) say all of it. Assumes nothing.
+-- The numbers of a refusal that carries at most three values (`Brief` in `answers`) say all of it. Assumes nothing.
 use mathlib.Core.Path.{_≡_, refl, ap, _∙_}
 use mathlib.Core.List.{List, [], _∷_}
 use Prim.Native.Nat.{ℕ, _≤_}
@@ -6,9 +6,9 @@ use native.Mathlib.Omega.{arith}
 use lib.ListN.{length, getD}
 use Rattle.semigroups.specs.Questions.{Refusal}
 use Rattle.semigroups.specs.InnerQuestions.{naming}
-use Rattle.tables.specs.Answers.{refusalNumbers, numbersNaming}
-use Rattle.tables.specs.AnswersLaws.{Brief}
-use Rattle.tables.specs.declared.Refusal.{Refusal as Numbers}
+use Rattle.answers.specs.Answers.{refusalNumbers, numbersNaming}
+use Rattle.answers.specs.AnswersLaws.{Brief}
+use Rattle.answers.specs.declared.Refusal.{Refusal as Numbers}
 use Rattle.numbers.specs.Words.{words}
 use Rattle.words.specs.Answers.{numbersWords}
 

@@ -2,7 +2,7 @@
 use mathlib.Core.List.{List, [], _∷_}
 use Prim.Native.Nat.{ℕ}
 use Rattle.numbers.specs.Words.{words}
-use Rattle.tables.specs.declared.Refusal.{Refusal as Numbers}
+use Rattle.answers.specs.declared.Refusal.{Refusal as Numbers}
 
 -- The sixteen numbers of a refusal that is given as numbers.
 abbrev pub numbersWords : Numbers → List ℕ

@@ -1,32 +1,25 @@
-// The answers of the library as sixteen numbers, for programs in C and Rust: the number of the earliest failed question, or 0; the side that a refusal names,
-// 1 for source or 2 for target, or 0; then the values of the answer, and zeros.
+// The answers about tables, elements and maps as sixteen numbers, for programs in C and Rust: the number of the earliest failed question, or 0; the side that
+// a refusal names, 1 for source or 2 for target, or 0; then the values of the answer, and zeros.
 ghost use mathlib.Core.Path.{_≡_};
 ghost use Prim.Native.Nat.{_≤_};
 ghost use lib.ListN.{length};
-ghost use Rattle.tables.specs.Answers.{verdictRefusal, numberedSays};
+ghost use Rattle.answers.specs.Answers.{verdictRefusal, numberedSays};
 ghost use Rattle.invariants.specs.Answers.{indexPeriodSays, profileSays};
 ghost use Rattle.maps.specs.Answers.{mapAnswerSays};
 ghost use Rattle.generated.specs.Answers.{generatorsVerdictRefusal};
-ghost use Rattle.copies.specs.Answers.{copiesAnswerSays};
-ghost use Rattle.search.specs.Answers.{searchAnswerSays, limitedAnswerSays};
-ghost use Rattle.planning.specs.Answers.{degreeAnswerSays};
 ghost use Rattle.numbers.specs.Words.{words};
 ghost use Rattle.words.specs.Answers.{numbersWords};
-ghost use Rattle.numbers.specs.Numbers.{questionWords, answerWords, indexPeriodValues, profileValues, checkedValues, soughtValues, limitedValues, numberValues, degreeValues, copiesValues};
-use copies::CopiesAnswer;
+ghost use Rattle.numbers.specs.Numbers.{questionWords, answerWords, indexPeriodValues, profileValues, checkedValues, numberValues};
 use generated::GeneratorsVerdict;
 use invariants::IndexPeriodAnswer;
 use invariants::ProfileAnswer;
 use maps::MapAnswer;
-use planning::DegreeAnswer;
-use search::LimitedAnswer;
-use search::SearchAnswer;
 use tables::Numbered;
 use tables::Refusal;
 use tables::Verdict;
 
 // Returns the number, the side and the values, then zeros.
-fn words(number: usize, side: usize, values: &[usize]) -> [u64; 16]
+pub fn words(number: usize, side: usize, values: &[usize]) -> [u64; 16]
     requires few { ⌜ length (now values) ≤ 14 ⌝ }
     ensures answer { λ r. ⌜ r ≡ words number side (now (values .entry)) ⌝ }
 {
@@ -42,7 +35,7 @@ fn words(number: usize, side: usize, values: &[usize]) -> [u64; 16]
 }
 
 // Returns the sixteen numbers of a refusal.
-fn refusal_words(refusal: Refusal) -> [u64; 16]
+pub fn refusal_words(refusal: Refusal) -> [u64; 16]
     ensures answer { λ r. ⌜ r ≡ numbersWords refusal ⌝ }
 {
     let values = [refusal.first, refusal.second, refusal.third];
@@ -120,29 +113,6 @@ pub fn generators_words(verdict: GeneratorsVerdict) -> [u64; 16]
     }
 }
 
-// Returns the sixteen numbers of an answer of a search.
-pub fn search_words(said: SearchAnswer) -> [u64; 16]
-    ensures answer { λ r. ⌜ r ≡ answerWords soughtValues (searchAnswerSays said) ⌝ }
-{
-    match said {
-        SearchAnswer::Found => words(0, 0, &[1]),
-        SearchAnswer::Nothing => words(0, 0, &[0]),
-        SearchAnswer::Refused(fault) => refusal_words(fault.refusal()),
-    }
-}
-
-// Returns the sixteen numbers of an answer of a search with a limit.
-pub fn limited_words(said: LimitedAnswer) -> [u64; 16]
-    ensures answer { λ r. ⌜ r ≡ answerWords limitedValues (limitedAnswerSays said) ⌝ }
-{
-    match said {
-        LimitedAnswer::Found(trials) => words(0, 0, &[1, trials as usize]),
-        LimitedAnswer::Nothing(trials) => words(0, 0, &[0, trials as usize]),
-        LimitedAnswer::Stopped => words(0, 0, &[2]),
-        LimitedAnswer::Refused(fault) => refusal_words(fault.refusal()),
-    }
-}
-
 // Returns the sixteen numbers of an answer that is a number or a "no".
 pub fn numbered_words(said: Numbered) -> [u64; 16]
     ensures answer { λ r. ⌜ r ≡ answerWords numberValues (numberedSays said) ⌝ }
@@ -150,28 +120,5 @@ pub fn numbered_words(said: Numbered) -> [u64; 16]
     match said {
         Numbered::Number(x) => words(0, 0, &[x]),
         Numbered::Refused(no) => refusal_words(no.refusal()),
-    }
-}
-
-// Returns the sixteen numbers of an answer about the number of copies.
-pub fn copies_words(said: CopiesAnswer) -> [u64; 16]
-    ensures answer { λ r. ⌜ r ≡ answerWords copiesValues (copiesAnswerSays said) ⌝ }
-{
-    match said {
-        CopiesAnswer::Number(k) => words(0, 0, &[0, k]),
-        CopiesAnswer::More => words(0, 0, &[1]),
-        CopiesAnswer::Refused(side, fault) => refusal_words(fault.refusal().naming(side)),
-        CopiesAnswer::ScratchLength => refusal_words(Refusal::by(6, 0)),
-    }
-}
-
-// Returns the sixteen numbers of an answer about the least degree.
-pub fn degree_words(said: DegreeAnswer) -> [u64; 16]
-    ensures answer { λ r. ⌜ r ≡ answerWords degreeValues (degreeAnswerSays said) ⌝ }
-{
-    match said {
-        DegreeAnswer::Degree(degree) => words(0, 0, &[degree]),
-        DegreeAnswer::Nothing => words(0, 0, &[0]),
-        DegreeAnswer::Refused(no) => refusal_words(no.refusal()),
     }
 }

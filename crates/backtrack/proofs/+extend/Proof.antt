@@ -14,7 +14,7 @@ use Rattle.semigroups.specs.Lists.{at}
 use Rattle.semigroups.specs.Tables.{Product, product}
 use Rattle.semigroups.proofs.Tables.{product-element}
 use Rattle.backtrack.specs.InnerState.{Remainder, exhausted, remaining, within}
-use Rattle.backtrack.specs.declared.Partial.{Partial}
+use Rattle.placing.specs.declared.Partial.{Partial}
 use Rattle.backtrack.specs.declared.Outcome.{Outcome}
 use Rattle.constraints.proofs.Placing.{as-trial, image-element}
 use Rattle.constraints.proofs.Noting.{newest-tracks}
@@ -23,7 +23,7 @@ use Rattle.backtrack.proofs.Extending.{Ahead, Rest, Turn, Verdict, done
 use Rattle.backtrack.proofs.extend.Reads as extend
 use Rattle.backtrack.proofs.extend.Kinds as extend-kinds
 use Rattle.backtrack.proofs.+extend.Lts-extend as extend-lts
-use Rattle.backtrack.proofs.Partial.tried.Reads as tried-reads
+use Rattle.placing.proofs.Partial.tried.Reads as tried-reads
 use Rattle.backtrack.proofs.no_map.Reads as no-map-reads
 use Rattle.backtrack.proofs.open.Reads as open-reads
 use Rattle.constraints.proofs.may_pass.Reads as may-pass-reads

@@ -6,8 +6,8 @@ use native.Mathlib.Omega.{arith}
 use denote.Ref.{now}
 use Rattle.semigroups.specs.Lists.{at}
 use Rattle.semigroups.specs.Tables.{Element}
-use Rattle.tables.specs.InnerPerElement.{perElement}
-use Rattle.invariants.proofs.PerElement.{fill-start, fill-step, fill-end}
+use Rattle.products.specs.InnerPerElement.{perElement}
+use Rattle.products.proofs.PerElement.{fill-start, fill-step, fill-end}
 use Rattle.candidates.specs.InnerKeys.{appended}
 use Rattle.candidates.proofs.append.Statement.{statement}
 use Rattle.candidates.proofs.append.Tie as tie

@@ -5,8 +5,8 @@ use denote.Ref.{now}
 use mathlib.Core.List.{List}
 use Rattle.semigroups.specs.Tables.{Filled, product}
 use Rattle.semigroups.specs.Invariants.{profile}
-use Rattle.invariants.specs.declared.ElementCounts.{ElementCounts}
-use Rattle.invariants.specs.InnerPerElement.{AllCounts}
+use Rattle.counts.specs.declared.ElementCounts.{ElementCounts}
+use Rattle.counts.specs.InnerCounts.{AllCounts}
 use Rattle.candidates.specs.InnerKeys.{packed, profileKey}
 use Rattle.candidates.proofs.Keys.{AllKeys, Appends, key, powers-keys, append-frequency, append-diagonal, append-row, append-column, append-commuting}
 use Rattle.candidates.proofs.profile_keys.Statement.{statement}

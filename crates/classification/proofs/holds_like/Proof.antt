@@ -5,9 +5,9 @@ use lib.ListN.{replicate}
 use lib.Seq.{length-take-le}
 use denote.Ref.{now}
 use Rattle.semigroups.specs.Calls.{gives}
-use Rattle.tables.proofs.Questions.{square-small}
+use Rattle.products.proofs.Products.{square-small}
 use Rattle.files.specs.Answers.{fileAnswer}
-use Rattle.tables.specs.Answers.{numberedSays}
+use Rattle.answers.specs.Answers.{numberedSays}
 use Rattle.files.proofs.Files.{Holds, not-accepted, holds}
 use Rattle.classification.proofs.Steps.{holds-refused, holds-is, holds-other}
 use borrow.Author.Needs.{needs}

@@ -1,4 +1,4 @@
--- `tickdrizzle_save` meets its contract: it writes what `text::save` answers, and the text is as that leaves it.
+-- `tickdrizzle_save` meets its contract: it writes what `saving::save` answers, and the text is as that leaves it.
 -- Assumes nothing.
 use borrow.Author.Needs.{needs}
 use Rattle.exports.proofs.tickdrizzle_save.Statement.{statement}

@@ -1,4 +1,4 @@
--- `tickdrizzle_subsemigroup` meets its contract: it writes what `generated::subsemigroup` answers, and both buffers are as that leaves them.
+-- `tickdrizzle_subsemigroup` meets its contract: it writes what `parts::subsemigroup` answers, and both buffers are as that leaves them.
 -- Assumes nothing.
 use borrow.Author.Needs.{needs}
 use Rattle.exports.proofs.tickdrizzle_subsemigroup.Statement.{statement}

@@ -8,8 +8,8 @@ use lib.ListN.{length, length-take}
 use denote.Ref.{now}
 use Rattle.semigroups.specs.Calls.{Answer, refused, gives}
 use Rattle.csv.specs.Calls.{loadAnswer}
-use Rattle.tables.proofs.Questions.{square-small}
-use Rattle.tables.specs.Answers.{verdictRefusal, numberedSays}
+use Rattle.products.proofs.Products.{square-small}
+use Rattle.answers.specs.Answers.{verdictRefusal, numberedSays}
 use Rattle.files.proofs.Files.{judged-text, judged-table, loaded-order, loaded-room}
 use Rattle.files.proofs.load_then_check.Statement.{statement}
 use Rattle.files.proofs.load_then_check.Tie as tie

@@ -13,10 +13,10 @@ use Rattle.semigroups.specs.Questions.{Refusal}
 use Rattle.semigroups.specs.InnerQuestions.{no}
 use Rattle.semigroups.specs.Tables.{Product, Element, product}
 use Rattle.semigroups.specs.Light.{badTripleThrough}
-use Rattle.tables.specs.Answers.{verdictRefusal, placeOption}
-use Rattle.tables.specs.declared.Verdict.the-variants.{Accepted}
-use Rattle.tables.proofs.Triples.{fromFirst, fromPair, triples-begin, first-enter, pair-skip, pair-hit, pair-leave, triples-end, third-none, third-some, third-before}
-use Rattle.tables.proofs.Indicators.{unmarked, is-marked}
+use Rattle.answers.specs.Answers.{verdictRefusal, placeOption}
+use Rattle.answers.specs.declared.Verdict.the-variants.{Accepted}
+use Rattle.products.proofs.Triples.{fromFirst, fromPair, triples-begin, first-enter, pair-skip, pair-hit, pair-leave, triples-end, third-none, third-some, third-before}
+use Rattle.light.proofs.Indicators.{unmarked, is-marked}
 use Rattle.generated.proofs.Questions.{failsThrough, unlisted, no-failing-through, failing-through}
 use Rattle.generated.proofs.associative_through.Statement.{statement}
 use Rattle.generated.proofs.associative_through.Tie as tie

@@ -8,7 +8,7 @@ use Rattle.semigroups.specs.LightLaws.{Generates}
 use Rattle.semigroups.proofs.Tables.{filled}
 use Rattle.semigroups.proofs.Generated.{all-generated}
 use Rattle.semigroups.proofs.Light.{cells-refused, not-inside, too-few, triple-decides}
-use Rattle.tables.specs.Answers.{verdictRefusal, placeOption}
+use Rattle.answers.specs.Answers.{verdictRefusal, placeOption}
 use Rattle.generated.proofs.Questions.{entries-inside, entry-outside}
 use Rattle.generated.proofs.check.Statement.{statement}
 use Rattle.generated.proofs.check.Tie as tie

@@ -9,8 +9,8 @@ use lib.ListN.{length, take}
 use Rattle.semigroups.specs.Tables.{product}
 use Rattle.semigroups.proofs.NoRepeats.{place-mem}
 use Rattle.semigroups.proofs.Tables.{product-element}
-use Rattle.tables.specs.InnerFound.{addingAll, Found}
-use Rattle.tables.proofs.Found.{found-none, found-room, found-again, entry-added}
+use Rattle.light.specs.InnerFound.{addingAll, Found}
+use Rattle.light.proofs.Found.{found-none, found-room, found-again, entry-added}
 use Rattle.generated.proofs.Found.{Growing, growing-inside, growing-start, growing-next, growing-marks, growing-count}
 use Rattle.generated.proofs.generate.Statement.{statement}
 use Rattle.generated.proofs.generate.Tie as tie

@@ -9,9 +9,9 @@ use Rattle.semigroups.specs.TablesLaws.{Closed}
 use Rattle.semigroups.specs.Invariants as marks
 use Rattle.semigroups.proofs.Tables.{product-element}
 use Rattle.invariants.proofs.Powers.{index-at-most, period-at-most}
-use Rattle.tables.specs.InnerPerElement.{perElement}
+use Rattle.products.specs.InnerPerElement.{perElement}
 use Rattle.invariants.specs.InnerPowers.{settled}
-use Rattle.invariants.proofs.PerElement.{fill-start, fill-step, fill-end}
+use Rattle.products.proofs.PerElement.{fill-start, fill-step, fill-end}
 use Rattle.invariants.proofs.all_index_period_keys.Statement.{statement}
 use Rattle.invariants.proofs.all_index_period_keys.Tie as tie
 

@@ -2,7 +2,7 @@
 use mathlib.Core.Path.{sym, ap, _∙_}
 use mathlib.Core.Option.{Option, some}
 use Rattle.semigroups.specs.Questions.{Refusal}
-use Rattle.tables.specs.Answers.{verdictRefusal}
+use Rattle.answers.specs.Answers.{verdictRefusal}
 use Rattle.invariants.proofs.Questions.{table-refused, element-low, element-high, element-passes}
 use borrow.Author.Needs.{needs}
 use Rattle.invariants.proofs.check_element.Statement.{statement}

@@ -3,8 +3,8 @@ use denote.Ref.{now}
 use mathlib.Core.Path.{_∙_}
 use Rattle.semigroups.specs.Invariants as marks
 use Rattle.invariants.proofs.Powers.{settled-idempotent}
-use Rattle.tables.proofs.Counting.{table-counted}
-use Rattle.invariants.proofs.Counts.{diagonal-in-range, diagonal-counted}
+use Rattle.products.proofs.Counting.{table-counted}
+use Rattle.counts.proofs.Counts.{diagonal-in-range, diagonal-counted}
 use borrow.Author.Needs.{needs}
 use Rattle.invariants.proofs.profile_of.Statement.{statement}
 use Rattle.invariants.proofs.profile_of.Tie as tie

@@ -2,7 +2,7 @@
 use Prim.Native.Nat.{_*_, _≤_}
 use native.Mathlib.Nat.{mul-le-mul}
 use borrow.Author.Needs.{needs}
-use Rattle.tables.proofs.Questions.{square-small}
+use Rattle.products.proofs.Products.{square-small}
 use Rattle.kinds.proofs.search_reversed.Statement.{statement}
 use Rattle.kinds.proofs.search_reversed.Tie as tie
 

@@ -1,7 +1,7 @@
 -- `check` meets its contract: a failed question is the answer, else what is said of the map. Assumes nothing.
 use mathlib.Core.Path.{sym, ap, _∙_}
 use borrow.Author.Needs.{needs}
-use Rattle.tables.specs.Answers.{pairRefusal}
+use Rattle.answers.specs.Answers.{pairRefusal}
 use Rattle.tables.proofs.Questions.{tables-accepted}
 use Rattle.maps.proofs.Faults.{call-refused, call-length, call-checked}
 use Rattle.maps.proofs.check.Statement.{statement}

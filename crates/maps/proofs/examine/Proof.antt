@@ -7,7 +7,7 @@ use lib.ListN.{length}
 use denote.Ref.{now}
 use Rattle.semigroups.specs.Tables.{Product, badCell}
 use Rattle.semigroups.specs.MapCheck.{Checked, firstEqual}
-use Rattle.tables.specs.Answers.{placeOption}
+use Rattle.answers.specs.Answers.{placeOption}
 use Rattle.semigroups.specs.Calls.{Answer, gives}
 use Rattle.maps.specs.Answers.{pairOption}
 use Rattle.maps.proofs.Faults.{images-inside, says-outside, says-equal, says-product}

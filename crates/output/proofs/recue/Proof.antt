@@ -9,10 +9,10 @@ use lib.ListN.{length, replicate}
 use lib.Seq.{length-take-le}
 use denote.Ref.{now}
 use Rattle.semigroups.specs.Calls.{gives, overwritten}
-use Rattle.tables.proofs.Questions.{square-small}
+use Rattle.products.proofs.Products.{square-small}
 use Rattle.files.specs.Files.{fileRefusal, room}
 use Rattle.files.specs.Answers.{fileAnswer, failedNumber}
-use Rattle.tables.specs.Answers.{numberedSays}
+use Rattle.answers.specs.Answers.{numberedSays}
 use Rattle.files.proofs.Files.{Holds, not-accepted, holds, accepted-file}
 use Rattle.files.proofs.Numbers.{failed-small}
 use Rattle.output.proofs.Records.{refused-written}

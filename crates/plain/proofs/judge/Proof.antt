@@ -6,7 +6,8 @@ use borrow.Author.Needs.{needs}
 use Rattle.semigroups.specs.Lists.{at}
 use Rattle.semigroups.specs.InnerQuestions.{no}
 use Rattle.semigroups.proofs.Tables.{filled}
-use Rattle.tables.proofs.Questions.{square-small, order-low, order-high, wrong-size, right-size, cells-pass}
+use Rattle.products.proofs.Products.{square-small}
+use Rattle.tables.proofs.Questions.{order-low, order-high, wrong-size, right-size, cells-pass}
 use Rattle.plain.specs.InnerSaid.{saidOf}
 use Rattle.plain.specs.declared.Said.{Said}
 use Rattle.plain.proofs.Judging.{said-of-cells, wrong-place, no-place}

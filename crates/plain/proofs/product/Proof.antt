@@ -6,7 +6,7 @@ use native.Mathlib.Omega.{arith}
 use denote.Ref.{now}
 use lib.ListN.{getD}
 use Rattle.semigroups.specs.Tables.{Element}
-use Rattle.tables.proofs.Questions.{square-small, place-in, product-found, found-element}
+use Rattle.products.proofs.Products.{square-small, place-in, product-found, found-element}
 use Rattle.plain.proofs.product.Statement.{statement}
 use Rattle.plain.proofs.product.Tie as tie
 

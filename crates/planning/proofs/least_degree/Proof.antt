@@ -10,7 +10,7 @@ use Rattle.semigroups.specs.Tables.{Accepted}
 use Rattle.semigroups.specs.Questions.{tableRefusal}
 use Rattle.semigroups.specs.Calls.{Answer, refused}
 use Rattle.semigroups.proofs.Tables.{accepted}
-use Rattle.tables.specs.Answers.{verdictRefusal}
+use Rattle.answers.specs.Answers.{verdictRefusal}
 use Rattle.planning.proofs.Questions.{table-kept, room-kept, answered, too-many}
 use Rattle.planning.proofs.least_degree.Statement.{statement}
 use Rattle.planning.proofs.least_degree.Tie as tie

@@ -6,8 +6,8 @@ use native.Mathlib.Omega.{arith}
 use borrow.Author.Needs.{needs}
 use lib.ListN.{length, take}
 use Rattle.semigroups.specs.Lists.{elements}
-use Rattle.tables.specs.InnerFound.{addingAll, Found}
-use Rattle.tables.proofs.Found.{found-none, found-again, entry-added}
+use Rattle.light.specs.InnerFound.{addingAll, Found}
+use Rattle.light.proofs.Found.{found-none, found-again, entry-added}
 use Rattle.renaming.proofs.Renaming.{first-element, cells-added, element-added, elements-added}
 use Rattle.renaming.proofs.by_first_places.Statement.{statement}
 use Rattle.renaming.proofs.by_first_places.Tie as tie

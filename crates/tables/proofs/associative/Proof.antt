@@ -9,9 +9,9 @@ use borrow.Author.Needs.{needs}
 use Rattle.semigroups.specs.Questions.{Refusal}
 use Rattle.semigroups.specs.InnerQuestions.{no}
 use Rattle.semigroups.specs.Tables.{product, badTriple}
-use Rattle.tables.specs.Answers.{verdictRefusal}
-use Rattle.tables.specs.declared.Verdict.the-variants.{Accepted}
-use Rattle.tables.proofs.Triples.{fromFirst, fromPair, fromTriple, triples-begin, first-enter, pair-enter, triple-pass, triple-hit, triple-leave, pair-leave, triples-end, fails, no-failing, failing, compared}
+use Rattle.answers.specs.Answers.{verdictRefusal}
+use Rattle.answers.specs.declared.Verdict.the-variants.{Accepted}
+use Rattle.products.proofs.Triples.{fromFirst, fromPair, fromTriple, triples-begin, first-enter, pair-enter, triple-pass, triple-hit, triple-leave, pair-leave, triples-end, fails, no-failing, failing, compared}
 use Rattle.tables.proofs.associative.Statement.{statement}
 use Rattle.tables.proofs.associative.Tie as tie
 

@@ -6,8 +6,8 @@ use denote.Ref.{now}
 use Rattle.semigroups.specs.Tables.{product}
 use Rattle.semigroups.specs.InnerQuestions.{no}
 use Rattle.semigroups.proofs.Tables.{no-bad-triple, filled-closed}
-use Rattle.tables.specs.InnerChoice.{LightsAnswer}
-use Rattle.tables.proofs.Choice.{lights-yes}
+use Rattle.light.specs.InnerChoice.{LightsAnswer}
+use Rattle.light.proofs.Choice.{lights-yes}
 use Rattle.tables.proofs.associativity.Statement.{statement}
 use Rattle.tables.proofs.associativity.Tie as tie
 

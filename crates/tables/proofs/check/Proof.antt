@@ -2,7 +2,7 @@
 use mathlib.Core.Path.{sym, ap, _∙_}
 use borrow.Author.Needs.{needs}
 use Rattle.semigroups.proofs.Tables.{filled}
-use Rattle.tables.specs.Answers.{verdictRefusal}
+use Rattle.answers.specs.Answers.{verdictRefusal}
 use Rattle.tables.proofs.Questions.{cells-refused, cells-pass}
 use Rattle.tables.proofs.check.Statement.{statement}
 use Rattle.tables.proofs.check.Tie as tie

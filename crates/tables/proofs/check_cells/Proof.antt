@@ -2,8 +2,9 @@
 use mathlib.Core.Path.{sym, ap, _∙_}
 use native.Mathlib.Omega.{arith}
 use borrow.Author.Needs.{needs}
-use Rattle.tables.specs.Answers.{placeOption}
-use Rattle.tables.proofs.Questions.{square-small, order-low, order-high, wrong-size, right-size}
+use Rattle.answers.specs.Answers.{placeOption}
+use Rattle.products.proofs.Products.{square-small}
+use Rattle.tables.proofs.Questions.{order-low, order-high, wrong-size, right-size}
 use Rattle.tables.proofs.check_cells.Statement.{statement}
 use Rattle.tables.proofs.check_cells.Tie as tie
 

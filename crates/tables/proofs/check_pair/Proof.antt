@@ -1,7 +1,7 @@
 -- `check_pair` meets its contract: one law for each way out. Assumes nothing.
 use mathlib.Core.Path.{sym, ap, _∙_}
 use borrow.Author.Needs.{needs}
-use Rattle.tables.specs.Answers.{verdictRefusal}
+use Rattle.answers.specs.Answers.{verdictRefusal}
 use Rattle.tables.proofs.Questions.{source-refused, target-refused, both-pass}
 use Rattle.tables.proofs.check_pair.Statement.{statement}
 use Rattle.tables.proofs.check_pair.Tie as tie

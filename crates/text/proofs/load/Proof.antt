@@ -8,7 +8,7 @@ use lib.ListN.{length}
 use native.Mathlib.Omega.{arith}
 use denote.Ref.{now}
 use borrow.Author.Needs.{needs}
-use Rattle.tables.proofs.Questions.{square-small}
+use Rattle.products.proofs.Products.{square-small}
 use Rattle.semigroups.specs.Calls.{Answer, gives}
 use Rattle.csv.specs.InnerQuestions.{bytesRefusal, gridRefusal}
 use Rattle.text.specs.Answers.{judgedRefusal}

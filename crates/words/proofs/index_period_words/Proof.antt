@@ -1,7 +1,7 @@
 -- `index_period_words` meets its contract: the index, the period and the idempotent power, or the fault.
 -- Assumes nothing.
-use Rattle.tables.specs.Answers.{noRefusal}
-use Rattle.tables.proofs.Refusals.{no-brief}
+use Rattle.answers.specs.Answers.{noRefusal}
+use Rattle.answers.proofs.Refusals.{no-brief}
 use Rattle.words.proofs.Values.{refusal-said}
 use borrow.Author.Needs.{needs}
 use Rattle.words.proofs.index_period_words.Statement.{statement}

@@ -1,8 +1,8 @@
 -- `map_words` meets its contract: each fault of a map has its code with the element or the pair.
 -- Assumes nothing.
 use mathlib.Core.Path.{ap, _∙_}
-use Rattle.tables.specs.Answers.{faultRefusal, sideNumber}
-use Rattle.tables.proofs.Refusals.{fault-brief}
+use Rattle.answers.specs.Answers.{faultRefusal, sideNumber}
+use Rattle.answers.proofs.Refusals.{fault-brief}
 use Rattle.words.specs.Answers.{numbersWords}
 use Rattle.words.proofs.Values.{side-said}
 use borrow.Author.Needs.{needs}

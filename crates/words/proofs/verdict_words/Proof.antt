@@ -1,7 +1,7 @@
 -- `verdict_words` meets its contract: zeros for an accepted table, else its fault.
 -- Assumes nothing.
-use Rattle.tables.specs.Answers.{faultRefusal}
-use Rattle.tables.proofs.Refusals.{fault-brief}
+use Rattle.answers.specs.Answers.{faultRefusal}
+use Rattle.answers.proofs.Refusals.{fault-brief}
 use Rattle.words.proofs.Values.{refusal-said}
 use borrow.Author.Needs.{needs}
 use Rattle.words.proofs.verdict_words.Statement.{statement}

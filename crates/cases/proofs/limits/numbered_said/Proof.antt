@@ -1,7 +1,7 @@
 -- `numbered_said` meets its contract: the number is said with 0. Assumes nothing.
 use mathlib.Core.Path.{_≡_, sym, ap, _∙_}
-use Rattle.tables.specs.declared.Numbered.{Numbered}
-use Rattle.tables.specs.Answers.{numberedSays}
+use Rattle.answers.specs.declared.Numbered.{Numbered}
+use Rattle.answers.specs.Answers.{numberedSays}
 use Rattle.plain.specs.declared.Said.{Said}
 use Rattle.cases.specs.InnerAnswering.{answerSaid}
 use borrow.Author.Needs.{needs}

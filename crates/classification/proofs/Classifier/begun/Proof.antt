@@ -4,7 +4,7 @@ use native.Mathlib.Omega.{arith}
 use denote.Ref.{now}
 use Rattle.semigroups.specs.Calls.{gives}
 use Rattle.files.specs.Answers.{fileAnswer, failedNumber}
-use Rattle.tables.specs.Answers.{numberedSays}
+use Rattle.answers.specs.Answers.{numberedSays}
 use Rattle.files.proofs.Files.{Holds, not-accepted, holds}
 use Rattle.files.proofs.Numbers.{failed-small}
 use Rattle.classification.proofs.Steps.{begun-refused, begun-accepted}

@@ -1,7 +1,7 @@
 -- `compared` notes the class of the file read again, or goes on. Assumes nothing.
 use mathlib.Core.Path.{sym, _∙_}
 use native.Mathlib.Omega.{arith}
-use Rattle.tables.proofs.Questions.{square-small}
+use Rattle.products.proofs.Products.{square-small}
 use Rattle.classification.proofs.Steps.{compared-same, compared-other}
 use borrow.Author.Needs.{needs}
 use Rattle.classification.proofs.Classifier.compared.Statement.{statement}

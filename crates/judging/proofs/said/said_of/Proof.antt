@@ -1,8 +1,8 @@
 -- `said_of` meets its contract, case by case. Assumes nothing.
 use mathlib.Core.Path.{sym, ap, _∙_}
 use borrow.Author.Needs.{needs}
-use Rattle.tables.specs.Answers.{verdictRefusal}
-use Rattle.tables.specs.declared.Verdict.{Verdict}
+use Rattle.answers.specs.Answers.{verdictRefusal}
+use Rattle.answers.specs.declared.Verdict.{Verdict}
 use Rattle.plain.specs.InnerSaid.{refusalSaid, saidOf}
 use Rattle.plain.specs.declared.Said.{Said}
 use Rattle.judging.proofs.said.said_of.Statement.{statement}

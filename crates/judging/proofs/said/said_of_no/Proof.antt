@@ -2,7 +2,7 @@
 use mathlib.Core.Path.{ap}
 use borrow.Author.Needs.{needs}
 use Rattle.semigroups.specs.Lists.{at}
-use Rattle.tables.specs.declared.Refusal.{Refusal}
+use Rattle.answers.specs.declared.Refusal.{Refusal}
 use Rattle.plain.specs.declared.Said.{Said}
 use Rattle.judging.proofs.said.said_of_no.Statement.{statement}
 use Rattle.judging.proofs.said.said_of_no.Tie as tie

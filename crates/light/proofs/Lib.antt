@@ -1,0 +1,3 @@
+pub mod Indicators
+pub mod Found
+pub mod Choice

@@ -1,0 +1,2 @@
+pub mod InnerFound
+pub mod InnerChoice

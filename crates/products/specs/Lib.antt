@@ -1,0 +1,2 @@
+pub mod InnerCounting
+pub mod InnerPerElement
