@@ -343,7 +343,7 @@ fn time_texts() {
 }
 
 /// The longest that a count of copies may take: "more" is said no later.
-const COPIES_BAR: Duration = Duration::from_millis(500);
+const COPIES_BAR: Duration = Duration::from_millis(250);
 
 /// Counts of copies, by the library alone: plain counting of all embeddings would not end. Each is held to the bar.
 fn time_copies() {
@@ -372,6 +372,17 @@ fn time_copies() {
         &rectangular_band(10, 12),
         Copies::More,
     );
+    let numbers = &mut Numbers::new(1);
+    let (band, wider) = (shuffled(&rectangular_band(5, 6), numbers), shuffled(&rectangular_band(10, 12), numbers));
+    count_copies("rectangular band, 5 by 6 in 10 by 12, relabelled", &band, &wider, Copies::More);
+    let (links, longer) = (shuffled(&chain(98), numbers), shuffled(&chain(100), numbers));
+    count_copies("chain, 98 in 100, relabelled", &links, &longer, Copies::Number(4950));
+    let (one, another) = (three_nilpotent(18, 8, numbers), three_nilpotent(18, 8, numbers));
+    count_copies("3-nilpotent, order 27 in another", &one, &another, Copies::Number(0));
+    let large = three_nilpotent(90, 19, numbers);
+    count_copies("3-nilpotent, order 110 in the cyclic group of 120", &large, &cyclic_group(120), Copies::Number(0));
+    let small = three_nilpotent(18, 4, numbers);
+    count_copies("3-nilpotent, order 23 in the cyclic group of 23", &small, &cyclic_group(23), Copies::Number(0));
     count_copies("Z2 x Z2 in Z2 to the fifth", &two_group(2), &two_group(5), Copies::Number(155));
     count_copies("degree 2 in degree 3", &degree_2, &transformations(), Copies::Number(12));
 }
