@@ -18,8 +18,9 @@ use Rattle.rows.specs.declared.Row.{Row}
 use Rattle.rows.specs.InnerRows.{inRow, has, word, packedRow, keptRows}
 use Rattle.rows.proofs.Rows.{row, in-packed-row}
 use Rattle.rows.proofs.Turns.{kept-within}
-use Rattle.narrowing.specs.declared.Partial.{Partial}
-use Rattle.narrowing.specs.InnerState.{rowsIn, fullRows, blank, startRows}
+use Rattle.fitting.specs.declared.Partial.{Partial}
+use Rattle.fitting.specs.InnerPartial.{rowsIn, fullRows, blank}
+use Rattle.narrowing.specs.InnerState.{startRows}
 
 -- ---- rows with every element
 

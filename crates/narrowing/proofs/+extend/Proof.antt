@@ -18,7 +18,7 @@ use Rattle.narrowing.proofs.Extending.{Rest, Turn, Verdict, dead, done-
 use Rattle.narrowing.proofs.extend.Reads as extend
 use Rattle.narrowing.proofs.extend.Kinds as extend-kinds
 use Rattle.narrowing.proofs.+extend.Lts-extend as extend-lts
-use Rattle.narrowing.proofs.Partial.tried_rising.Reads as tried-rising-reads
+use Rattle.fitting.proofs.Partial.tried_rising.Reads as tried-rising-reads
 use Rattle.narrowing.proofs.nothing.Reads as nothing-reads
 use Rattle.narrowing.proofs.open.Reads as open-reads
 use Rattle.narrowing.proofs.+extend.{statement}

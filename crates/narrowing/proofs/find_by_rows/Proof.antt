@@ -15,8 +15,8 @@ use Rattle.backtrack.specs.InnerState.{foundIn}
 use Rattle.rows.proofs.Room.{roomy-kept}
 use Rattle.twins.specs.InnerTwins.{sharesLater}
 use Rattle.twins.proofs.Rising.{shares-later}
-use Rattle.narrowing.specs.declared.Partial.{Partial}
-use Rattle.narrowing.specs.InnerState.{rowsIn}
+use Rattle.fitting.specs.declared.Partial.{Partial}
+use Rattle.fitting.specs.InnerPartial.{rowsIn}
 use Rattle.narrowing.proofs.Starting.{start-covers}
 use Rattle.narrowing.proofs.Extending.{start as begin, all-found, nowhere}
 use Rattle.narrowing.proofs.find_by_rows.Statement.{statement}

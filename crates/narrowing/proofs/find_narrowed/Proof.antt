@@ -18,8 +18,8 @@ use Rattle.backtrack.specs.InnerState.{foundIn, bounded}
 use Rattle.rows.specs.InnerRows.{has}
 use Rattle.rows.proofs.Rows.{shrinks-has}
 use Rattle.rows.proofs.Room.{roomy-kept}
-use Rattle.narrowing.specs.declared.Partial.{Partial}
-use Rattle.narrowing.specs.InnerState.{rowsIn, keptPartial}
+use Rattle.fitting.specs.declared.Partial.{Partial}
+use Rattle.fitting.specs.InnerPartial.{rowsIn, keptPartial}
 use Rattle.narrowing.proofs.Alike.{search-alike}
 use Rattle.narrowing.proofs.Starting.{rows-marked}
 use Rattle.narrowing.proofs.Extending.{nowhere}
