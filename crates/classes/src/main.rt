@@ -1,14 +1,15 @@
-// Reads 01.csv, 02.csv and so on from the folder that it is run in, and prints which of them hold isomorphic tables, or why a file is refused. Crate
-// `classification` proves, from the bytes of the files, which file is read next and what is printed; this file only reads the files and writes the text.
+// Reads 01.csv, 02.csv and so on from the folder that it is run in, and prints which of them hold isomorphic tables, or why a file is refused. Crates
+// `progress` and `classification` prove, from the bytes of the files, which file is read next and what is printed; this file only reads the files and writes
+// the text.
 ghost use mathlib.Core.Path.{_≡_};
 ghost use mathlib.Core.Bool.{false};
 ghost use Prim.Native.Nat.{_<_};
 ghost use lib.ListN.{length};
 ghost use Rattle.io.specs.Counts.{Counts};
 ghost use Rattle.csv.specs.Questions.{longestText};
-use classification::Classifier;
-use classification::file_name;
 use libc::STDOUT_FILENO;
+use progress::Classifier;
+use progress::file_name;
 use tables::limits::CELLS;
 use tables::limits::FILE;
 
@@ -50,9 +51,9 @@ fn main() {
     while wanted != 0 {
         let reading = read_file(wanted, &mut text);
         let length = reading.length;
-        classifier = classifier.step(reading.opened, &text[..length], &mut cells);
+        classifier = classification::step(classifier, reading.opened, &text[..length], &mut cells);
         wanted = classifier.wanted();
     }
-    let written = classifier.put(&mut out);
+    let written = classification::put(classifier, &mut out);
     io::write_all(STDOUT_FILENO, &out[..written]);
 }

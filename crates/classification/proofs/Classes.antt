@@ -18,8 +18,8 @@ use Rattle.semigroups.proofs.Sums.{count-same, count-map, sum-same}
 use Rattle.csv.specs.Tables.{orderOf}
 use Rattle.csv.specs.Records.{rowsText}
 use Rattle.files.specs.Files.{fileQuestions, fileRefusal, room}
-use Rattle.classification.specs.Classes.{accepted, alike, refusedBy, inClass, noteBy, file, lowest, noteOf, notesOf}
-use Rattle.classification.specs.Output.{isIn, note, names, lowestFiles, members, noteRecords, totalRecords, notesText, classesOutput}
+use Rattle.progress.specs.Classes.{accepted, alike, refusedBy, inClass, noteBy, file, lowest, noteOf, notesOf}
+use Rattle.progress.specs.Output.{isIn, note, names, lowestFiles, members, noteRecords, totalRecords, notesText, classesOutput}
 use Rattle.classification.specs.Laws.{IsAccepted, Classified, Totalled, NothingForNoFile}
 use Rattle.classification.proofs.Lists.{getD-map-range, entries}
 use Rattle.classification.proofs.Equivalence.{Equivalence, lowest-like, one-class as one-lowest, lowest-own, firsts-rise, first-exactly, counted-once, totals-sum}

@@ -12,8 +12,8 @@ use Rattle.csv.specs.Tables.{orderOf}
 use Rattle.files.specs.Files.{fileRefusal, room}
 use Rattle.files.specs.FilesLaws.{firstBytes}
 use Rattle.files.proofs.Length.{Cut, whole, too-much, cut}
-use Rattle.classification.specs.Classes.{Folder, opened, filesFrom, filesOf, accepted, alike, noteBy, file, lowest, noteOf, notesOf}
-use Rattle.classification.specs.Output.{notesText, classesOutput, folderOutput}
+use Rattle.progress.specs.Classes.{Folder, opened, filesFrom, filesOf, accepted, alike, noteBy, file, lowest, noteOf, notesOf}
+use Rattle.progress.specs.Output.{notesText, classesOutput, folderOutput}
 use Rattle.classification.specs.Laws.{FirstBytesOfEach}
 use Rattle.classification.proofs.Files.{refused-not, alike-like}
 use Rattle.classification.proofs.Lists.{map-within, least-same}

@@ -13,12 +13,12 @@ use Rattle.csv.specs.Records.{isBreak, onto, records, fields, rows, recordText,
 use Rattle.csv.specs.Tables.{fieldsOf, orderOf, cellsOf}
 use Rattle.csv.specs.Questions.{breakAt, inBreak, isAllowed, firstOther, fieldsQuestions, isSquare}
 use Rattle.files.specs.Files.{fileRefusal}
-use Rattle.classification.specs.Classes.{filesFrom, filesOf, accepted, isomorphic, holdsLike, alike, file, lowest, noteOf, notesOf}
-use Rattle.classification.specs.Output.{note, names, lowestFiles, members, totalRecord, noteRecords, totalRecords, notesText, classesOutput}
-use Rattle.classification.specs.Held.{fileName}
+use Rattle.progress.specs.Classes.{filesFrom, filesOf, accepted, isomorphic, holdsLike, alike, file, lowest, noteOf, notesOf}
+use Rattle.progress.specs.Output.{note, names, lowestFiles, members, totalRecord, noteRecords, totalRecords, notesText, classesOutput}
+use Rattle.progress.specs.Held.{fileName}
 use Rattle.classification.specs.Examples.{swapFile, nullFile, classesPrinted, ClassesExample, emptyPrinted, gapFolder, fullFolder}
 use Rattle.classification.specs.Laws.{IsAccepted}
-use Rattle.classification.specs.Progress.{start}
+use Rattle.progress.specs.Progress.{start}
 use Rattle.classification.specs.ProgressLaws.{Goes}
 use Rattle.classification.proofs.Progress.{goes}
 

@@ -20,7 +20,7 @@ use Rattle.csv.specs.Tables.{orderOf, cellsOf}
 use Rattle.files.specs.Files.{fileRefusal, room}
 use Rattle.files.specs.FilesLaws.{FilePasses}
 use Rattle.files.proofs.Files.{file-passes}
-use Rattle.classification.specs.Classes.{accepted, isomorphic, holdsLike, alike}
+use Rattle.progress.specs.Classes.{accepted, isomorphic, holdsLike, alike}
 use Rattle.classification.specs.Laws.{Isomorphic}
 
 -- ---- accepted files

@@ -16,8 +16,8 @@ use Rattle.semigroups.proofs.Booleans.{both}
 use Rattle.semigroups.proofs.Lists.{mem-elements, length-snoc, range-snoc}
 use Rattle.csv.specs.Tables.{orderOf}
 use Rattle.files.specs.Files.{fileRefusal, room}
-use Rattle.classification.specs.Classes.{accepted, alike, Note, refusedBy, inClass, noteBy, file, lowest, noteOf, notesOf}
-use Rattle.classification.specs.Output.{names}
+use Rattle.progress.specs.Classes.{accepted, alike, Note, refusedBy, inClass, noteBy, file, lowest, noteOf, notesOf}
+use Rattle.progress.specs.Output.{names}
 use Rattle.classification.proofs.Equivalence.{lowest-is}
 use Rattle.classification.proofs.Lists.{map-within, least-same}
 use Rattle.classification.proofs.Classes.{files-alike, says-accepted, says-refusal, names-is}

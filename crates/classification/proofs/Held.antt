@@ -4,15 +4,15 @@ use mathlib.Core.List.{List, [], _∷_, _++_, map, map-append, List·Memᴰ}
 use Prim.Native.Nat.{ℕ, _+_, _-_, _<_}
 use native.Mathlib.Numerals.{add-one}
 use native.Mathlib.Omega.{arith}
-use lib.ListN.{length, getD, set, length-map}
+use lib.ListN.{length, getD, set}
 use lib.Seq.{getD-set-same, getD-set-other}
 use Rattle.semigroups.specs.Lists.{range, elements, at, count}
 use Rattle.semigroups.specs.Tables.{Element}
-use Rattle.semigroups.proofs.Lists.{length-elements, mem-range, range-snoc}
+use Rattle.semigroups.proofs.Lists.{mem-range, range-snoc}
 use Rattle.semigroups.proofs.Sums.{count-map}
-use Rattle.classification.specs.Classes.{Note, refusedBy}
-use Rattle.classification.specs.Output.{isIn, note, names, members}
-use Rattle.classification.specs.Held.{noteFrom, notesFrom}
+use Rattle.progress.specs.Classes.{Note, refusedBy}
+use Rattle.progress.specs.Output.{isIn, note, names, members}
+use Rattle.progress.specs.Held.{noteFrom, notesFrom}
 use Rattle.classification.proofs.Lists.{map-within, getD-map-range}
 
 -- The note that stands at place k - 1 of the arrays.
@@ -20,10 +20,6 @@ abbrev pub held : List ℕ → List ℕ → ℕ → Note
 held orders numbers k = noteFrom (getD orders (k - 1) 0) (getD numbers (k - 1) 0)
 
 module _ (orders numbers : List ℕ) (c : ℕ) where
-  pub length-from : length (notesFrom orders numbers c) ≡ c
-  unfolding notesFrom
-  length-from = length-map (elements c) (λ k. noteFrom (at orders k) (at numbers k)) ∙ length-elements c
-
   pub note-from : (k : ℕ) → Element c k → note (notesFrom orders numbers c) k ≡ held orders numbers k
   unfolding note notesFrom elements at
   note-from k h = getD-map-range (held orders numbers) (refusedBy 0) 1 c (k - 1) (omega arith) ∙ ap (held orders numbers) (let z : 1 + (k - 1) ≡ k = omega arith in z)

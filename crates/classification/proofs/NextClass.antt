@@ -13,9 +13,9 @@ use Rattle.semigroups.specs.Lists.{least}
 use Rattle.semigroups.specs.Tables.{Element}
 use Rattle.semigroups.proofs.Booleans.{clash, untrue, both, and-left, and-right, equal-or-not, at-most-or-above}
 use Rattle.semigroups.proofs.Lists.{least-first, least-passes}
-use Rattle.classification.specs.Classes.{Note}
-use Rattle.classification.specs.Output.{note}
-use Rattle.classification.specs.Progress.{namesOrder, nextClass}
+use Rattle.progress.specs.Classes.{Note}
+use Rattle.progress.specs.Output.{note}
+use Rattle.progress.specs.Progress.{namesOrder, nextClass}
 use Rattle.classification.proofs.Lists.{least-bound}
 
 module _ (notes : List Note) (n j : ℕ) where

@@ -6,14 +6,14 @@ use Prim.Native.Nat.{ℕ, _≤_, _<_}
 use native.Mathlib.Omega.{arith}
 use lib.ListN.{length, drop, length-append}
 use Rattle.semigroups.specs.Calls.{overwritten}
-use Rattle.classification.specs.Classes.{mostFiles, Note}
-use Rattle.classification.specs.Output.{notesText}
-use Rattle.classification.specs.Progress.{Phase, reading, comparing, over, Progress, start, wanted, step, SoundIn, Sound}
+use Rattle.progress.specs.Classes.{mostFiles, Note}
+use Rattle.progress.specs.Output.{notesText}
+use Rattle.progress.specs.Progress.{Phase, reading, comparing, over, Progress, start, wanted, step, SoundIn, Sound}
 use Rattle.classification.specs.ProgressLaws.{stillToRead}
-use Rattle.classification.specs.Held.{notesIn, progressOf}
-use Rattle.classification.specs.declared.Classifier.{Classifier}
+use Rattle.progress.specs.Held.{notesIn, progressOf}
+use Rattle.progress.specs.declared.Classifier.{Classifier}
+use Rattle.progress.proofs.Wanted.{count-notes}
 use Rattle.classification.proofs.Progress.{goes}
-use Rattle.classification.proofs.Steps.{count-notes}
 
 pub start-sound : (s : Progress) → s ≡ start → Sound s
 start-sound s e = subst Sound (sym e) (let z : 0 ≤ mostFiles = omega arith in z)

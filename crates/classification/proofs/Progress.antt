@@ -17,9 +17,9 @@ use Rattle.semigroups.proofs.Booleans.{clash, both, and-right, equal-or-not, at
 use Rattle.semigroups.proofs.Lists.{length-snoc}
 use Rattle.csv.specs.Tables.{orderOf, cellsOf}
 use Rattle.files.specs.Files.{fileRefusal, room}
-use Rattle.classification.specs.Classes.{Folder, mostFiles, opened, filesFrom, filesOf, accepted, holdsLike, alike, Note, refusedBy, inClass, file, lowest, notesOf}
-use Rattle.classification.specs.Output.{note, names, notesText, classesOutput, folderOutput}
-use Rattle.classification.specs.Progress.{namesOrder, Phase, reading, comparing, over, Progress, progress, start, wantedIn, wanted, nextClass, noted, onward, begun, compared, stepIn, step, SoundIn, Sound, served}
+use Rattle.progress.specs.Classes.{Folder, mostFiles, opened, filesFrom, filesOf, accepted, holdsLike, alike, Note, refusedBy, inClass, file, lowest, notesOf}
+use Rattle.progress.specs.Output.{note, names, notesText, classesOutput, folderOutput}
+use Rattle.progress.specs.Progress.{namesOrder, Phase, reading, comparing, over, Progress, progress, start, wantedIn, wanted, nextClass, noted, onward, begun, compared, stepIn, step, SoundIn, Sound, served}
 use Rattle.classification.specs.ProgressLaws.{stillToReadIn, stillToRead, Prints, Goes}
 use Rattle.classification.proofs.Files.{passes-accepted, accepted-table, alike-like, like-alike, like-itself, like-order, holds-alike}
 use Rattle.classification.proofs.Classes.{length-notes, note-is, names-is, says-accepted}

@@ -1,13 +1,12 @@
 -- What each way through the code gives, as an equation to the progress. Assumes nothing.
 use mathlib.Core.Path.{_≡_, refl, sym, ap, ap₂, _∙_, subst}
-use mathlib.Core.Bool.{Bool, true, false, _&&_, cond}
+use mathlib.Core.Bool.{Bool, true, false, _&&_}
 use mathlib.Core.List.{List}
 use mathlib.Core.Option.{Option}
-use Prim.Native.Nat.{ℕ, zero, suc, _+_, _*_, _≤_, _<_}
-use native.Mathlib.Numerals.{add-one}
+use Prim.Native.Nat.{ℕ, zero, suc, _*_, _≤_, _<_}
 use native.Mathlib.Omega.{arith}
-use borrow.Author.Tests.{le-leb, lt-leb, lt-ltb, le-ltb, eq-eqb, ne-eqb}
-use lib.Dec.{eqb, ltb}
+use borrow.Author.Tests.{le-leb, lt-leb, eq-eqb, ne-eqb}
+use lib.Dec.{eqb}
 use lib.ListN.{length, take}
 use Rattle.semigroups.specs.Tables.{Element, Accepted}
 use Rattle.semigroups.specs.Questions.{Refusal}
@@ -16,16 +15,16 @@ use Rattle.csv.specs.Tables.{orderOf, cellsOf}
 use Rattle.files.specs.Files.{fileRefusal, room}
 use Rattle.files.specs.Answers.{fileAnswer}
 use Rattle.files.proofs.Files.{Holds, accepted-file, refused-file}
-use Rattle.classification.specs.Classes.{mostFiles, isomorphic, holdsLike, Note, refusedBy, inClass}
-use Rattle.classification.specs.Output.{isIn}
-use Rattle.classification.specs.Progress.{namesOrder, comparing, progress, wantedIn, wanted, nextClass, noted, onward, begun, compared, stepIn, step, SoundIn, Sound}
-use Rattle.classification.specs.Held.{noteFrom, notesIn, phaseOf, progressOf, openedText, cellsThen}
-use Rattle.classification.specs.declared.Task.{Task}
-use Rattle.classification.specs.declared.Task.the-variants.{Read, Compare, Stop}
-use Rattle.classification.specs.declared.Classifier.{Classifier}
+use Rattle.progress.specs.Classes.{isomorphic, holdsLike, Note, refusedBy, inClass}
+use Rattle.progress.specs.Output.{isIn}
+use Rattle.progress.specs.Progress.{namesOrder, comparing, progress, wanted, nextClass, noted, onward, begun, compared, stepIn, step, SoundIn, Sound}
+use Rattle.progress.specs.Held.{noteFrom, notesIn, phaseOf, progressOf, openedText, cellsThen}
+use Rattle.progress.specs.declared.Task.{Task}
+use Rattle.progress.specs.declared.Task.the-variants.{Read, Compare, Stop}
+use Rattle.progress.specs.declared.Classifier.{Classifier}
+use Rattle.progress.proofs.Wanted.{count-notes, wanted-at}
 use Rattle.classification.proofs.Files.{passes-accepted, refused-not}
 use Rattle.classification.proofs.Said.{other-order}
-use Rattle.classification.proofs.Held.{length-from}
 use Rattle.classification.proofs.Progress.{reading-room}
 
 -- ---- a note
@@ -99,37 +98,16 @@ module _ (notes : List Note) (n : ℕ) (cells : List ℕ) (j : ℕ) where
 -- ---- a step
 
 module _ (s : Classifier) (cells : List ℕ) where
-  pub count-notes : length (notesIn s) ≡ s .count
-  count-notes = length-from (s .orders) (s .numbers) (s .count)
-
-  wanted-at : {t : Task} → s .task ≡ t → wanted (progressOf s cells) ≡ wantedIn (notesIn s) (phaseOf t cells)
-  wanted-at e = ap (λ (t : Task). wantedIn (notesIn s) (phaseOf t cells)) e
-
-  reading-at : (b : Bool) → s .task ≡ Read → ltb (s .count) mostFiles ≡ b → cond b (s .count + 1) 0 ≡ wanted (progressOf s cells)
-  reading-at b e h = sym (wanted-at e ∙ ap₂ (λ (x : Bool) (k : ℕ). cond x k 0) (ap (λ (k : ℕ). ltb k mostFiles) count-notes ∙ h) (ap suc count-notes ∙ sym (add-one (s .count))))
-
-  pub wanted-new : s .task ≡ Read → s .count < 50 → s .count + 1 ≡ wanted (progressOf s cells)
-  wanted-new e h = reading-at true e (lt-ltb (s .count) mostFiles h)
-
-  pub wanted-full : s .task ≡ Read → 50 ≤ s .count → 0 ≡ wanted (progressOf s cells)
-  wanted-full e h = reading-at false e (le-ltb (s .count) mostFiles h)
-
-  pub wanted-again : {n j : ℕ} → s .task ≡ Compare n j → j ≡ wanted (progressOf s cells)
-  wanted-again e = sym (wanted-at e)
-
-  pub wanted-none : s .task ≡ Stop → 0 ≡ wanted (progressOf s cells)
-  wanted-none e = sym (wanted-at e)
-
   -- A new file has room for its note.
   pub room-new : s .task ≡ Read → (wanted (progressOf s cells) ≡ 0 → ⊥) → s .count < 50
-  room-new e w = let r = reading-room (notesIn s) (λ z. w (wanted-at e ∙ z)) .0 in let l = count-notes in omega arith
+  room-new e w = let r = reading-room (notesIn s) (λ z. w (wanted-at s cells e ∙ z)) .0 in let l = count-notes s cells in omega arith
 
   pub sound-again : {n j : ℕ} → s .task ≡ Compare n j → Sound (progressOf s cells) → (s .count < 50) × Accepted n (take (n * n) cells) × Element (s .count) j
   sound-again {n} {j} e S =
       let r : SoundIn (notesIn s) (comparing n (take (n * n) cells) j) = subst (λ (t : Task). SoundIn (notesIn s) (phaseOf t cells)) e S in
       let r0 = r .0 in
       let r2 = r .2 in
-      let l = count-notes in
+      let l = count-notes s cells in
       (omega arith, r .1, omega arith)
 
   module _ (opened : Bool) (text : List ℕ) {t : Task} {b : Bool} (e : s .task ≡ t) (f : opened ≡ b) where

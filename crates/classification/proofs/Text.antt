@@ -17,11 +17,12 @@ use Rattle.csv.proofs.Decimals.{digits-few}
 use Rattle.csv.proofs.Writing.{Writing, write-first, write-room, write-last, sets-overwritten}
 use Rattle.lines.proofs.Lines.{written}
 use Rattle.lines.proofs.Records.{record-three, fields-length, line-more, line-short, line-written}
-use Rattle.classification.specs.Classes.{Note, refusedBy, inClass}
-use Rattle.classification.specs.Held.{notesFrom}
+use Rattle.progress.specs.Classes.{Note, refusedBy, inClass}
+use Rattle.progress.specs.Held.{notesFrom}
 use Rattle.classification.specs.InnerHeld.{totalText}
-use Rattle.classification.specs.Output.{classWord, noteRecord, isIn, note, names, lowestFiles, members, totalRecord, noteRecords, totalRecords, notesText, totalWord}
-use Rattle.classification.proofs.Held.{held, length-from, note-from, names-from}
+use Rattle.progress.specs.Output.{classWord, noteRecord, isIn, note, names, lowestFiles, members, totalRecord, noteRecords, totalRecords, notesText, totalWord}
+use Rattle.progress.proofs.Wanted.{length-from}
+use Rattle.classification.proofs.Held.{held, note-from, names-from}
 
 -- The record of the class that file a names, with this number of members.
 abbrev totalLine : ℕ → ℕ → List (List ℕ)

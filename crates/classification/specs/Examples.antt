@@ -6,8 +6,8 @@ use mathlib.Core.List.{List, [], _∷_}
 use mathlib.Core.Option.{none, some}
 use Prim.Native.Nat.{ℕ}
 use Rattle.semigroups.specs.Lists.{member}
-use Rattle.classification.specs.Classes.{Folder}
-use Rattle.classification.specs.Output.{classesOutput}
+use Rattle.progress.specs.Classes.{Folder}
+use Rattle.progress.specs.Output.{classesOutput}
 
 -- The file `1,2 / 2,1`.
 unfoldable pub swapFile : List ℕ

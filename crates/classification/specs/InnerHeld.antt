@@ -3,8 +3,8 @@ use mathlib.Core.Bool.{cond}
 use mathlib.Core.List.{List, []}
 use Prim.Native.Nat.{ℕ}
 use Rattle.csv.specs.Records.{lineText}
-use Rattle.classification.specs.Classes.{Note}
-use Rattle.classification.specs.Output.{names, totalRecord}
+use Rattle.progress.specs.Classes.{Note}
+use Rattle.progress.specs.Output.{names, totalRecord}
 
 -- The text of the total of the class that file a names; it is empty if file a names no class.
 unfoldable pub totalText : List Note → ℕ → List ℕ

@@ -17,8 +17,8 @@ use Rattle.semigroups.specs.MapsLaws.{Isomorphism}
 use Rattle.csv.specs.Tables.{orderOf, cellsOf}
 use Rattle.files.specs.Files.{fileQuestions, fileRefusal, room}
 use Rattle.files.specs.FilesLaws.{FilePasses, firstBytes}
-use Rattle.classification.specs.Classes.{Folder, accepted, refusedBy, inClass, file, lowest, noteOf, notesOf}
-use Rattle.classification.specs.Output.{lowestFiles, members, classesOutput, folderOutput}
+use Rattle.progress.specs.Classes.{Folder, accepted, refusedBy, inClass, file, lowest, noteOf, notesOf}
+use Rattle.progress.specs.Output.{lowestFiles, members, classesOutput, folderOutput}
 
 -- An isomorphism exists between the tables of two files.
 abbrev pub Isomorphic : List ℕ → List ℕ → Type 0

@@ -4,9 +4,9 @@ use mathlib.Core.List.{List}
 use mathlib.Core.Option.{Option}
 use Prim.Native.Nat.{ℕ, suc, _-_, _*_, _≤_, _<_}
 use lib.ListN.{length}
-use Rattle.classification.specs.Classes.{Folder, mostFiles, Note}
-use Rattle.classification.specs.Output.{notesText, folderOutput}
-use Rattle.classification.specs.Progress.{Phase, reading, comparing, over, Progress, wanted, served, start, Sound, step}
+use Rattle.progress.specs.Classes.{Folder, mostFiles, Note}
+use Rattle.progress.specs.Output.{notesText, folderOutput}
+use Rattle.progress.specs.Progress.{Phase, reading, comparing, over, Progress, wanted, served, start, Sound, step}
 
 -- ---- what always holds of the progress
 

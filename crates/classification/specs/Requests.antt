@@ -2,9 +2,9 @@
 use mathlib.Core.Path.{_≡_}
 use mathlib.Core.List.{List}
 use Prim.Native.Nat.{ℕ}
-use Rattle.classification.specs.Classes.{Folder}
+use Rattle.progress.specs.Classes.{Folder}
 use Rattle.classification.specs.Laws.{Classified, Totalled, NothingForNoFile, FirstBytesOfEach}
-use Rattle.classification.specs.Progress.{Progress, Sound, wanted}
+use Rattle.progress.specs.Progress.{Progress, Sound, wanted}
 use Rattle.classification.specs.ProgressLaws.{Prints, Goes}
 use Rattle.classification.specs.Examples.{ClassesExample}
 

@@ -1,19 +1,19 @@
-// Which files hold isomorphic tables: the program `classes`, from the bytes of its files to the bytes that it prints. It holds two tables at a time. `wanted`
-// returns which file is to be read next, `step` takes its bytes, and `put` writes the whole output from what was noted of each file.
+// Which files hold isomorphic tables: the program `classes`, from the bytes of its files to the bytes that it prints. It holds two tables at a time. `step`
+// takes the bytes of the file that `progress` wants next, and `put` writes the whole output from what was noted of each file.
 ghost use mathlib.Core.Path.{_≡_};
 ghost use mathlib.Core.List.{List};
 ghost use Prim.Native.Nat.{ℕ, _+_, _*_, _≤_, _<_};
-ghost use lib.ListN.{length, take, drop, replicate};
+ghost use lib.ListN.{length, take, drop};
 ghost use lib.Seq.{sets};
 ghost use Rattle.semigroups.specs.Tables.{largestOrder, Accepted};
 ghost use Rattle.semigroups.specs.Calls.{overwritten};
 ghost use Rattle.csv.specs.Records.{lineText, rowsText};
 ghost use Rattle.csv.specs.Calls.{cellsAfter};
 ghost use Rattle.files.specs.Files.{fileRefusal, room};
-ghost use Rattle.classification.specs.Classes as classes;
-ghost use Rattle.classification.specs.Output as output;
-ghost use Rattle.classification.specs.Progress as progress;
-ghost use Rattle.classification.specs.Held.{noteFrom, notesFrom, notesIn, progressOf, openedText, cellsThen, fileName};
+ghost use Rattle.progress.specs.Classes as classes;
+ghost use Rattle.progress.specs.Output as output;
+ghost use Rattle.progress.specs.Progress as progress;
+ghost use Rattle.progress.specs.Held.{noteFrom, notesFrom, notesIn, progressOf, openedText, cellsThen};
 ghost use Rattle.classification.specs.InnerHeld.{totalText};
 use files::failed_question;
 use files::load_then_check;
@@ -22,40 +22,12 @@ use lines::put_break;
 use lines::put_field;
 use lines::put_fields;
 use lines::put_record;
+use progress::Classifier;
+use progress::Task;
 use tables::Numbered;
 use tables::limits::CELLS;
 use tables::limits::ORDER;
 use tables::limits::SCRATCH;
-
-// What is done with the next file that is read: it is a new file; or it is file j, to be compared with the new file's table, which has order n; or no more
-// files are read.
-pub enum Task {
-    Read,
-    Compare(usize, usize),
-    Stop,
-}
-
-// What was noted of each file in turn, and what comes next. Order 0 stands for a refused file.
-pub struct Classifier {
-    pub count: usize,
-    pub orders: [u8; 50],
-    pub numbers: [u8; 50],
-    pub task: Task,
-}
-
-// Returns the name of file k, made from its last two digits.
-pub fn file_name(k: usize) -> [u8; 6]
-    ensures name { λ r. ⌜ r ≡ fileName k ⌝ }
-{
-    [
-        (48 + k / 10 % 10) as u8,
-        (48 + k % 10) as u8,
-        46,
-        99,
-        115,
-        118,
-    ]
-}
 
 // Returns whether an isomorphism exists between two accepted tables.
 fn isomorphic(source: &[u8], m: usize, target: &[u8], n: usize) -> bool
@@ -232,165 +204,134 @@ fn put_totals(
     at
 }
 
-// In these contracts `answer` says which notes the classifier holds and what comes next; `orders` and `numbers` say what stands in its arrays after the notes.
-impl Classifier {
-    // Returns the classifier that has read no file yet.
-    pub fn start() -> Classifier
-        ensures answer { λ r. ⌜ ((cells : List ℕ) → progressOf r cells ≡ progress.start) ⌝ }
-        ensures orders { λ r. ⌜ r .orders ≡ replicate 50 0 ⌝ }
-        ensures numbers { λ r. ⌜ r .numbers ≡ replicate 50 0 ⌝ }
-    {
-        Classifier {
-            count: 0,
-            orders: [0; 50],
-            numbers: [0; 50],
-            task: Task::Read,
-        }
-    }
+// In the contracts of the following functions `answer` says which notes the classifier holds and what comes next; `orders` and `numbers` say what stands in its
+// arrays after the notes.
 
-    // Returns the number of the file that is to be read next, or 0 where no more are read.
-    pub fn wanted(self) -> usize
-        ensures answer { λ r. ⌜ ((cells : List ℕ) → r ≡ progress.wanted (progressOf self cells)) ⌝ }
-    {
-        let task = self.task;
-        match task {
-            Task::Read => {
-                if self.count < 50 {
-                    return self.count + 1;
-                }
-                0
-            }
-            Task::Compare(_, j) => j,
-            Task::Stop => 0,
-        }
+// Returns the classifier with one more note; the next file is a new one.
+fn noted(classifier: Classifier, order: usize, number: usize) -> Classifier
+    requires { ⌜ (classifier .count < 50) × (order < 256) × (number < 256) ⌝ }
+    ensures answer { λ r. ⌜ ((cells : List ℕ) → progressOf r cells ≡ progress.noted (notesIn classifier) (noteFrom order number)) ⌝ }
+    ensures orders { λ r. ⌜ drop (r .count) (r .orders) ≡ drop (r .count) (classifier .orders) ⌝ }
+    ensures numbers { λ r. ⌜ drop (r .count) (r .numbers) ≡ drop (r .count) (classifier .numbers) ⌝ }
+{
+    let at = classifier.count;
+    let mut orders = classifier.orders;
+    let mut numbers = classifier.numbers;
+    orders[at] = order as u8;
+    numbers[at] = number as u8;
+    Classifier {
+        count: at + 1,
+        orders,
+        numbers,
+        task: Task::Read,
     }
+}
 
-    // Returns the classifier with one more note; the next file is a new one.
-    fn noted(self, order: usize, number: usize) -> Classifier
-        requires { ⌜ (self .count < 50) × (order < 256) × (number < 256) ⌝ }
-        ensures answer { λ r. ⌜ ((cells : List ℕ) → progressOf r cells ≡ progress.noted (notesIn self) (noteFrom order number)) ⌝ }
-        ensures orders { λ r. ⌜ drop (r .count) (r .orders) ≡ drop (r .count) (self .orders) ⌝ }
-        ensures numbers { λ r. ⌜ drop (r .count) (r .numbers) ≡ drop (r .count) (self .numbers) ⌝ }
-    {
-        let at = self.count;
-        let mut orders = self.orders;
-        let mut numbers = self.numbers;
-        orders[at] = order as u8;
-        numbers[at] = number as u8;
-        Classifier {
-            count: at + 1,
+// Returns the classifier that reads no more files.
+fn stopped(classifier: Classifier) -> Classifier
+    ensures answer { λ r. ⌜ ((cells : List ℕ) → progressOf r cells ≡ progress.progress (notesIn classifier) progress.over) ⌝ }
+    ensures orders { λ r. ⌜ drop (r .count) (r .orders) ≡ drop (r .count) (classifier .orders) ⌝ }
+    ensures numbers { λ r. ⌜ drop (r .count) (r .numbers) ≡ drop (r .count) (classifier .numbers) ⌝ }
+{
+    let orders = classifier.orders;
+    let numbers = classifier.numbers;
+    Classifier {
+        count: classifier.count,
+        orders,
+        numbers,
+        task: Task::Stop,
+    }
+}
+
+// Returns the classifier after the comparison with class j failed: it goes on with the next class of tables of order n, or starts a new class.
+fn onward(classifier: Classifier, n: usize, j: usize) -> Classifier
+    requires { ⌜ (classifier .count < 50) × (1 ≤ n) × (n ≤ largestOrder) × (j ≤ classifier .count) ⌝ }
+    ensures answer { λ r. ⌜ ((cells : List ℕ) → progressOf r cells ≡ progress.onward (notesIn classifier) n (take (n * n) cells) j) ⌝ }
+    ensures orders { λ r. ⌜ drop (r .count) (r .orders) ≡ drop (r .count) (classifier .orders) ⌝ }
+    ensures numbers { λ r. ⌜ drop (r .count) (r .numbers) ≡ drop (r .count) (classifier .numbers) ⌝ }
+{
+    let count = classifier.count;
+    let orders = classifier.orders;
+    let numbers = classifier.numbers;
+    let i = next_class(&orders, &numbers, count, n, j);
+    if i <= count {
+        return Classifier {
+            count,
             orders,
             numbers,
-            task: Task::Read,
-        }
-    }
-
-    // Returns the classifier that reads no more files.
-    fn stopped(self) -> Classifier
-        ensures answer { λ r. ⌜ ((cells : List ℕ) → progressOf r cells ≡ progress.progress (notesIn self) progress.over) ⌝ }
-        ensures orders { λ r. ⌜ drop (r .count) (r .orders) ≡ drop (r .count) (self .orders) ⌝ }
-        ensures numbers { λ r. ⌜ drop (r .count) (r .numbers) ≡ drop (r .count) (self .numbers) ⌝ }
-    {
-        let orders = self.orders;
-        let numbers = self.numbers;
-        Classifier {
-            count: self.count,
-            orders,
-            numbers,
-            task: Task::Stop,
-        }
-    }
-
-    // Returns the classifier after the comparison with class j failed: it goes on with the next class of tables of order n, or starts a new class.
-    fn onward(self, n: usize, j: usize) -> Classifier
-        requires { ⌜ (self .count < 50) × (1 ≤ n) × (n ≤ largestOrder) × (j ≤ self .count) ⌝ }
-        ensures answer { λ r. ⌜ ((cells : List ℕ) → progressOf r cells ≡ progress.onward (notesIn self) n (take (n * n) cells) j) ⌝ }
-        ensures orders { λ r. ⌜ drop (r .count) (r .orders) ≡ drop (r .count) (self .orders) ⌝ }
-        ensures numbers { λ r. ⌜ drop (r .count) (r .numbers) ≡ drop (r .count) (self .numbers) ⌝ }
-    {
-        let count = self.count;
-        let orders = self.orders;
-        let numbers = self.numbers;
-        let i = next_class(&orders, &numbers, count, n, j);
-        if i <= count {
-            return Classifier {
-                count,
-                orders,
-                numbers,
-                task: Task::Compare(n, i),
-            };
-        }
-        self.noted(n, i)
-    }
-
-    // Loads a new file into `cells`. Returns the classifier that compares its table, or that has noted its refusal.
-    fn begun(self, text: &[u8], cells: &mut [u8]) -> Classifier
-        requires { ⌜ (self .count < 50) × (length (now cells) ≡ room) ⌝ }
-        ensures answer { λ r. ⌜ progressOf r (now (cells .exit)) ≡ progress.begun (notesIn self) (now (text .entry)) (fileRefusal (now (text .entry)) room) ⌝ }
-        ensures orders { λ r. ⌜ drop (r .count) (r .orders) ≡ drop (r .count) (self .orders) ⌝ }
-        ensures numbers { λ r. ⌜ drop (r .count) (r .numbers) ≡ drop (r .count) (self .numbers) ⌝ }
-        ensures cells { λ _. ⌜ now (cells .exit) ≡ cellsAfter (now (text .entry)) (now (cells .entry)) ⌝ }
-    {
-        let verdict = load_then_check(text, cells);
-        let Numbered::Number(n) = verdict else {
-            return self.noted(0, failed_question(verdict));
+            task: Task::Compare(n, i),
         };
-        self.onward(n, 0)
     }
+    noted(classifier, n, i)
+}
 
-    // Returns the classifier after file j, read again, is compared with the new file's table of order n.
-    fn compared(self, n: usize, j: usize, text: &[u8], cells: &[u8]) -> Classifier
-        requires { ⌜ (self .count < 50) × (j ≤ self .count) × (length (now cells) ≡ room) × Accepted n (take (n * n) (now cells)) ⌝ }
-        ensures answer { λ r. ⌜ progressOf r (now (cells .entry)) ≡ progress.compared (notesIn self) n (take (n * n) (now (cells .entry))) j (classes.holdsLike (now (text .entry)) n (take (n * n) (now (cells .entry)))) ⌝ }
-        ensures orders { λ r. ⌜ drop (r .count) (r .orders) ≡ drop (r .count) (self .orders) ⌝ }
-        ensures numbers { λ r. ⌜ drop (r .count) (r .numbers) ≡ drop (r .count) (self .numbers) ⌝ }
-    {
-        let size = n * n;
-        if holds_like(text, n, &cells[..size]) {
-            return self.noted(n, j);
-        }
-        self.onward(n, j)
+// Loads a new file into `cells`. Returns the classifier that compares its table, or that has noted its refusal.
+fn begun(classifier: Classifier, text: &[u8], cells: &mut [u8]) -> Classifier
+    requires { ⌜ (classifier .count < 50) × (length (now cells) ≡ room) ⌝ }
+    ensures answer { λ r. ⌜ progressOf r (now (cells .exit)) ≡ progress.begun (notesIn classifier) (now (text .entry)) (fileRefusal (now (text .entry)) room) ⌝ }
+    ensures orders { λ r. ⌜ drop (r .count) (r .orders) ≡ drop (r .count) (classifier .orders) ⌝ }
+    ensures numbers { λ r. ⌜ drop (r .count) (r .numbers) ≡ drop (r .count) (classifier .numbers) ⌝ }
+    ensures cells { λ _. ⌜ now (cells .exit) ≡ cellsAfter (now (text .entry)) (now (cells .entry)) ⌝ }
+{
+    let verdict = load_then_check(text, cells);
+    let Numbered::Number(n) = verdict else {
+        return noted(classifier, 0, failed_question(verdict));
+    };
+    onward(classifier, n, 0)
+}
+
+// Returns the classifier after file j, read again, is compared with the new file's table of order n.
+fn compared(classifier: Classifier, n: usize, j: usize, text: &[u8], cells: &[u8]) -> Classifier
+    requires { ⌜ (classifier .count < 50) × (j ≤ classifier .count) × (length (now cells) ≡ room) × Accepted n (take (n * n) (now cells)) ⌝ }
+    ensures answer { λ r. ⌜ progressOf r (now (cells .entry)) ≡ progress.compared (notesIn classifier) n (take (n * n) (now (cells .entry))) j (classes.holdsLike (now (text .entry)) n (take (n * n) (now (cells .entry)))) ⌝ }
+    ensures orders { λ r. ⌜ drop (r .count) (r .orders) ≡ drop (r .count) (classifier .orders) ⌝ }
+    ensures numbers { λ r. ⌜ drop (r .count) (r .numbers) ≡ drop (r .count) (classifier .numbers) ⌝ }
+{
+    let size = n * n;
+    if holds_like(text, n, &cells[..size]) {
+        return noted(classifier, n, j);
     }
+    onward(classifier, n, j)
+}
 
-    // Takes the bytes of the file that was wanted, if it could be opened, and returns the classifier after it. The new file's table is kept in `cells`.
-    pub fn step(self, opened: bool, text: &[u8], cells: &mut [u8]) -> Classifier
-        requires room { ⌜ length (now cells) ≡ room ⌝ }
-        requires sound { ⌜ progress.Sound (progressOf self (now cells)) ⌝ }
-        requires wanted { ⌜ (progress.wanted (progressOf self (now cells)) ≡ 0 → ⊥) ⌝ }
-        ensures answer { λ r. ⌜ progressOf r (now (cells .exit)) ≡ progress.step (progressOf self (now (cells .entry))) (openedText opened (now (text .entry))) ⌝ }
-        ensures orders { λ r. ⌜ drop (r .count) (r .orders) ≡ drop (r .count) (self .orders) ⌝ }
-        ensures numbers { λ r. ⌜ drop (r .count) (r .numbers) ≡ drop (r .count) (self .numbers) ⌝ }
-        ensures cells { λ _. ⌜ now (cells .exit) ≡ cellsThen (self .task) opened (now (text .entry)) (now (cells .entry)) ⌝ }
-    {
-        let task = self.task;
-        match task {
-            Task::Read => {
-                if opened {
-                    return self.begun(text, cells);
-                }
-                self.stopped()
+// Takes the bytes of the file that was wanted, if it could be opened, and returns the classifier after it. The new file's table is kept in `cells`.
+pub fn step(classifier: Classifier, opened: bool, text: &[u8], cells: &mut [u8]) -> Classifier
+    requires room { ⌜ length (now cells) ≡ room ⌝ }
+    requires sound { ⌜ progress.Sound (progressOf classifier (now cells)) ⌝ }
+    requires wanted { ⌜ (progress.wanted (progressOf classifier (now cells)) ≡ 0 → ⊥) ⌝ }
+    ensures answer { λ r. ⌜ progressOf r (now (cells .exit)) ≡ progress.step (progressOf classifier (now (cells .entry))) (openedText opened (now (text .entry))) ⌝ }
+    ensures orders { λ r. ⌜ drop (r .count) (r .orders) ≡ drop (r .count) (classifier .orders) ⌝ }
+    ensures numbers { λ r. ⌜ drop (r .count) (r .numbers) ≡ drop (r .count) (classifier .numbers) ⌝ }
+    ensures cells { λ _. ⌜ now (cells .exit) ≡ cellsThen (classifier .task) opened (now (text .entry)) (now (cells .entry)) ⌝ }
+{
+    let task = classifier.task;
+    match task {
+        Task::Read => {
+            if opened {
+                return begun(classifier, text, cells);
             }
-            Task::Compare(n, j) => {
-                if opened {
-                    return self.compared(n, j, text, &*cells);
-                }
-                self.onward(n, j)
-            }
-            Task::Stop => self,
+            stopped(classifier)
         }
+        Task::Compare(n, j) => {
+            if opened {
+                return compared(classifier, n, j, text, &*cells);
+            }
+            onward(classifier, n, j)
+        }
+        Task::Stop => classifier,
     }
+}
 
-    // Writes the whole output to the start of `out`, from what was noted of each file, once no more files are wanted. Returns its length.
-    pub fn put(self, out: &mut [u8; 1700]) -> usize
-        requires few { ⌜ self .count ≤ 50 ⌝ }
-        requires over { ⌜ ((cells : List ℕ) → progress.wanted (progressOf self cells) ≡ 0) ⌝ }
-        ensures answer { λ r. ⌜ r ≡ length (output.notesText (notesIn self)) ⌝ }
-        ensures out { λ _. ⌜ now (out .exit) ≡ overwritten (output.notesText (notesIn self)) (now (out .entry)) ⌝ }
-    {
-        let count = self.count;
-        let orders = self.orders;
-        let numbers = self.numbers;
-        let at = put_notes(out, &orders, &numbers, count);
-        put_totals(out, at, &orders, &numbers, count)
-    }
+// Writes the whole output to the start of `out`, from what was noted of each file, once no more files are wanted. Returns its length.
+pub fn put(classifier: Classifier, out: &mut [u8; 1700]) -> usize
+    requires few { ⌜ classifier .count ≤ 50 ⌝ }
+    requires over { ⌜ ((cells : List ℕ) → progress.wanted (progressOf classifier cells) ≡ 0) ⌝ }
+    ensures answer { λ r. ⌜ r ≡ length (output.notesText (notesIn classifier)) ⌝ }
+    ensures out { λ _. ⌜ now (out .exit) ≡ overwritten (output.notesText (notesIn classifier)) (now (out .entry)) ⌝ }
+{
+    let count = classifier.count;
+    let orders = classifier.orders;
+    let numbers = classifier.numbers;
+    let at = put_notes(out, &orders, &numbers, count);
+    put_totals(out, at, &orders, &numbers, count)
 }

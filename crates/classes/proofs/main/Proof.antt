@@ -8,9 +8,9 @@ use native.Mathlib.Omega.{arith}
 use lib.ListN.{length, take}
 use lib.Seq.{length-take-le}
 use borrow.Author.Needs.{needs}
-use Rattle.classification.specs.Progress as progress
+use Rattle.progress.specs.Progress as progress
+use Rattle.progress.specs.Held.{progressOf, openedText}
 use Rattle.classification.specs.ProgressLaws as progress-laws
-use Rattle.classification.specs.Held.{progressOf, openedText}
 use Rattle.classification.proofs.Program.{start-sound, later-sound, later-fewer, few-notes, text-within}
 use Rattle.classes.proofs.main.Statement.{statement}
 use Rattle.classes.proofs.main.Tie as tie

@@ -9,7 +9,7 @@ use denote.Ref.{now}
 use Rattle.semigroups.specs.Lists.{elements}
 use Rattle.semigroups.specs.Lists as lists
 use Rattle.counts.proofs.Counts.{count-elements-none, count-element-hit, count-element-miss, count-elements}
-use Rattle.classification.specs.Output.{isIn}
+use Rattle.progress.specs.Output.{isIn}
 use Rattle.classification.proofs.Held.{held, members-from}
 use Rattle.classification.proofs.members.Statement.{statement}
 use Rattle.classification.proofs.members.Tie as tie

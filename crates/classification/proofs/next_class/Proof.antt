@@ -3,12 +3,13 @@ use mathlib.Core.Path.{_≡_, sym, ap, _∙_}
 use Prim.Native.Nat.{_+_, _-_, _≤_, _<_}
 use native.Mathlib.Omega.{arith}
 use denote.Ref.{now}
-use Rattle.classification.specs.Progress.{namesOrder}
-use Rattle.classification.specs.Output.{note}
-use Rattle.classification.specs.Classes.{Note}
-use Rattle.classification.specs.Held.{notesFrom}
+use Rattle.progress.specs.Progress.{namesOrder}
+use Rattle.progress.specs.Output.{note}
+use Rattle.progress.specs.Classes.{Note}
+use Rattle.progress.specs.Held.{notesFrom}
 use Rattle.classification.proofs.NextClass.{NoneBelow, none-start, none-step, next-here, next-end}
-use Rattle.classification.proofs.Held.{held, length-from, note-from}
+use Rattle.progress.proofs.Wanted.{length-from}
+use Rattle.classification.proofs.Held.{held, note-from}
 use Rattle.classification.proofs.next_class.Statement.{statement}
 use Rattle.classification.proofs.next_class.Tie as tie
 

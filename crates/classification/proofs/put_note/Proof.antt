@@ -3,8 +3,8 @@ use mathlib.Core.Path.{_≡_, sym, ap}
 use Prim.Native.Nat.{ℕ}
 use native.Mathlib.Omega.{arith}
 use denote.Ref.{now}
-use Rattle.classification.specs.Classes.{refusedBy}
-use Rattle.classification.specs.Held.{noteFrom}
+use Rattle.progress.specs.Classes.{refusedBy}
+use Rattle.progress.specs.Held.{noteFrom}
 use Rattle.classification.proofs.Text.{note-fits, note-put}
 use Rattle.classification.proofs.Steps.{is-class}
 use borrow.Author.Needs.{needs}

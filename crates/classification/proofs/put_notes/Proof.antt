@@ -4,8 +4,8 @@ use native.Mathlib.Omega.{arith}
 use denote.Ref.{now}
 use Rattle.csv.specs.Records.{rowsText}
 use Rattle.csv.proofs.Writing.{Writing, write-length}
-use Rattle.classification.specs.Output.{noteRecords}
-use Rattle.classification.specs.Held.{notesFrom}
+use Rattle.progress.specs.Output.{noteRecords}
+use Rattle.progress.specs.Held.{notesFrom}
 use Rattle.classification.proofs.Text.{notesLeft, notes-begun, notes-room, notes-next, notes-done}
 use Rattle.classification.proofs.put_notes.Statement.{statement}
 use Rattle.classification.proofs.put_notes.Tie as tie

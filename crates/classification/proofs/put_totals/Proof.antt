@@ -4,8 +4,8 @@ use native.Mathlib.Omega.{arith}
 use denote.Ref.{now}
 use Rattle.csv.specs.Records.{rowsText}
 use Rattle.csv.proofs.Writing.{Writing, write-length}
-use Rattle.classification.specs.Output.{totalRecords}
-use Rattle.classification.specs.Held.{notesFrom}
+use Rattle.progress.specs.Output.{totalRecords}
+use Rattle.progress.specs.Held.{notesFrom}
 use Rattle.classification.proofs.Text.{totalsLeft, totals-begun, totals-room, totals-next, totals-done}
 use Rattle.classification.proofs.put_totals.Statement.{statement}
 use Rattle.classification.proofs.put_totals.Tie as tie

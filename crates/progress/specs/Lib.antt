@@ -1,0 +1,4 @@
+pub mod Classes
+pub mod Output
+pub mod Progress
+pub mod Held
