@@ -1,5 +1,4 @@
-pub mod Next
+pub mod Whole
 pub mod Among
 pub mod Alike
 pub mod Memory
-pub mod Placing

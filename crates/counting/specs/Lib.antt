@@ -1,3 +1,3 @@
 pub mod InnerAmong
-pub mod InnerNext
+pub mod InnerWhole
 pub mod InnerMemory

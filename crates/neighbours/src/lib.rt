@@ -81,8 +81,8 @@ fn enough_row(target: &[u8], n: usize, few: &[u8; 64], row: Row) -> Row
     }
 }
 
-// Takes out of each of the first m rows the elements above n, and those that have fewer neighbours of some pattern than the element whose row it is. No embedding
-// is lost.
+// Takes out of each of the first m rows the elements above n, and those that have fewer neighbours of some pattern than the element whose row it is. No
+// embedding is lost.
 pub fn keep_neighbours(source: &[u8], m: usize, target: &[u8], n: usize, rows: &mut [u64; WORDS])
     requires { ⌜ Filled m (now source) × Filled n (now target) ⌝ }
     ensures rows { λ _. ⌜ now (rows .exit) ≡ keptRows m n (hasAsMany m (product m (now (source .entry))) n (product n (now (target .entry)))) (now (rows .entry)) ⌝ }
