@@ -10,7 +10,7 @@ use lib.Dec.{leb}
 use Rattle.semigroups.specs.Tables.{Element}
 use Rattle.semigroups.proofs.Booleans.{both, and-left, and-right, same-truth, either, clash, equal-or-not}
 use Rattle.rows.specs.declared.Row.{Row}
-use Rattle.rows.specs.InnerRows.{has, packedRow, masked, Shrinks, inTurn, keptRows, cutRows}
+use Rattle.rows.specs.InnerRows.{has, packedRow, masked, Shrinks, stepwise, keptRows, cutRows}
 use Rattle.rows.proofs.Words.{word-same}
 use Rattle.rows.proofs.Rows.{row, all-packed-row, shrinks-none, shrinks-more}
 use Rattle.rows.proofs.Raising.{CutAt, row-cut}
@@ -19,18 +19,18 @@ use Rattle.rows.proofs.Raising.{CutAt, row-cut}
 
 module _ (step : ℕ → List ℕ → List ℕ) (old : List ℕ) where
   -- Row c is next.
-  pub turn-next : (c : ℕ) (rows new : List ℕ) → 1 ≤ c → rows ≡ inTurn step (c - 1) old → new ≡ step c rows → new ≡ inTurn step (c + 1 - 1) old
-  unfolding inTurn
+  pub turn-next : (c : ℕ) (rows new : List ℕ) → 1 ≤ c → rows ≡ stepwise step (c - 1) old → new ≡ step c rows → new ≡ stepwise step (c + 1 - 1) old
+  unfolding stepwise
   turn-next c rows new h e s =
-      s ∙ ap₂ step (let z : c ≡ suc (c - 1) = omega arith in z) e ∙ ap (λ (k : ℕ). inTurn step k old) (let z : suc (c - 1) ≡ c + 1 - 1 = omega arith in z)
+      s ∙ ap₂ step (let z : c ≡ suc (c - 1) = omega arith in z) e ∙ ap (λ (k : ℕ). stepwise step k old) (let z : suc (c - 1) ≡ c + 1 - 1 = omega arith in z)
 
   -- All rows are done.
-  pub turn-end : (m c : ℕ) (rows : List ℕ) → m < c → c ≤ m + 1 → rows ≡ inTurn step (c - 1) old → rows ≡ inTurn step m old
-  turn-end m c rows h l e = e ∙ ap (λ (k : ℕ). inTurn step k old) (let z : c - 1 ≡ m = omega arith in z)
+  pub turn-end : (m c : ℕ) (rows : List ℕ) → m < c → c ≤ m + 1 → rows ≡ stepwise step (c - 1) old → rows ≡ stepwise step m old
+  turn-end m c rows h l e = e ∙ ap (λ (k : ℕ). stepwise step k old) (let z : c - 1 ≡ m = omega arith in z)
 
 -- Before the first row nothing has changed.
-pub turn-start : (step : ℕ → List ℕ → List ℕ) (old : List ℕ) → old ≡ inTurn step (1 - 1) old
-unfolding inTurn
+pub turn-start : (step : ℕ → List ℕ → List ℕ) (old : List ℕ) → old ≡ stepwise step (1 - 1) old
+unfolding stepwise
 turn-start step old = refl
 
 module _ (chosen : ℕ → Bool) (cut : List ℕ → ℕ → List ℕ) (old : List ℕ) (c : ℕ) (rows new : List ℕ) (h : 1 ≤ c) (e : rows ≡ cutRows (c - 1) chosen cut old) where
@@ -42,7 +42,7 @@ module _ (chosen : ℕ → Bool) (cut : List ℕ → ℕ → List ℕ) (old : Li
 
 -- Where no row is chosen, none is cut.
 pub none-chosen : (m : ℕ) (chosen : ℕ → Bool) (cut : List ℕ → ℕ → List ℕ) → ((c : ℕ) → Element m c → chosen c ≡ false) → (rows : List ℕ) → cutRows m chosen cut rows ≡ rows
-unfolding inTurn
+unfolding stepwise
 none-chosen zero chosen cut none rows = refl
 none-chosen (suc m) chosen cut none rows =
     let before = cutRows m chosen cut rows in
@@ -56,12 +56,12 @@ CutTo m Passes old new = (d y : ℕ) → Element 120 d → Element 120 y → (ne
 
 module _ (step : ℕ → List ℕ → List ℕ) where
   -- If each step cuts one row, all of them cut the first m rows.
-  pub turns-cut : (Passes : ℕ → ℕ → Type 0) (m : ℕ) → ((c : ℕ) (rows : List ℕ) → Element m c → CutAt c (Passes c) (has rows) (has (step c rows))) → (rows : List ℕ) → CutTo m Passes (has rows) (has (inTurn step m rows))
-  unfolding inTurn
+  pub turns-cut : (Passes : ℕ → ℕ → Type 0) (m : ℕ) → ((c : ℕ) (rows : List ℕ) → Element m c → CutAt c (Passes c) (has rows) (has (step c rows))) → (rows : List ℕ) → CutTo m Passes (has rows) (has (stepwise step m rows))
+  unfolding stepwise
   turns-cut Passes zero each rows d y hd hy = ((λ e. (e, λ h. absurd (let z : ⊥ = omega arith in z))), λ e. e .0)
   turns-cut Passes (suc m) each rows d y hd hy =
       let before = turns-cut Passes m (λ c l h. each c l (omega arith)) rows d y hd hy in
-      let last = each (suc m) (inTurn step m rows) (omega arith) d y hd hy in (
+      let last = each (suc m) (stepwise step m rows) (omega arith) d y hd hy in (
         (λ e. (before .0 (last .0 e .0) .0, λ h. passes (last .0 e .1) (before .0 (last .0 e .0) .1) h (equal-or-not d (suc m)))),
         λ e. last .1 (before .1 (e .0, λ h. e .1 (omega arith)), λ q. subst (λ (k : ℕ). Passes k y) q (e .1 (omega arith))),
       )
@@ -71,11 +71,11 @@ module _ (step : ℕ → List ℕ → List ℕ) where
       passes one others h (inr ne) = others (omega arith)
 
   -- If no step adds a bit, all of them add none.
-  turns-shrink : (m : ℕ) → ((c : ℕ) (rows : List ℕ) → Element m c → Shrinks rows (step c rows)) → (rows : List ℕ) → Shrinks rows (inTurn step m rows)
-  unfolding inTurn
+  turns-shrink : (m : ℕ) → ((c : ℕ) (rows : List ℕ) → Element m c → Shrinks rows (step c rows)) → (rows : List ℕ) → Shrinks rows (stepwise step m rows)
+  unfolding stepwise
   turns-shrink zero each rows = shrinks-none rows
   turns-shrink (suc m) each rows =
-      shrinks-more (inTurn step m rows) (step (suc m) (inTurn step m rows)) rows (turns-shrink m (λ c l h. each c l (omega arith)) rows) (each (suc m) (inTurn step m rows) (omega arith))
+      shrinks-more (stepwise step m rows) (step (suc m) (stepwise step m rows)) rows (turns-shrink m (λ c l h. each c l (omega arith)) rows) (each (suc m) (stepwise step m rows) (omega arith))
 
 module _ (chosen : ℕ → Bool) (cut : List ℕ → ℕ → List ℕ) (m : ℕ) (lm : m ≤ 120) where
   -- The rows that are chosen keep what passes.
@@ -110,7 +110,7 @@ packed-cut n p rows c hc = row-cut rows c (λ y. (leb y n && p y) ≡ true) hc (
 
 -- Two tests that agree on the first m rows and on n elements leave the same.
 pub kept-same : (m n : ℕ) (p q : ℕ → ℕ → Bool) → ((c y : ℕ) → Element m c → Element n y → p c y ≡ q c y) → (rows : List ℕ) → keptRows m n p rows ≡ keptRows m n q rows
-unfolding inTurn
+unfolding stepwise
 kept-same zero n p q same rows = refl
 kept-same (suc m) n p q same rows =
     ap₂ (λ (l : List ℕ) (r : Row). masked l (suc m) r) (kept-same m n p q (λ c y hc hy. same c y (omega arith) hy) rows) (packed-same n (p (suc m)) (q (suc m)) (λ y hy. same (suc m) y (omega arith) hy))

@@ -98,14 +98,14 @@ abbrev pub lowered : List ℕ → ℕ → ℕ → List ℕ
 lowered rows j x = masked rows j (underRow (rowOf rows j) x)
 
 -- The rows after a step for each of the first m rows in turn.
-unfoldable pub inTurn : (ℕ → List ℕ → List ℕ) → ℕ → List ℕ → List ℕ
-inTurn step zero rows = rows
-inTurn step (suc c) rows = step (suc c) (inTurn step c rows)
+unfoldable pub stepwise : (ℕ → List ℕ → List ℕ) → ℕ → List ℕ → List ℕ
+stepwise step zero rows = rows
+stepwise step (suc c) rows = step (suc c) (stepwise step c rows)
 
 -- The rows, with only those of n elements in each of the first m rows that pass the test of that row.
 abbrev pub keptRows : ℕ → ℕ → (ℕ → ℕ → Bool) → List ℕ → List ℕ
-keptRows m n p = inTurn (λ c rows. masked rows c (packedRow n (p c))) m
+keptRows m n p = stepwise (λ c rows. masked rows c (packedRow n (p c))) m
 
 -- The rows after those of the first m rows that are chosen are cut in turn.
 abbrev pub cutRows : ℕ → (ℕ → Bool) → (List ℕ → ℕ → List ℕ) → List ℕ → List ℕ
-cutRows m chosen cut = inTurn (λ c rows. cond (chosen c) (cut rows c) rows) m
+cutRows m chosen cut = stepwise (λ c rows. cond (chosen c) (cut rows c) rows) m
