@@ -1,4 +1,4 @@
--- Arrays with a place for each element of a table of any order, and which counts they hold. Assumes nothing.
+-- Which counts the arrays hold that have a place for each element of a table. Assumes nothing.
 use mathlib.Core.Path.{_≡_}
 use Prim.Native.Nat.{ℕ}
 use Rattle.semigroups.specs.Tables.{Product}

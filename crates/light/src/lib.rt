@@ -1,5 +1,6 @@
 // Question 4 by Light's associativity test. Elements that generate the whole table are chosen, the rarest first; if few are enough, only the triples whose
-// middle is one of them are looked at. A "no" means that some triple does not associate, but not which is the first: `associative` looks for that.
+// middle is one of them are looked at. A "no" means that some triple does not associate, but not which is the first: `associative` in crate `tables` looks for
+// that.
 ghost use mathlib.Core.Path.{_≡_};
 ghost use mathlib.Core.List.{map};
 ghost use Prim.Native.Nat.{_-_, _≤_, _<_};

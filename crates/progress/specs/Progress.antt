@@ -1,5 +1,5 @@
 -- How the program goes through a folder, two tables at a time (RULES 22.1): which file it asks for next, and what it holds once it has that file. That it
--- ends, and then prints `folderOutput` of any folder, is `Prints`. Assumes nothing.
+-- ends, and then prints `folderOutput` of any folder, is `Prints` in crate `classification`. Assumes nothing.
 use mathlib.Core.Bool.{Bool, true, false, _&&_, cond}
 use mathlib.Core.List.{List, [], _∷_, _++_}
 use mathlib.Core.Option.{Option, none, some}

@@ -10,7 +10,7 @@ use light::add;
 use tables::limits::ORDER;
 use tables::limits::PLACES;
 
-// Returns the elements in the order of their first places in the table, read row after row; those that stand nowhere follow in rising order, then zeros.
+// Returns the elements by their first places in the table, read row after row, the earliest first; those that stand nowhere follow in rising order, then zeros.
 fn by_first_places(cells: &[u8], n: usize) -> [u8; ORDER]
     requires { ⌜ Filled n (now cells) ⌝ }
     ensures answer { λ r. ⌜ r ≡ byFirstPlaces n (now (cells .entry)) ++ replicate (120 - n) 0 ⌝ }
@@ -32,7 +32,7 @@ fn by_first_places(cells: &[u8], n: usize) -> [u8; ORDER]
     found
 }
 
-// Writes the table in which each element has its number in the order of first places to `renamed`. The two tables are isomorphic.
+// Writes to `renamed` the table in which each element has the number of its place in the list that `by_first_places` returns. The two tables are isomorphic.
 pub fn rename(cells: &[u8], n: usize, renamed: &mut [u8])
     requires { ⌜ Filled n (now cells) ⌝ ∗ ⌜ n * n ≤ length (now renamed) ⌝ }
     ensures renamed { λ _. ⌜ now (renamed .exit) ≡ overwritten (renamedCells n (now (cells .entry))) (now (renamed .entry)) ⌝ }
