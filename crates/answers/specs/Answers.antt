@@ -67,6 +67,6 @@ placeOption Nothing = none
 abbrev pub refusalNumbers : Refusal → Numbers
 refusalNumbers r = record { number = r .number; side = r .side; first = getD (r .values) 0 0; second = getD (r .values) 1 0; third = getD (r .values) 2 0 }
 
--- These numbers with another side.
+-- The numbers of a refusal, with this side.
 abbrev pub numbersNaming : ℕ → Numbers → Numbers
 numbersNaming side r = record { number = r .number; side = side; first = r .first; second = r .second; third = r .third }

@@ -4,7 +4,7 @@ ghost use mathlib.Core.List.{[], _∷_};
 ghost use Rattle.semigroups.specs.InnerQuestions.{no};
 ghost use Rattle.answers.specs.Answers.{noRefusal, faultRefusal, sideNumber, refusalNumbers, numbersNaming};
 
-// Why a table is refused: questions 1 to 4, with the first cell, counted from 1, or the first triple.
+// Why a table is refused: which of questions 1 to 4 fails; for 3 the first cell that is not 1 to n, counted from 1; for 4 the first failing triple.
 pub enum Fault {
     Order,
     Size,
@@ -33,7 +33,7 @@ pub struct Refusal {
     pub third: usize,
 }
 
-// A "no" to a question: the number of the question alone; or with its one value; or, for question 4, with the triple.
+// A "no" to a question: its number alone; its number and one value; or, for question 4, the triple alone.
 pub enum No {
     Bare(usize),
     With(usize, usize),
@@ -73,7 +73,7 @@ impl Side {
 }
 
 impl Refusal {
-    // Returns the refusal by question `number`, which names no side and has one value, or no value where that is 0.
+    // Returns the refusal by question `number`, which names no side and carries `value`; 0 stands for no value.
     pub fn by(number: usize, value: usize) -> Self
         ensures answer { λ r. ⌜ r ≡ refusalNumbers (no number (value ∷ [])) ⌝ }
     {
@@ -86,7 +86,7 @@ impl Refusal {
         }
     }
 
-    // Returns this refusal with the side of the table that it names.
+    // Returns this refusal with `side` as the side that it names.
     pub fn naming(self, side: Side) -> Self
         ensures answer { λ r. ⌜ r ≡ numbersNaming (sideNumber side) self ⌝ }
     {
@@ -120,7 +120,7 @@ impl No {
 }
 
 impl Fault {
-    // Returns the "no" to the question that this fault fails.
+    // Returns the "no" that this fault stands for.
     pub fn no(self) -> No
         ensures answer { λ r. ⌜ noRefusal r ≡ faultRefusal self ⌝ }
     {

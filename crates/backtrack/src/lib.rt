@@ -2,29 +2,27 @@
 // inside the call for element i; to return is to backtrack. A placing is tested by the products of the new element alone: what the pairs placed before it
 // require is kept in the constraints.
 ghost use mathlib.Core.Path.{_≡_};
-ghost use mathlib.Core.Bool.{true, false, cond, _&&_, not};
-ghost use mathlib.Core.List.{[], _∷_, _++_};
+ghost use mathlib.Core.Bool.{false, cond, _&&_, not};
+ghost use mathlib.Core.List.{[]};
 ghost use mathlib.Core.Option.{none};
-ghost use Prim.Native.Nat.{ℕ, _+_, _-_, _≤_, _<_};
+ghost use Prim.Native.Nat.{_-_, _≤_};
 ghost use lib.Dec.{eqb, leb};
-ghost use lib.ListN.{length, getD, take, set, replicate};
-ghost use Rattle.semigroups.specs.Lists.{member};
+ghost use lib.ListN.{length, getD, replicate};
 ghost use Rattle.semigroups.specs.Tables.{largestOrder, product, Element, Filled};
 ghost use Rattle.semigroups.specs.Scratch.{scratchSize, marked};
-ghost use Rattle.semigroups.specs.Trials.{passes, work};
+ghost use Rattle.semigroups.specs.Trials.{work};
 ghost use Rattle.semigroups.specs.InnerTrials.{counted};
-ghost use Rattle.constraints.specs.InnerTracking.{Placing, Tracks};
 ghost use Rattle.placing.specs.InnerPlaced.{prefix};
 ghost use Rattle.backtrack.specs.InnerState.{Ready, bounded, exhausted, remaining, within, outcomeOf};
 use placing::Partial;
 use tables::limits::ORDER;
 use tables::limits::PLACES;
 
-// How many trials a search without a limit makes at most before a search with rows takes over. They end nearly every easy search.
+// How many trials a search without a limit makes at most before a search with rows takes over. They are enough for nearly every easy search.
 pub const FIRST_TRIALS: u32 = 8000;
 
-// The result of a search: whether its limit stopped it; if not, how many trials are left; whether it found a map; and the map's images followed by zeros,
-// or only zeros. A search without a limit is never stopped and counts no trials: none is left.
+// The result of a search: whether its limit stopped it; how many trials are left, 0 if it was stopped; whether it found a map; and the map's images followed by
+// zeros, or only zeros. A search without a limit is never stopped and does not count trials: `left` is 0.
 pub struct Outcome {
     pub stopped: bool,
     pub left: u32,
@@ -65,7 +63,7 @@ pub fn no_map(stopped: bool, left: u32) -> Outcome
     }
 }
 
-// Returns the outcome where every element has its image: the map is found, unless it is the bound itself.
+// Returns the outcome once every element has its image, with `limit` trials left: the map is found, unless it is the bound itself, which `tight` says.
 fn whole(tight: bool, limit: u32, image: [u8; ORDER]) -> Outcome
     ensures answer { λ r. ⌜ r ≡ record { stopped = false; left = limit; ok = not tight; image = cond tight (replicate 120 0) image } ⌝ }
 {
@@ -80,7 +78,7 @@ fn whole(tight: bool, limit: u32, image: [u8; ORDER]) -> Outcome
     }
 }
 
-// Returns whether a trial is left, and how many are left after it; without one, that is none.
+// Returns whether a trial is left, and how many are left after it: 0 if none is left.
 fn pay(left: u32) -> Paid
     ensures answer { λ r. ⌜ cond (r .enough) (remaining (r .left) none) exhausted ≡ within left (work none 1) ⌝ }
     ensures left { λ r. ⌜ r .left ≡ left - 1 ⌝ }
@@ -97,8 +95,9 @@ fn pay(left: u32) -> Paid
     }
 }
 
-// Returns the earliest map asked for that begins with what is placed, within `limit` trials. `tight` says that what is placed equals the beginning of
-// `after`, so that the rest must be later. The constraints lent are those of the list without its newest element, whose pairs are noted here.
+// Searches for the earliest map asked for that begins with what is placed. Returns the outcome: the map, none, or that `limit` trials are not enough. `tight`
+// says that what is placed equals the beginning of `after`, so that the rest must be later. The constraints lent, `known` and `held`, are those of the list
+// without its newest element, whose pairs are noted here.
 fn extend(
     source: &[u8],
     m: usize,
@@ -167,8 +166,8 @@ fn extend(
     no_map(false, left)
 }
 
-// Returns the earliest map among the marked candidates, or with `next` the earliest that is later than `after`, if `limit` trials are enough; it is stopped
-// if they are not.
+// Searches for the earliest map among the marked candidates, or with `next` for the earliest that is later than `after`. Returns the outcome: the map, none, or
+// that the search was stopped, because `limit` trials are not enough.
 pub fn find_within(
     source: &[u8],
     m: usize,

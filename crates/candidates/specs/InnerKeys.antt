@@ -18,7 +18,7 @@ abbrev pub byte : {A : Type 0} → (A → ℕ) → KeyPart A
 byte number = record { number = number; values = 256 }
 
 -- A number that takes two bytes of a key.
-abbrev pub twoBytes : {A : Type 0} → (A → ℕ) → KeyPart A
+abbrev twoBytes : {A : Type 0} → (A → ℕ) → KeyPart A
 twoBytes number = record { number = number; values = 65536 }
 
 -- A key with the parts of v appended to it.

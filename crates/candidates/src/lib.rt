@@ -25,7 +25,7 @@ pub fn scratch_size(m: usize, n: usize) -> usize
     (m * n + 7) / 8
 }
 
-// Returns the number of the pair of source element i and target element j of n, counted from 0.
+// Returns the number, counted from 0, of the pair of source element i and target element j, where there are n target elements.
 fn pair_number(n: usize, i: usize, j: usize) -> usize
     requires { ⌜ Element largestOrder i × Element n j × (n ≤ largestOrder) ⌝ }
     ensures answer { λ r. ⌜ r ≡ cellPlace n i j ⌝ }
@@ -33,7 +33,7 @@ fn pair_number(n: usize, i: usize, j: usize) -> usize
     (i - 1) * n + (j - 1)
 }
 
-// Returns whether target element j of n is marked as a candidate for source element i.
+// Returns whether target element j is marked as a candidate for source element i, where there are n target elements.
 pub fn marked(scratch: &[u8], n: usize, i: usize, j: usize) -> bool
     requires { ⌜ Element largestOrder i ⌝ }
     requires { ⌜ (n ≤ largestOrder) × Element n j ⌝ }
@@ -61,7 +61,7 @@ fn append(keys: &[u64; ORDER], n: usize, values: u64, numbers: &[u16; ORDER]) ->
     longer
 }
 
-// Returns the index-period key of every element; that of element a stands at place a - 1.
+// Returns the index-period key of every element; that of element a stands at place a - 1, and zeros follow.
 fn index_period_keys(cells: &[u8], n: usize) -> [u64; ORDER]
     requires { ⌜ Filled n (now cells) ⌝ }
     ensures answer { λ r. ⌜ r ≡ perElement n (λ a. indexPeriodKey (indexPeriod n (product n (now (cells .entry))) a)) ⌝ }
@@ -72,7 +72,7 @@ fn index_period_keys(cells: &[u8], n: usize) -> [u64; ORDER]
     append(&indices, n, 256, &powers.period)
 }
 
-// Returns the profile key of every element; that of element a stands at place a - 1.
+// Returns the profile key of every element; that of element a stands at place a - 1, and zeros follow.
 pub fn profile_keys(cells: &[u8], n: usize) -> [u64; ORDER]
     requires { ⌜ Filled n (now cells) ⌝ }
     ensures answer { λ r. ⌜ r ≡ perElement n (λ a. profileKey (profile n (product n (now (cells .entry))) a)) ⌝ }
@@ -146,7 +146,7 @@ fn marks_byte(source: &[u64; ORDER], m: usize, target: &[u64; ORDER], n: usize, 
     byte as u8
 }
 
-// Writes the marks of the pairs of elements with equal keys.
+// Writes the marks of the pairs of elements with equal keys to the start of `scratch`; later bytes are untouched.
 pub fn fill_equal(
     source: &[u64; ORDER],
     m: usize,
@@ -166,7 +166,7 @@ pub fn fill_equal(
     }
 }
 
-// Writes the marks of the candidates for embeddings: the pairs of elements with equal index-periods.
+// Writes the marks of the candidates for embeddings, the pairs of elements with equal index-periods, to the start of `scratch`; later bytes are untouched.
 pub fn fill_embeddings(source: &[u8], m: usize, target: &[u8], n: usize, scratch: &mut [u8])
     requires { ⌜ Filled m (now source) × Filled n (now target) ⌝ }
     requires { ⌜ scratchSize m n ≤ length (now scratch) ⌝ }
@@ -177,7 +177,7 @@ pub fn fill_embeddings(source: &[u8], m: usize, target: &[u8], n: usize, scratch
     fill_equal(&source_keys, m, &target_keys, n, scratch);
 }
 
-// Writes the marks of the candidates for isomorphisms: the pairs of elements with equal profiles.
+// Writes the marks of the candidates for isomorphisms, the pairs of elements with equal profiles, to the start of `scratch`; later bytes are untouched.
 pub fn fill_isomorphisms(source: &[u8], m: usize, target: &[u8], n: usize, scratch: &mut [u8])
     requires { ⌜ Filled m (now source) × Filled n (now target) ⌝ }
     requires { ⌜ scratchSize m n ≤ length (now scratch) ⌝ }

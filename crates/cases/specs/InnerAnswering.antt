@@ -1,4 +1,4 @@
--- What the library's other answers are as numbers, and when they are those that the rules give (RULES 4 and 7).
+-- The library's other answers as numbers, and the tests whether an answer is the one that the rules give (RULES 4 and 7).
 -- Assumes nothing.
 use mathlib.Core.Bool.{Bool, false, _&&_}
 use Prim.Native.Nat.{ℕ}

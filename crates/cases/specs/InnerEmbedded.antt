@@ -24,10 +24,10 @@ abbrev pub mat5Cells : List ℕ
 mat5Cells = 1 ∷ 1 ∷ 1 ∷ 1 ∷ 1 ∷ 1 ∷ 2 ∷ 3 ∷ 2 ∷ 3 ∷ 1 ∷ 1 ∷ 1 ∷ 2 ∷ 3 ∷ 1 ∷ 4 ∷ 5 ∷ 4 ∷ 5 ∷ 1 ∷ 1 ∷ 1 ∷ 4 ∷ 5 ∷ []
 
 -- The call, with this many bytes of scratch.
-abbrev pub embeddedCall : ℕ → Called (Answer Sought)
+abbrev embeddedCall : ℕ → Called (Answer Sought)
 embeddedCall size = call embeddings first (lend swapCells 2 twoCells 4 (0 ∷ 0 ∷ []) (take size (replicate 3 255)))
 
--- The tally after the comparison of the answer, the map buffer, and the scratch buffer with the bytes after it.
+-- The tally after three comparisons: of the answer, of the map buffer, and of the array of 3 bytes that scratch is the start of.
 abbrev pub embeddedTally : ℕ → ℕ → List ℕ → List ℕ → Tally → Tally
 embeddedTally size said bytes scratch t =
     let c = embeddedCall size in

@@ -22,6 +22,6 @@ module _ (kind : Kind) (next : Bool) (source : List ℕ) (m : ℕ) (target : Lis
   abbrev pub toldTally : ℕ → List ℕ → Tally → Tally
   toldTally said after t = counted (counted t (eqb (saidNumber (toldCall .says)) said)) (sameList (toldCall .mapBytes ++ drop m before) after)
 
--- The first call, which finds a map and leaves it in the array, and the next one, which starts from that map.
+-- The tally after both comparisons of two calls: the first, which finds a map and leaves it in the array, and the next one, which starts from that map.
 abbrev pub firstTwo : Kind → List ℕ → ℕ → List ℕ → ℕ → List ℕ → ℕ → List ℕ → Tally → Tally
 firstTwo kind source m target n first said second t = toldTally kind true source m target n first said second (toldTally kind false source m target n (replicate 5 0) 100 first t)

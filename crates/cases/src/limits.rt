@@ -1,5 +1,5 @@
 // The limits: the largest table and one above, degrees, buffers, fields, and a larger target. The contracts of `degree`, `embedded` and `field` say what is
-// compared with what; those of the functions that call them say only how many answers agree, which a tally without a comparison would meet too.
+// compared with what; those of the functions that call them say only how many answers agree, and code that counts without comparing would meet them too.
 ghost use mathlib.Core.Path.{_≡_};
 ghost use mathlib.Core.List.{_∷_, []};
 ghost use Prim.Native.Nat.{_≤_, suc};
@@ -34,7 +34,7 @@ use plain::Said;
 use plain::failed;
 use tables::Numbered;
 
-// Order 120 is accepted, 121 is refused. Returns the tally.
+// Compares the answers about a table of order 120, which is accepted, and of order 121, which is refused. Returns the tally.
 pub fn orders() -> Tally
     ensures answer { λ r. ⌜ r ≡ agreed 3 (counted empty (sameSaid (saidOf (tableRefusal 120 (replicate 14400 1))) (saidOf none))) ⌝ }
 {
@@ -73,7 +73,7 @@ fn degree(d: usize, said: Said, after: [u8; 20], tally: Tally) -> Tally
     counted(answered, same_bytes(&cells, &after))
 }
 
-// Degrees 1 and 2 are made; degree 3 has more cells than the buffer, and degree 4 is refused. Returns the tally.
+// Compares the answers for degrees 1 to 4: 1 and 2 are made, 3 has more cells than the buffer, and 4 is refused. Returns the tally.
 pub fn degrees() -> Tally
     ensures answer { λ r. ⌜ r ≡ agreed 8 empty ⌝ }
 {
@@ -86,7 +86,8 @@ pub fn degrees() -> Tally
     degree(4, failed(8, 0), left, three)
 }
 
-// The table of all transformations of three points has order 27, and mat5 embeds in it. Returns the tally.
+// Compares the answer for the table of all transformations of three points, whose order is 27, and the walk through the embeddings of mat5 in it. Returns the
+// tally.
 pub fn large_target() -> Tally
     ensures answer { λ r. ⌜ r ≡ agreed (suc (walkCalls false mat5Cells 5 (transformationCells 3) 27 (replicate 5 0))) empty ⌝ }
 {
@@ -120,7 +121,7 @@ fn embedded(size: usize, said: usize, map: [u8; 2], scratch: [u8; 3], tally: Tal
     counted(mapped, same_bytes(&marks, &scratch))
 }
 
-// One byte of scratch is enough for 2 x 4 pairs, and one byte less is not: nothing is changed then. Returns the tally.
+// Compares a search with no byte of scratch, which is refused and changes nothing, and one with one byte, which is enough for 2 x 4 pairs. Returns the tally.
 pub fn scratch() -> Tally
     ensures answer { λ r. ⌜ r ≡ agreed 6 empty ⌝ }
 {
@@ -138,7 +139,7 @@ fn field(text: &[u8], said: Said, cell: u8, tally: Tally) -> Tally
     counted(answered, same_bytes(&cells, &[cell, 7]))
 }
 
-// A field of 120 passes; 121 fails question 25, 0 and 0001 fail question 24. Returns the tally.
+// Compares the answers for four texts of one field: 120 passes, 121 fails question 25, and 0 and 0001 fail question 24. Returns the tally.
 pub fn fields() -> Tally
     ensures answer { λ r. ⌜ r ≡ agreed 8 empty ⌝ }
 {

@@ -1,6 +1,6 @@
 // Cases 6 to 13 with the maps that RULES 23.2 prints, as constants. The comparison with the second search cannot tell whether both make the same mistake; this
-// one can. The contract of `told` says what is compared with what. Those of the functions after it say only how many answers agree, which a tally without a
-// comparison would meet too: that the constants are compared is read from the code and seen in the run.
+// one can. The contracts of `told` and `first_two` say what is compared with what. Those of the functions after them say only how many answers agree, and
+// code that counts without comparing would meet them too: that the constants are compared is read from the code and seen in the run.
 ghost use mathlib.Core.Path.{_≡_};
 ghost use Prim.Native.Nat.{_≤_};
 ghost use Rattle.kinds.specs.Answers.{kindOf};
@@ -68,7 +68,7 @@ fn first_two(
     told(kind, true, source, m, target, n, first, said, second, a)
 }
 
-// Case 6: swap in two has one embedding.
+// Compares case 6: swap in two has one embedding. Returns the tally.
 fn swap_in_two(tally: Tally) -> Tally
     ensures answer { λ r. ⌜ r ≡ agreed 4 tally ⌝ }
 {
@@ -76,7 +76,7 @@ fn swap_in_two(tally: Tally) -> Tally
     first_two(Kind::Embeddings, &SWAP, 2, &TWO, 4, map, 0, map, tally)
 }
 
-// Case 7: right in two has two embeddings.
+// Compares case 7: right in two has two embeddings. Returns the tally.
 fn right_in_two(tally: Tally) -> Tally
     ensures answer { λ r. ⌜ r ≡ agreed 6 tally ⌝ }
 {
@@ -96,7 +96,7 @@ fn right_in_two(tally: Tally) -> Tally
     told(Kind::Embeddings, true, &right, 2, &TWO, 4, last, 0, last, a)
 }
 
-// Case 9: the embeddings of one in two, in turn.
+// Compares case 9, the embeddings of one in two, in turn. Returns the tally.
 fn one_in_two(tally: Tally) -> Tally
     ensures answer { λ r. ⌜ r ≡ agreed 6 tally ⌝ }
 {
@@ -159,7 +159,7 @@ pub fn embeddings() -> Tally
     )
 }
 
-// Case 10: the isomorphisms of two onto itself, in turn.
+// Compares case 10, the isomorphisms of two onto itself, in turn. Returns the tally.
 fn two_onto_two(tally: Tally) -> Tally
     ensures answer { λ r. ⌜ r ≡ agreed 4 tally ⌝ }
 {
@@ -176,7 +176,7 @@ fn two_onto_two(tally: Tally) -> Tally
     )
 }
 
-// Case 11: the isomorphisms of null3 onto itself, in turn; the second is also the next one after bytes that are no map.
+// Compares case 11, the isomorphisms of null3 onto itself, in turn; the second is also the next one after bytes that are no map. Returns the tally.
 fn null3_onto_null3(tally: Tally) -> Tally
     ensures answer { λ r. ⌜ r ≡ agreed 6 tally ⌝ }
 {
@@ -207,7 +207,7 @@ fn null3_onto_null3(tally: Tally) -> Tally
     )
 }
 
-// Case 12: mat5 has the identity alone.
+// Compares case 12: the identity is the only isomorphism of mat5 onto itself. Returns the tally.
 fn mat5_onto_mat5(tally: Tally) -> Tally
     ensures answer { λ r. ⌜ r ≡ agreed 4 tally ⌝ }
 {

@@ -1,6 +1,6 @@
 // The thirteen worked cases (RULES 23.2) again, through the compiled functions. The contracts of `tables`, `elements` and `maps` say only how many answers
-// agree, which a tally without a comparison would meet too; `judged`, `same_powers` and `same_profile` say what is compared, and the run compares it with the
-// printed constants.
+// agree, and code that counts without comparing would meet them too; `judged`, `same_powers` and `same_profile` say what is compared, and the run compares it
+// with the printed constants.
 ghost use mathlib.Core.Path.{_≡_};
 ghost use Rattle.invariants.specs.Answers.{indexPeriodValue, indexPeriodSays, profileValue, profileSays};
 ghost use Rattle.cases.specs.InnerAnswering.{sameGivenPowers, sameGivenProfile};

@@ -5,7 +5,6 @@ ghost use Prim.Native.Nat.{_≤_};
 ghost use lib.Dec.{eqb};
 ghost use Rattle.semigroups.specs.Tables.{product, Element, Filled};
 ghost use Rattle.choosing.specs.InnerNext.{weight, Costs, rank, better, Open};
-use rows::Row;
 use rows::WORDS;
 
 // Returns how many products of c, on either side, differ from its square. Placing an element with many of them settles much of the rest.
@@ -34,7 +33,7 @@ fn differs(a: usize, b: usize) -> usize
     1
 }
 
-// Returns the cost of each of m elements, which is lower where the weight is larger.
+// Returns for each of m elements its cost, which is the lower the larger its weight is; zeros follow.
 pub fn costs(source: &[u8], m: usize) -> [u16; 120]
     requires { ⌜ Filled m (now source) ⌝ }
     ensures costs { λ r. ⌜ Costs m (product m (now (source .entry))) r ⌝ }
@@ -48,7 +47,7 @@ pub fn costs(source: &[u8], m: usize) -> [u16; 120]
     found
 }
 
-// Widens a number of 16 bits.
+// Returns the number of 16 bits as a `usize`.
 fn long(w: u16) -> usize
     ensures answer { λ r. ⌜ (r ≡ w) × (r ≤ 65535) ⌝ }
 {
@@ -67,7 +66,7 @@ fn rank<'a>(rows: &'a [u64; WORDS], costs: &'a [u16; 120], c: usize) -> usize
     k * long(costs[c - 1]) + 2
 }
 
-// An element and its rank; or 0, for no element.
+// An element and its rank. Element 0 stands for none; its rank is not looked at.
 struct Ranked {
     element: usize,
     rank: usize,

@@ -19,7 +19,7 @@ struct Reading {
     length: usize,
 }
 
-// Reads file k to `text`. Returns whether it could be opened and how many bytes were read; of a file whose reading fails, the bytes read before count.
+// Reads file k into `text`. Returns whether it could be opened and how many bytes were read; if reading fails, the bytes read until then are counted.
 fn read_file(k: usize, text: &mut [u8; FILE]) -> Reading
     requires room { ⌜ longestText < length (now text) ⌝ }
     ensures count { λ r. ⌜ Counts (r .length) (now (text .exit)) ⌝ }

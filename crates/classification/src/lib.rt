@@ -48,7 +48,8 @@ fn isomorphic(source: &[u8], m: usize, target: &[u8], n: usize) -> bool
     )
 }
 
-// Returns whether a file with these bytes is accepted and holds a table that is isomorphic to this one of order n. A table of another order is not compared.
+// Returns whether a file with these bytes is accepted and its table is isomorphic to that of order n with these cells. A table of another order is not
+// compared.
 fn holds_like(text: &[u8], n: usize, cells: &[u8]) -> bool
     requires { ⌜ Accepted n (now cells) ⌝ }
     ensures answer { λ r. ⌜ r ≡ classes.holdsLike (now (text .entry)) n (now (cells .entry)) ⌝ }
@@ -88,7 +89,7 @@ fn names_order(n: usize, i: usize, order: u8, number: u8) -> bool
     number as usize == i
 }
 
-// Returns the first class of tables of order n above file j, by its lowest file; one more than `count` where there is none.
+// Returns the first file above j that is the lowest of a class of tables of order n; or one more than `count` if there is none.
 fn next_class(orders: &[u8; 50], numbers: &[u8; 50], count: usize, n: usize, j: usize) -> usize
     requires { ⌜ (count ≤ 50) × (j ≤ count) ⌝ }
     ensures answer { λ r. ⌜ r ≡ progress.nextClass (notesFrom (now (orders .entry)) (now (numbers .entry)) count) n j ⌝ }
@@ -204,8 +205,8 @@ fn put_totals(
     at
 }
 
-// In the contracts of the following functions `answer` says which notes the classifier holds and what comes next; `orders` and `numbers` say what stands in its
-// arrays after the notes.
+// In the contracts from here to that of `step`, `answer` says which notes the classifier holds and what comes next; `orders` and `numbers` say what stands in
+// its arrays after the notes.
 
 // Returns the classifier with one more note; the next file is a new one.
 fn noted(classifier: Classifier, order: usize, number: usize) -> Classifier
@@ -227,7 +228,7 @@ fn noted(classifier: Classifier, order: usize, number: usize) -> Classifier
     }
 }
 
-// Returns the classifier that reads no more files.
+// Returns the classifier with the same notes, which reads no more files.
 fn stopped(classifier: Classifier) -> Classifier
     ensures answer { λ r. ⌜ ((cells : List ℕ) → progressOf r cells ≡ progress.progress (notesIn classifier) progress.over) ⌝ }
     ensures orders { λ r. ⌜ drop (r .count) (r .orders) ≡ drop (r .count) (classifier .orders) ⌝ }
@@ -265,7 +266,8 @@ fn onward(classifier: Classifier, n: usize, j: usize) -> Classifier
     noted(classifier, n, i)
 }
 
-// Loads a new file into `cells`. Returns the classifier that compares its table, or that has noted its refusal.
+// Loads a new file into `cells`. Returns the classifier after it: its table is compared next; or it has started a class of its own, since there is no class of
+// its order; or its refusal is noted.
 fn begun(classifier: Classifier, text: &[u8], cells: &mut [u8]) -> Classifier
     requires { ⌜ (classifier .count < 50) × (length (now cells) ≡ room) ⌝ }
     ensures answer { λ r. ⌜ progressOf r (now (cells .exit)) ≡ progress.begun (notesIn classifier) (now (text .entry)) (fileRefusal (now (text .entry)) room) ⌝ }

@@ -38,7 +38,7 @@ abbrev pub whereAccepted : Option Refusal → ℕ → ℕ
 whereAccepted none calls = calls
 whereAccepted (some r) calls = 0
 
--- How many calls compare both kinds of maps from one table to another.
+-- How many calls compare the searches for embeddings and for isomorphisms from one table to another.
 abbrev pub callsBetween : List ℕ → ℕ → List ℕ → ℕ → ℕ
 callsBetween source m target n =
     whereAccepted (tableRefusal n target) (walkCalls true source m target n (replicate 5 0) + walkCalls false source m target n (replicate 5 0))

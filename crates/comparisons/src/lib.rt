@@ -1,4 +1,4 @@
-// What is compared in the run of further cases: the answers of the library's searches with those of the second search. The comparisons are counted.
+// What the program `cases` compares: the library's answers about tables and its searches with those of the second search. The comparisons are counted.
 pub mod said;
 pub mod small;
 pub mod walk;

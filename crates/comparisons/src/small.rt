@@ -31,7 +31,7 @@ pub fn all_tables(n: usize) -> Tally
     tally
 }
 
-// Compares the searches for both kinds of maps from one table to another and returns the tally. A target that is not accepted is left out.
+// Compares the searches for embeddings and for isomorphisms from one table to another and returns the tally. A target that is not accepted is left out.
 fn maps_between(source: &[u8], m: usize, target: &[u8], n: usize, tally: Tally) -> Tally
     requires { ⌜ Accepted m (now source) ⌝ ∗ ⌜ (m ≤ 5) × (n ≤ 27) ⌝ }
     ensures answer { λ r. ⌜ r ≡ agreed (callsBetween (now (source .entry)) m (now (target .entry)) n) tally ⌝ }
@@ -43,7 +43,7 @@ fn maps_between(source: &[u8], m: usize, target: &[u8], n: usize, tally: Tally) 
     walk(true, source, m, target, n, [0; 5], embedded)
 }
 
-// Compares the searches for both kinds of maps from a table to every accepted table of order n. Returns the tally.
+// Compares the searches for embeddings and for isomorphisms from a table to every accepted table of order n. Returns the tally.
 fn maps_to(source: &[u8], m: usize, n: usize, tally: Tally) -> Tally
     requires { ⌜ Accepted m (now source) ⌝ ∗ ⌜ m ≤ 5 ⌝ ∗ ⌜ Element 3 n ⌝ }
     ensures answer { λ r. ⌜ r ≡ agreed (callsTo (now (source .entry)) m n (n ^ (n * n))) tally ⌝ }
@@ -60,7 +60,7 @@ fn maps_to(source: &[u8], m: usize, n: usize, tally: Tally) -> Tally
     tally
 }
 
-// Compares the searches for both kinds of maps from a table, if it is accepted, to every accepted table of order n. Returns the tally.
+// Compares the searches for embeddings and for isomorphisms from a table, if it is accepted, to every accepted table of order n. Returns the tally.
 fn maps_from(source: &[u8], m: usize, n: usize, tally: Tally) -> Tally
     requires { ⌜ m ≤ 5 ⌝ ∗ ⌜ Element 3 n ⌝ }
     ensures answer { λ r. ⌜ r ≡ agreed (whereAccepted (tableRefusal m (now (source .entry))) (callsTo (now (source .entry)) m n (n ^ (n * n)))) tally ⌝ }
@@ -71,7 +71,7 @@ fn maps_from(source: &[u8], m: usize, n: usize, tally: Tally) -> Tally
     maps_to(source, m, n, tally)
 }
 
-// Compares the searches for both kinds of maps from every accepted table of order m to every accepted table of order n. Returns the tally.
+// Compares the searches for embeddings and for isomorphisms from every accepted table of order m to every accepted table of order n. Returns the tally.
 pub fn all_maps(m: usize, n: usize) -> Tally
     requires { ⌜ Element 3 m ⌝ ∗ ⌜ Element 3 n ⌝ }
     ensures answer { λ r. ⌜ r ≡ agreed (callsFrom m n (m ^ (m * m))) empty ⌝ }

@@ -28,14 +28,14 @@ fn kind_of(isomorphisms: bool) -> Kind
     Kind::Embeddings
 }
 
-// What a call answers according to the second search, and the map buffer: the map, then zeros.
+// What a call answers according to the second search, and the array whose first m bytes are the map buffer, as the call leaves it.
 struct Outcome {
     number: usize,
     buffer: [u8; 5],
 }
 
-// Returns what a call answers according to the second search. Every list of elements is later than a list of zeros, so the first map is the next one after
-// zeros.
+// Returns what a call answers and leaves according to the second search. Every list of elements is later than a list of zeros, so the first map is the next one
+// after zeros.
 fn expected(
     isomorphisms: bool,
     next: bool,

@@ -28,11 +28,11 @@ askedAt constraints place y = set constraints place (merge (getD constraints pla
 abbrev pub imageProduct : Product → List ℕ → Product
 imageProduct t f a b = t (at f a) (at f b)
 
--- The pair a, b requires nothing of c but y: if its product by u is c, its product by v is y.
+-- Whether the pair a, b requires of c no value other than y: if its product by u is c, its product by v is y.
 abbrev pub asks : Product → Product → ℕ → ℕ → ℕ → ℕ → Bool
 asks u v c y a b = not (eqb (u a b) c) || eqb (v a b) y
 
--- Every pair of the first k elements requires nothing of c but y.
+-- Whether no pair of the first k elements requires of c a value other than y.
 unfoldable pub agreeOn : Product → Product → ℕ → ℕ → ℕ → Bool
 agreeOn u v k c y = all (λ a. all (λ b. asks u v c y a b) (elements k)) (elements k)
 

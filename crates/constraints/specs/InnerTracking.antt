@@ -27,8 +27,8 @@ pub record Trial (n : ℕ) (image used : List ℕ) (len x : ℕ) : Type 0 where
   pub element : Element n x
   pub uses : (y : ℕ) → y ≤ largestOrder → (y ≡ x → ⊥) → getD used y 0 ≡ cond (member y (take len image)) 1 0
 
--- The constraints hold what the pairs of the first k elements require, and what the first j of the pairs with element k + 1 require. This says what stands at
--- each place: 0 permits every element, an element permits itself alone, and 255 permits none.
+-- The constraints hold what the pairs of the first k elements require, and what the pairs of element k + 1 with each of the first j elements require. This says
+-- what stands at each place: 0 permits every element, an element permits itself alone, and 255 permits none.
 pub record Tracks (s t : Product) (f : List ℕ) (k j : ℕ) (forced owner : List ℕ) : Type 0 where
   pub long : length forced ≡ 121
   pub wide : length owner ≡ 121

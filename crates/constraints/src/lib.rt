@@ -1,6 +1,6 @@
 // The constraints by which the backtrack search of arXiv 1603.06204, section 3, tests a placing through the products of the new element alone: forced[c] is
 // the target element that the placed pairs require as the image of source element c, and owner[y] is the source element for which they reserve target element
-// y. Both are 0 where nothing is required, and 255, which no element has, where two values are. Place 0 stands for no element.
+// y. Both are 0 where nothing is required, and 255, which is no element, where two different values are. Place 0 stands for no element.
 ghost use mathlib.Core.Path.{_≡_};
 ghost use mathlib.Core.Bool.{true, false, _&&_};
 ghost use mathlib.Core.List.{[], _∷_, _++_};
@@ -69,7 +69,7 @@ fn note_pair(
     note(owner, z, c);
 }
 
-// Notes the pairs of the newest element; if none is placed, there are none.
+// Notes the pairs that the newest element makes with each element placed, itself included. If no element is placed, nothing changes.
 pub fn note_newest(
     source: &[u8],
     m: usize,
@@ -106,7 +106,7 @@ fn image_of(image: &[u8; ORDER], len: usize, x: usize, a: usize) -> usize
 }
 
 // Returns whether the pair a, b fits, where x is the image of the next element: if the product of the pair is placed, its image is the product of the images;
-// if it is not, that target element is unused. x may be placed already.
+// if it is not, that target element is unused. Whether `used` already marks x makes no difference.
 fn pair_fits(
     source: &[u8],
     m: usize,

@@ -1,4 +1,4 @@
--- Which counts the arrays hold that have a place for each element of a table. Assumes nothing.
+-- Which counts stand in the arrays that have a place for each element of a table. Assumes nothing.
 use mathlib.Core.Path.{_≡_}
 use Prim.Native.Nat.{ℕ}
 use Rattle.semigroups.specs.Tables.{Product}

@@ -21,7 +21,7 @@ fieldEnd t at = at + length (digits (drop at t))
 unfoldable pub commaFollows : List ℕ → ℕ → Bool
 commaFollows t at = eqb (getD t (fieldEnd t at) 0) 44
 
--- Where the next field begins: after the comma, otherwise after the line break. Where the text ends, no field begins there.
+-- Where the next field begins, if there is one: after the comma, otherwise after the line break.
 unfoldable pub nextField : List ℕ → ℕ → ℕ
 nextField t at = cond (commaFollows t at) (fieldEnd t at + 1) (fieldEnd t at + 2)
 

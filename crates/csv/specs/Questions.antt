@@ -34,7 +34,7 @@ inBreak t (suc p) = breakAt t p || breakAt t (suc p)
 unfoldable pub isAllowed : List ℕ → ℕ → Bool
 isAllowed t p = isDigit (getD t p 0) || (eqb (getD t p 0) 44 || inBreak t p)
 
--- The place of the first byte that is none of these, or none.
+-- The place of the first byte that is not allowed, if there is one.
 unfoldable pub firstOther : List ℕ → Option ℕ
 firstOther t = find (λ p. not (isAllowed t p)) (range 0 (length t))
 

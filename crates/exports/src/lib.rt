@@ -1,5 +1,6 @@
 // The library's entry points for programs in C and Rust: numbers and lent slices of any content. Each writes sixteen numbers to `answer`: the number of
-// the earliest failed question, or 0; the side that a refusal names, 1 for source or 2 for target, or 0; then the values of the answer, and zeros.
+// the earliest failed question, or 0; the side that a refusal names, 1 for source or 2 for target, or 0; then the values of the answer, and zeros. A refused
+// call changes no other byte. A search or a count of copies that is not refused leaves the marks of the candidates at the start of `scratch`.
 ghost use mathlib.Core.Path.{_≡_};
 ghost use lib.ListN.{length};
 ghost use Rattle.semigroups.specs.Tables.{product};
@@ -104,7 +105,7 @@ pub extern "C" fn tickdrizzle_first_embedding(
     *answer = search_words(search::first(Kind::Embeddings, source, m, target, n, map, scratch));
 }
 
-// Writes the earliest embedding that is later than the bytes of `map` over them. Value: 1 for found, 0 for none.
+// Replaces the bytes of `map` by the earliest embedding that is later than these bytes. Value: 1 for found, 0 for none.
 #[no_mangle]
 pub extern "C" fn tickdrizzle_next_embedding(
     source: &[u8],
@@ -136,7 +137,7 @@ pub extern "C" fn tickdrizzle_first_isomorphism(
     *answer = search_words(search::first(Kind::Isomorphisms, source, m, target, n, map, scratch));
 }
 
-// Writes the earliest isomorphism that is later than the bytes of `map` over them. Value: 1 for found, 0 for none.
+// Replaces the bytes of `map` by the earliest isomorphism that is later than these bytes. Value: 1 for found, 0 for none.
 #[no_mangle]
 pub extern "C" fn tickdrizzle_next_isomorphism(
     source: &[u8],
@@ -168,7 +169,7 @@ pub extern "C" fn tickdrizzle_first_reversed_isomorphism(
     *answer = search_words(search::first(Kind::Reversed, source, m, target, n, map, scratch));
 }
 
-// Writes the earliest reversed isomorphism that is later than the bytes of `map` over them. Value: 1 for found, 0 for none.
+// Replaces the bytes of `map` by the earliest reversed isomorphism that is later than these bytes. Value: 1 for found, 0 for none.
 #[no_mangle]
 pub extern "C" fn tickdrizzle_next_reversed_isomorphism(
     source: &[u8],
@@ -276,7 +277,7 @@ pub extern "C" fn tickdrizzle_first_embedding_among(
     *answer = search_words(search::first_among(source, m, target, n, pairs, map, scratch));
 }
 
-// Writes the earliest embedding that the pairs allow and that is later than the bytes of `map` over them. Value: 1 for found, 0 for none.
+// Replaces the bytes of `map` by the earliest embedding that the pairs allow and that is later than these bytes. Value: 1 for found, 0 for none.
 #[no_mangle]
 pub extern "C" fn tickdrizzle_next_embedding_among(
     source: &[u8],
@@ -378,8 +379,8 @@ pub extern "C" fn tickdrizzle_first_reversed_isomorphism_within(
 
 // ---- the fewest rest positions
 
-// Writes the landing positions of each element in turn to the start of `positions`, under the first embedding in the table of the least degree that holds an
-// embedding. Value: that degree, or 0 for none of 1 to 3.
+// Writes the landing positions of each element in turn to the start of `positions`, under the first embedding at the least degree that has one. Value: that
+// degree, or 0 if none of 1 to 3 has one.
 #[no_mangle]
 pub extern "C" fn tickdrizzle_least_degree(
     cells: &[u8],

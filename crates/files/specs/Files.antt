@@ -19,7 +19,7 @@ fileQuestions t room = loadQuestions t room ++ loadedQuestions t
 unfoldable pub fileRefusal : List ℕ → ℕ → Option Refusal
 fileRefusal t room = firstNo (fileQuestions t room)
 
--- The number of cells that has room for every table: those of the largest order.
+-- How many cells a buffer must have to hold every table: as many as a table of the largest order has.
 abbrev pub room : ℕ
 room = largestOrder * largestOrder
 

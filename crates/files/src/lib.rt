@@ -7,7 +7,7 @@ use tables::Numbered;
 use tables::Verdict;
 
 // Loads the table that `text` holds into `cells`, as `text::load` does; then asks questions 3 and 4 of it, as `tables::check` does. Returns the order, or the
-// earliest "no". A table that question 3 or 4 refuses has been loaded.
+// earliest "no". If question 3 or 4 fails, the cells have been written all the same.
 pub fn load_then_check(text: &[u8], cells: &mut [u8]) -> Numbered
     ensures answer { λ r. ⌜ numberedSays r ≡ fileAnswer (now (text .entry)) (now (cells .entry)) ⌝ }
     ensures cells { λ _. ⌜ now (cells .exit) ≡ cellsAfter (now (text .entry)) (now (cells .entry)) ⌝ }

@@ -28,7 +28,7 @@ fullRows = replicate 240 1152921504606846975
 abbrev pub blank : List ℕ → Partial
 blank rows = record { image = replicate 120 0; rows = rows; len = 0; ok = true }
 
--- The map with only those of n target elements in each of its first m rows that pass the test of that row.
+-- The map after each of its first m rows has kept only those of its elements from 1 to n that pass the test of that row.
 abbrev pub keptPartial : ℕ → ℕ → (ℕ → ℕ → Bool) → Partial → Partial
 keptPartial m n test p = record { image = p .image; rows = keptRows m n test (p .rows); len = p .len; ok = p .ok }
 
@@ -39,8 +39,8 @@ pub record Settled (s t : Product) (image : List ℕ) (len paired : ℕ) (rows :
   pub products : (i j : ℕ) → Element paired i → Element paired j → Only rows (s i j) (t (at image i) (at image j))
 
 -- What `ok` says of the rows that are left once x is placed for l and they are narrowed. It is set only if what is left passes `narrowed` over the old rows,
--- and each of the first m rows has one of n elements and room for the rows inside it. It is not set only if `narrowed` leaves none for some source element, or
--- some row has no room.
+-- and each of the first m rows has at least one of n elements and room for the rows inside it. It is left unset only if `narrowed` leaves no element for some
+-- source element, or some row has no room.
 pub record KeptWithRoom (m : ℕ) (s : Product) (n : ℕ) (t : Product) (l x : ℕ) (old : ℕ → ℕ → Bool) (p : Partial) : Type 0 where
   pub narrows : p .ok ≡ true → Narrows m s n t l x old (rowsIn p)
   pub kept : p .ok ≡ true → (c : ℕ) → Element m c → (y : ℕ) × Element n y × (rowsIn p c y ≡ true)

@@ -1,4 +1,4 @@
--- The products by which the elements that a list generates are found: those of an element with each one found before it. Assumes nothing.
+-- The products by which the elements that a list generates are found: those of an element with itself and with each one found before it. Assumes nothing.
 use mathlib.Core.List.{List, [], _∷_, flatMap}
 use Prim.Native.Nat.{ℕ, _+_}
 use lib.ListN.{take, getD}

@@ -23,7 +23,8 @@ use tables::limits::PLACES;
 
 // ---- what a list generates
 
-// Adds the products of the element found at `place` with itself and with each one before it, from both sides. Returns how many are found.
+// Adds to `found`, and marks in `marks`, the products of the element at `place` with itself and with each one before it, from both sides. Returns how many
+// elements are found in all.
 fn multiply(
     cells: &[u8],
     n: usize,

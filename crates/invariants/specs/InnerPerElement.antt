@@ -6,7 +6,7 @@ use Rattle.semigroups.specs.Invariants as marks
 use Rattle.invariants.specs.declared.IndexPeriodKeys.{IndexPeriodKeys}
 use Rattle.products.specs.InnerPerElement.{perElement}
 
--- The keys of every element that are compared: its index and its period. The idempotent power is not compared.
+-- The arrays hold what is compared of every element: its index and its period. The idempotent power is not compared.
 pub record AllIndexPeriodKeys (n : ℕ) (s : Product) (r : IndexPeriodKeys) : Type 0 where
   pub index : r .index ≡ perElement n (marks.index n s)
   pub period : r .period ≡ perElement n (marks.period n s)

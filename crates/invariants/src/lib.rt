@@ -45,6 +45,7 @@ pub fn check_element(cells: &[u8], n: usize, a: usize) -> ElementVerdict
 
 // ---- index, period and idempotent power
 
+// The index and the period of an element, and its idempotent power (RULES 4.4).
 pub struct IndexPeriod {
     pub index: usize,
     pub period: usize,
@@ -57,9 +58,10 @@ pub enum IndexPeriodAnswer {
     Refused(No),
 }
 
-// Returns the index, the period and the idempotent power of a. The powers of a are walked until one is met again; `met` holds the exponent at which each
-// element was met first, or 0, and `walk` holds power k at place k - 1. The walk has the powers with exponents below index + period, so the last multiple
-// of the period among these is the first that is no less than the index.
+// Returns the index and the period of a, and the power of a whose exponent is the first multiple of the period that is no less than the index; where the
+// table is associative, that is the idempotent power. The powers of a are walked until one is met again; `met` holds the exponent at which each element was
+// met first, or 0, and `walk` holds power k at place k - 1. The walk has the powers with exponents below index + period, so the last multiple of the period
+// among these is the one meant.
 fn index_period_of(cells: &[u8], n: usize, a: usize) -> IndexPeriod
     requires { ⌜ Filled n (now cells) ⌝ ∗ ⌜ Element n a ⌝ }
     ensures answer { λ r. ⌜ indexPeriodValue r ≡ settled n (product n (now (cells .entry))) a ⌝ }

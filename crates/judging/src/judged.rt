@@ -21,7 +21,7 @@ pub fn compared(cells: &[u8], n: usize, tally: Tally) -> Tally
     counted(tally, same_said(said, judge(cells, n)))
 }
 
-// Compares the answer to the four questions with what RULES 23.2 says of the table, and with that of the second search. Returns the tally.
+// Compares the answer to the four questions with `said`, and then with the answer of the second search. Returns the tally.
 pub fn judged(cells: &[u8], n: usize, said: Said, tally: Tally) -> Tally
     ensures answer { λ r. ⌜ r ≡ counted (counted tally (sameSaid (saidOf (tableRefusal n (now (cells .entry)))) said)) true ⌝ }
 {

@@ -1,4 +1,4 @@
--- What the functions that a search among given pairs calls once every question has passed return and leave. Assumes nothing.
+-- What a search among given pairs returns and leaves once every question has passed. Assumes nothing.
 use mathlib.Core.List.{List}
 use mathlib.Core.Option.{Option, none}
 use Prim.Native.Nat.{ℕ}

@@ -1,4 +1,4 @@
--- What the functions that a search calls once every question has passed return and leave, with a limit or without. No contract of an entry point cites this.
+-- What a search returns and leaves once every question has passed, with a limit or without. No contract of an entry point cites this.
 -- Assumes nothing.
 use mathlib.Core.Bool.{Bool, cond}
 use mathlib.Core.Option.{none, Option}
@@ -31,7 +31,7 @@ workOf kind ask m source n target =
     let searched = counted s (readBy kind t) (candidate kind m s n t) ask n m [] in
     cond (orderFits kind m n) searched (work none 0)
 
--- How many trials a search may take before the first one; without a limit they are not counted.
+-- How many trials a limit allows; 0 without a limit, since trials are not counted then.
 abbrev pub trialsIn : Limit → ℕ
 trialsIn Unlimited = 0
 trialsIn (Trials limit) = limit

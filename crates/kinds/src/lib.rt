@@ -35,7 +35,7 @@ pub enum Limit {
 
 // ---- over given marks
 
-// Returns how many trials are left of a limit before the first one, or 0 if there is no limit: trials are not counted then.
+// Returns how many trials a limit allows; 0 if there is no limit, since trials are not counted then.
 fn allowance(limit: Limit) -> u32
     ensures answer { λ r. ⌜ r ≡ trialsIn limit ⌝ }
 {
@@ -92,7 +92,7 @@ fn order_fits(onto: bool, m: usize, n: usize) -> bool
     m <= n
 }
 
-// Marks the candidates in scratch and searches for embeddings, or with `onto` for isomorphisms. Returns the outcome.
+// Marks the candidates in scratch, searches for embeddings, or with `onto` for isomorphisms, and writes the map to `map` if one is found. Returns the outcome.
 fn search_straight(
     onto: bool,
     next: bool,
@@ -117,7 +117,8 @@ fn search_straight(
     result
 }
 
-// Searches for reversed isomorphisms and returns the outcome. The target with rows and columns exchanged is written to `room`.
+// Marks the candidates in scratch, searches for reversed isomorphisms, and writes the map to `map` if one is found. Returns the outcome. The target with its
+// rows and columns exchanged is written to the start of `room`.
 fn search_turned(
     next: bool,
     limit: Limit,
@@ -140,8 +141,8 @@ fn search_turned(
     search_straight(true, next, limit, source, m, &room[..size], n, map, scratch)
 }
 
-// Searches for reversed isomorphisms and returns the outcome. Tables up to order 30, which have at most 900 cells, take a small array, because clearing the
-// large one would take longer than the search.
+// Does what `search_turned` does, with an array of its own as `room`. A target of order 30 or less, which has at most 900 cells, takes a small array: to clear
+// the large one would be a tenth of a call between tables of a few elements.
 fn search_reversed(
     next: bool,
     limit: Limit,
@@ -164,7 +165,8 @@ fn search_reversed(
     search_turned(next, limit, source, m, target, n, map, scratch, &mut all)
 }
 
-// Searches for maps of the kind and returns the outcome.
+// Marks the candidates of the kind in scratch, searches for the first map of the kind, or with `next` for the next one after the bytes of `map`, and writes it
+// to `map` if one is found. Returns the outcome.
 pub fn search_kind(
     kind: Kind,
     next: bool,
@@ -198,7 +200,7 @@ pub fn search_kind(
 }
 
 // Writes the first map of the kind between two accepted tables to `map`, or with `next` the next one after the bytes of `map`. Returns whether there is one.
-// It is for callers that have asked the questions.
+// Either way, scratch is left with the marks of the candidates of the kind. This is for callers that have asked the questions.
 pub fn find(
     kind: Kind,
     next: bool,
@@ -229,8 +231,8 @@ pub fn find(
 
 // ---- among given pairs
 
-// Searches the marks in scratch without a limit, as `find_marked` does. If `all` is not set, the pairs exclude candidates, and the elements that have one mark
-// left narrow the others before the search.
+// Searches the marks in scratch without a limit, as `find_marked` does, and returns the outcome. If `all` is false, the pairs exclude candidates; then the
+// elements that have one mark left narrow the others before the search.
 fn find_allowed(
     all: bool,
     next: bool,
@@ -252,6 +254,7 @@ fn find_allowed(
 }
 
 // Writes the first allowed embedding between two accepted tables to `map`, or with `next` the next one after the bytes of `map`. Returns whether there is one.
+// Either way, scratch is left with the marks of the candidates that the pairs allow.
 pub fn find_among(
     next: bool,
     source: &[u8],

@@ -23,7 +23,7 @@ pub record FoundProducts (s : Product) (l found marks : List ℕ) (count : ℕ) 
 
 -- ---- the choice
 
--- Of the elements with the property Free, x has the least weight, and is the smallest of these.
+-- Of the elements with the property Free, x has the least weight, and is the smallest that has this weight.
 pub record Rarest (n : ℕ) (weight : ℕ → ℕ) (Free : ℕ → Type 0) (x : ℕ) : Type 0 where
   pub element : Element n x
   pub free : Free x
@@ -33,7 +33,7 @@ pub record Rarest (n : ℕ) (weight : ℕ → ℕ) (Free : ℕ → Type 0) (x : 
 abbrev pub RarestOrNone : ℕ → (ℕ → ℕ) → (ℕ → Type 0) → ℕ → Type 0
 RarestOrNone n weight Free x = Rarest n weight Free x ⊎ ((x ≡ 0) × ((y : ℕ) → Element n y → Free y → ⊥))
 
--- The first `count` entries of the list are such generators, each the next one after those before it; zeros follow.
+-- Each of the first `count` entries of the list is the rarest element that is not a product of the entries before it; zeros follow.
 pub record RarestFirst (n : ℕ) (s : Product) (list : List ℕ) (count : ℕ) : Type 0 where
   pub entries : (k : ℕ) → k < count → Rarest n (frequency n s) (λ y. LeftProduct s (take k list) y → ⊥) (getD list k 0)
   pub zeros-after : (k : ℕ) → count ≤ k → getD list k 0 ≡ 0

@@ -1,5 +1,5 @@
 // Question 4 by Light's associativity test. Elements that generate the whole table are chosen, the rarest first; if few are enough, only the triples whose
-// middle is one of them are looked at. A "no" means that some triple does not associate, but not which is the first: `associative` in crate `tables` looks for
+// middle is one of them are looked at. A "no" says that some triple does not associate, but not which one is first: `associative` in crate `tables` looks for
 // that.
 ghost use mathlib.Core.Path.{_≡_};
 ghost use mathlib.Core.List.{map};
@@ -32,7 +32,7 @@ pub fn add(found: &mut [u8; ORDER], marks: &mut [u8; PLACES], count: usize, x: u
     count + 1
 }
 
-// Adds the products of the element found at `place` with each entry of the list from `from` on, as the right factor. Returns how many are found.
+// Adds to the elements found the products of the one at `place`, as the left factor, with each entry of the list from `from` on. Returns how many are found.
 fn multiply_right(
     cells: &[u8],
     n: usize,
@@ -58,8 +58,8 @@ fn multiply_right(
     known
 }
 
-// Adds the products, from left to right, that the last entry of the list makes possible: the entry itself, the products with an element found before as the
-// left factor and the entry as the right one, and those of the new elements with every entry. Returns how many are found.
+// Adds to the elements found what the last entry of the list makes possible among products from left to right: the entry itself; each element found before,
+// times the entry; and each new element, times every entry. Returns how many are found.
 fn reach(
     cells: &[u8],
     n: usize,
@@ -88,7 +88,7 @@ fn reach(
 
 // ---- the choice of generators
 
-// Returns the rarest element that has no mark, and of those the smallest; or 0 if all have one. The count of element a stands at place a - 1.
+// Returns the rarest element that has no mark, and of equally rare ones the smallest; or 0 if all have a mark. The count of element a stands at place a - 1.
 fn rarest(counts: &[u16; ORDER], marks: &[u8; PLACES], n: usize) -> usize
     requires { ⌜ n ≤ largestOrder ⌝ }
     ensures rarest { λ r. ⌜ RarestOrNone n (λ x. getD (now (counts .entry)) (x - 1) 0) (λ x. getD (now (marks .entry)) x 0 ≡ 0) r ⌝ }
@@ -196,7 +196,8 @@ fn associative_everywhere(cells: &[u8], n: usize) -> bool
     true
 }
 
-// Returns whether every triple associates whose middle is one of the generators chosen, or any element if these are too many. If so, the table is associative.
+// Returns whether every triple whose middle is one of the generators chosen associates; if too many would be needed, whether every triple associates. Either
+// way, a table is associative exactly if the answer is true.
 pub fn accept(cells: &[u8], n: usize) -> bool
     requires { ⌜ Filled n (now cells) ⌝ }
     ensures answer { λ r. ⌜ LightsAnswer n (product n (now (cells .entry))) r ⌝ }

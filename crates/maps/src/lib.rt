@@ -1,5 +1,5 @@
 // The map check: whether m bytes are an embedding of one table in another, or their earliest fault. Tables and bytes may have any content; a call is refused by
-// the first question that fails.
+// the first question that fails. `embeds` is the check without the questions; `write_images` writes a map that was found.
 use tables::Fault;
 use tables::PairVerdict;
 use tables::Place;
@@ -19,8 +19,9 @@ ghost use Rattle.maps.specs.Answers.{mapAnswerSays, pairOption};
 
 // What the map check answers.
 pub enum MapAnswer {
-    // One of questions 1 to 4 about a table fails, or question 5.
+    // One of questions 1 to 4 about a table fails.
     Refused(Side, Fault),
+    // Question 5 fails: the map buffer does not have exactly m bytes.
     MapLength,
     // The map is an embedding.
     Holds,
@@ -87,7 +88,7 @@ fn wrong_product(source: &[u8], m: usize, target: &[u8], n: usize, map: &[u8]) -
     Pair::Nothing
 }
 
-// Returns the earliest fault of m bytes, or that there is none: first an image outside the target, then equal images, then a wrong product.
+// Returns the earliest fault of `map`, or that it holds. An image outside the target is looked for first, then equal images, then a wrong product.
 fn examine(source: &[u8], m: usize, target: &[u8], n: usize, map: &[u8]) -> MapAnswer
     requires { ⌜ Filled m (now source) ⌝ ∗ ⌜ Filled n (now target) ⌝ ∗ ⌜ length (now map) ≡ m ⌝ }
     ensures answer { λ r. ⌜ mapAnswerSays r ≡ gives (checkMap m (product m (now (source .entry))) n (product n (now (target .entry))) (now (map .entry))) ⌝ }
@@ -106,7 +107,7 @@ fn examine(source: &[u8], m: usize, target: &[u8], n: usize, map: &[u8]) -> MapA
     }
 }
 
-// Returns whether m bytes are an embedding of one table in another. Both tables must be filled, and the map must have m bytes.
+// Returns whether `map` is an embedding of the source in the target. The cells must fill both tables, and the map must have m bytes.
 pub fn embeds(source: &[u8], m: usize, target: &[u8], n: usize, map: &[u8]) -> bool
     requires { ⌜ Filled m (now source) ⌝ ∗ ⌜ Filled n (now target) ⌝ ∗ ⌜ length (now map) ≡ m ⌝ }
     ensures answer { λ r. ⌜ r ≡ isEmbedding m (product m (now (source .entry))) n (product n (now (target .entry))) (now (map .entry)) ⌝ }
@@ -118,7 +119,7 @@ pub fn embeds(source: &[u8], m: usize, target: &[u8], n: usize, map: &[u8]) -> b
     false
 }
 
-// Answers whether a map is an embedding: the first question that fails, or the result of the check.
+// Answers the result of the map check, which is that the map holds or its earliest fault; or answers the first question that fails.
 pub fn check(source: &[u8], m: usize, target: &[u8], n: usize, map: &[u8]) -> MapAnswer
     ensures answer { λ r. ⌜ mapAnswerSays r ≡ mapCheck m (now (source .entry)) n (now (target .entry)) (now (map .entry)) ⌝ }
 {
@@ -132,7 +133,7 @@ pub fn check(source: &[u8], m: usize, target: &[u8], n: usize, map: &[u8]) -> Ma
     examine(source, m, target, n, map)
 }
 
-// Writes the images of the m elements to `map`.
+// Writes the first m entries of `image`, the images of the elements, to `map`.
 pub fn write_images(map: &mut [u8], image: &[u8; ORDER], m: usize)
     requires { ⌜ (length (now map) ≡ m) × (m ≤ largestOrder) × (length (now image) ≡ 120) ⌝ }
     ensures map { λ _. ⌜ now (map .exit) ≡ take m (now (image .entry)) ⌝ }

@@ -1,4 +1,4 @@
-// The marks of a search in the scratch buffer: those of the candidates of embeddings or isomorphisms, and those of the candidates that given pairs allow.
+// The marks of a search in the scratch buffer: those of the candidates for embeddings or isomorphisms, and those of the candidates that given pairs allow.
 ghost use mathlib.Core.Path.{_≡_};
 ghost use Prim.Native.Nat.{_≤_};
 ghost use lib.ListN.{length};
@@ -12,7 +12,7 @@ ghost use Rattle.semigroups.specs.Candidates.{candidate};
 ghost use Rattle.calls.specs.Allowed.{allowedCandidate};
 ghost use Rattle.marking.specs.InnerMasks.{maskedBytes, clearsNothing};
 
-// Marks the candidates of embeddings in scratch, or with `onto` those of isomorphisms.
+// Marks the candidates for embeddings in scratch, or with `onto` those for isomorphisms. Bytes after the marks are untouched.
 pub fn mark(onto: bool, source: &[u8], m: usize, target: &[u8], n: usize, scratch: &mut [u8])
     requires { ⌜ Accepted m (now source) × Accepted n (now target) ⌝ }
     requires { ⌜ scratchSize m n ≤ length (now scratch) ⌝ }
@@ -37,7 +37,7 @@ fn keep_pairs(pairs: &[u8], size: usize, scratch: &mut [u8])
     }
 }
 
-// Returns whether every bit of the first `size` bytes of scratch is set in the pairs too.
+// Returns whether every bit that is set in the first `size` bytes of scratch is also set in the pairs.
 fn allows_all(pairs: &[u8], size: usize, scratch: &[u8]) -> bool
     requires { ⌜ (size ≤ length (now pairs)) × (size ≤ length (now scratch)) ⌝ }
     ensures answer { λ r. ⌜ r ≡ clearsNothing size (now (pairs .entry)) (now (scratch .entry)) ⌝ }
@@ -53,7 +53,7 @@ fn allows_all(pairs: &[u8], size: usize, scratch: &[u8]) -> bool
     true
 }
 
-// Marks the candidates of embeddings that the pairs allow in scratch. Returns whether the pairs allow every candidate.
+// Marks in scratch the candidates for embeddings that the pairs allow. Returns whether the pairs allow every candidate.
 pub fn mark_among(
     source: &[u8],
     m: usize,

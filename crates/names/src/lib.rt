@@ -41,7 +41,7 @@ impl Value {
         }
     }
 
-    // Returns the value with one more byte, unless there are 41; the place does not change.
+    // Returns the value with one more byte, or as it is if it has 41 already. The place after the field does not change.
     fn with(self, b: u8) -> Self
         ensures value { λ r. ⌜ r ≡ extended self b ⌝ }
     {
@@ -162,7 +162,7 @@ fn read_field(text: &[u8], at: usize) -> Value
 
 // ---- names and numbers
 
-// Returns whether these bytes are the number k, at most 120, in decimal with no leading 0.
+// Returns whether k is at most 120 and these bytes are k in decimal, with no leading 0.
 fn is_number(bytes: &[u8], k: usize) -> bool
     ensures answer { λ r. ⌜ r ≡ isNumber k (now (bytes .entry)) ⌝ }
 {
@@ -222,7 +222,8 @@ fn is_name(bytes: &[u8]) -> bool
 
 // ---- loading
 
-// Whether the questions about the records or the names pass. If they do: how many names there are, and how many bytes they take in memory or as a text.
+// The answer to the questions about the records or the names: how many names there are, and how many bytes they have (`judge_records`) or how long their text
+// is (`judge_names`); or the first question that fails.
 enum Judged {
     Passed(usize, usize),
     Failed(No),
@@ -257,7 +258,7 @@ fn judge_records(text: &[u8]) -> Judged
     Judged::Passed(k - 1, total)
 }
 
-// Writes the names of the records to `names`, one after another, and their lengths to `lengths`.
+// Writes the names of the records, one after another, to the start of `names`, and their lengths to the start of `lengths`.
 fn write_names(text: &[u8], names: &mut [u8], lengths: &mut [u8])
     requires form { ⌜ IsSheet (now text) ⌝ }
     requires fits { ⌜ ((p : IsSheet (now text)) → Fits (sheetRows (p .sheet)) (length (now names)) (length (now lengths))) ⌝ }
@@ -359,7 +360,7 @@ fn name_length(name: &[u8]) -> usize
     total
 }
 
-// Writes a name with each quote mark doubled. Returns the place after it.
+// Writes a name at `start`, with each quote mark doubled. Returns the place after it.
 fn put_doubled(text: &mut [u8], start: usize, name: &[u8]) -> usize
     requires { ⌜ start + length (doubled (now name)) ≤ length (now text) ⌝ }
     ensures answer { λ r. ⌜ r ≡ start + length (doubled (now (name .entry))) ⌝ }
@@ -386,7 +387,7 @@ fn put_doubled(text: &mut [u8], start: usize, name: &[u8]) -> usize
     at
 }
 
-// Writes a name, between quote marks where it needs them. Returns the place after it.
+// Writes a name at `start`, between quote marks if it needs them. Returns the place after it.
 fn put_name(text: &mut [u8], start: usize, name: &[u8]) -> usize
     requires { ⌜ start + length (nameText (now name)) ≤ length (now text) ⌝ }
     ensures answer { λ r. ⌜ r ≡ start + length (nameText (now (name .entry))) ⌝ }

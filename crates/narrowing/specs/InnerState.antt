@@ -24,7 +24,7 @@ use Rattle.fitting.specs.InnerPartial.{placedList, rowsIn, fullRows, Settled}
 unfoldable pub startRows : ℕ → Product → ℕ → Product → (ℕ → ℕ → Bool) → List ℕ
 startRows m s n t candidate = let rows = keptRows m n candidate fullRows in cond (eqb m n) (keptRows n n (sameColour n s t) rows) rows
 
--- What a call must return.
+-- What the search must find from a partial map: the earliest map asked for that begins with the list placed and rises along the relation, or none.
 abbrev pub Due : Product → ℕ → Product → ℕ → List ℕ → List ℕ → (ℕ → ℕ → Bool) → Bool → Partial → Option (List ℕ)
 Due s m t n scratch after relation tight p = earliestRising m s n t (marked n scratch) (bounded tight after) relation (m - p .len) (placedList p)
 
@@ -36,7 +36,7 @@ pub record PlacedImages (n : ℕ) (image : List ℕ) (len : ℕ) : Type 0 where
   pub images : Images n image len
 
 -- What holds whenever the search goes on from a partial map. The images placed rise along the relation, and the rows of the elements that it leads to from a
--- placed one are above the image of that one.
+-- placed one hold only elements above the image of that one.
 pub record Reached (s : Product) (m : ℕ) (t : Product) (n : ℕ) (scratch after : List ℕ) (relation : ℕ → ℕ → Bool) (tight : Bool) (p : Partial) : Type 0 where
   pub placing : PlacedImages n (p .image) (p .len)
   pub within : p .len ≤ m

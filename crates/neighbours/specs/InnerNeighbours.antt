@@ -30,6 +30,6 @@ noMore few many = all (λ k. leb (at few k) (at many k)) (elements 64)
 unfoldable pub enough : ℕ → Product → List ℕ → ℕ → Bool
 enough n t few y = all (λ k. leb (at few k) (neighbours n t y (k - 1))) (elements 64)
 
--- Whether y, of n elements, has at least as many neighbours of each pattern as c has of m.
+-- Whether y has at least as many neighbours of each pattern among the n elements of its table as c has among the m of its own.
 unfoldable pub hasAsMany : ℕ → Product → ℕ → Product → ℕ → ℕ → Bool
 hasAsMany m s n t c y = all (λ k. leb (neighbours m s c (k - 1)) (neighbours n t y (k - 1))) (elements 64)

@@ -52,7 +52,7 @@ fn has_enough(target: &[u8], n: usize, few: &[u8; 64], row: Row, y: usize) -> bo
     no_more(few, &many)
 }
 
-// Returns the word of those `count` elements from `from` on that are in the row and have at least as many neighbours of each pattern as `few` says.
+// Returns the word of those of the `count` elements from `from` on that are in the row and have at least as many neighbours of each pattern as `few` says.
 fn enough_word(target: &[u8], n: usize, few: &[u8; 64], row: Row, from: usize, count: usize) -> u64
     requires { ⌜ Filled n (now target) ⌝ }
     requires { ⌜ (1 ≤ from) × (from ≤ 61) × (count ≤ 60) × (1 ≤ count → from + count ≤ n + 1) ⌝ }
@@ -69,7 +69,7 @@ fn enough_word(target: &[u8], n: usize, few: &[u8; 64], row: Row, from: usize, c
     w
 }
 
-// Returns the row with only those of n elements that have at least as many neighbours of each pattern as `few` says.
+// Returns the row with only those of its elements from 1 to n that have at least as many neighbours of each pattern as `few` says.
 fn enough_row(target: &[u8], n: usize, few: &[u8; 64], row: Row) -> Row
     requires { ⌜ Filled n (now target) ⌝ }
     ensures answer { λ r. ⌜ r ≡ packedRow n (λ y. inRow row y && enough n (product n (now (target .entry))) (now (few .entry)) y) ⌝ }
@@ -81,8 +81,8 @@ fn enough_row(target: &[u8], n: usize, few: &[u8; 64], row: Row) -> Row
     }
 }
 
-// Takes out of each of the first m rows the elements above n, and those that have fewer neighbours of some pattern than the element whose row it is. No
-// embedding is lost.
+// Takes out of each of the first m rows the elements above n, and those that have fewer neighbours of some pattern than the element whose row it is; the rows
+// after these do not change. No embedding is lost.
 pub fn keep_neighbours(source: &[u8], m: usize, target: &[u8], n: usize, rows: &mut [u64; WORDS])
     requires { ⌜ Filled m (now source) × Filled n (now target) ⌝ }
     ensures rows { λ _. ⌜ now (rows .exit) ≡ keptRows m n (hasAsMany m (product m (now (source .entry))) n (product n (now (target .entry)))) (now (rows .entry)) ⌝ }

@@ -1,4 +1,4 @@
--- The whole output of the program, from the bytes of its two files (RULES 21). A file that can't be opened counts as empty.
+-- The whole output of the program, from the bytes of its two files (RULES 21). A file that cannot be opened counts as empty.
 -- Assumes nothing.
 use mathlib.Core.List.{List, [], _∷_}
 use mathlib.Core.Option.{Option, none, some}

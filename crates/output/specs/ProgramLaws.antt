@@ -5,6 +5,6 @@ use Prim.Native.Nat.{ℕ}
 use Rattle.files.specs.FilesLaws.{firstBytes}
 use Rattle.output.specs.Program.{recueOutput}
 
--- Only one byte more than a text may have is read of each file: no later byte makes a difference (RULES 21.2).
+-- Of each file no more is read than one byte beyond the longest text: no later byte makes a difference (RULES 21.2).
 abbrev pub FirstBytesDecide : Type 0
 FirstBytesDecide = (source target : List ℕ) → recueOutput (firstBytes source) (firstBytes target) ≡ recueOutput source target

@@ -63,7 +63,7 @@ fn put_pairs(out: &mut [u8], start: usize, map: &[u8]) -> usize
     at
 }
 
-// Writes the records of a map that was found, into a table of order n, to the start of `out`. Returns their length.
+// Writes the records of a map that was found, whose target has order n, to the start of `out`. Returns their length.
 fn put_found(out: &mut [u8], n: usize, map: &[u8]) -> usize
     requires small { ⌜ (length (now map) ≤ largestOrder) × (n ≤ largestOrder) ⌝ }
     requires room { ⌜ longestOutput ≤ length (now out) ⌝ }

@@ -18,7 +18,7 @@ use tables::Place;
 use tables::Verdict;
 use tables::limits::PLACES;
 
-// Writes the marked elements in rising order.
+// Writes the marked elements, in rising order, to the start of `elements`.
 fn write_elements(marks: &[u8; PLACES], n: usize, elements: &mut [u8])
     requires { ⌜ n ≤ largestOrder ⌝ ∗ ⌜ length (markedElements n (now marks)) ≤ length (now elements) ⌝ }
     ensures elements { λ r. ⌜ now (elements .exit) ≡ overwritten (markedElements n (now (marks .entry))) (now (elements .entry)) ⌝ }
@@ -34,7 +34,7 @@ fn write_elements(marks: &[u8; PLACES], n: usize, elements: &mut [u8])
     }
 }
 
-// Returns the new numbers of the first k elements: place x holds that of x where x is one of them, else 0.
+// Returns the new numbers of the first k entries of `elements`: place x holds the new number of x if x is one of them, else 0.
 fn numbers_of(elements: &[u8], k: usize) -> [u8; PLACES]
     requires { ⌜ k ≤ length (now elements) ⌝ ∗ ⌜ Inside largestOrder (take k (now elements)) ⌝ ∗ ⌜ NoRepeats (take k (now elements)) ⌝ }
     ensures answer { λ r. ⌜ r ≡ numbering (take k (now (elements .entry))) ⌝ }
@@ -49,7 +49,7 @@ fn numbers_of(elements: &[u8], k: usize) -> [u8; PLACES]
     numbers
 }
 
-// Writes the table of the first k elements, renumbered, row after row.
+// Writes the table of the first k entries of `elements`, renumbered 1 to k, row after row, to the start of `part`.
 pub fn write_part(cells: &[u8], n: usize, elements: &[u8], k: usize, part: &mut [u8])
     requires { ⌜ Filled n (now cells) ⌝ ∗ ⌜ k ≤ length (now elements) ⌝ ∗ ⌜ ClosedPart n (product n (now cells)) (take k (now elements)) ⌝ ∗ ⌜ k * k ≤ length (now part) ⌝ }
     ensures part { λ r. ⌜ now (part .exit) ≡ overwritten (partCells (product n (now (cells .entry))) (take k (now (elements .entry)))) (now (part .entry)) ⌝ }
@@ -71,8 +71,8 @@ pub fn write_part(cells: &[u8], n: usize, elements: &[u8], k: usize, part: &mut 
     }
 }
 
-// Writes the elements that the chosen ones generate, in rising order, into `elements` and their table, renumbered, into `part`. Answers the order of that
-// table, or the earliest question that fails.
+// Writes the elements that the chosen ones generate, in rising order, to the start of `elements` and their table, renumbered, to the start of `part`, and
+// answers the order of that table; or answers the earliest question that fails, and writes nothing.
 pub fn subsemigroup(
     cells: &[u8],
     n: usize,

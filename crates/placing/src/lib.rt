@@ -56,8 +56,8 @@ impl Partial {
         p
     }
 
-    // Tests the newest element: returns whether the list placed passes, given that it passes without that element, and the map as it was. The constraints are
-    // those of the list without that element.
+    // Tests the newest element. Returns whether the list placed passes, and the map as it was. The list must pass without that element, and the constraints are
+    // those of the list without it.
     fn test(
         self,
         source: &[u8],
@@ -92,8 +92,8 @@ impl Partial {
         Tested { ok, partial: self }
     }
 
-    // Returns whether the list placed passes with x as the image of the next element, and the map with it: placed and tested. The constraints are those of the
-    // list placed.
+    // Places x as the image of the next element and tests it. Returns whether the list with x passes, and the map with x placed. The constraints are those of
+    // the list without x.
     pub fn tried(
         self,
         source: &[u8],

@@ -11,7 +11,7 @@ use Rattle.semigroups.specs.Tables.{Product}
 unfoldable pub numbered : ℕ → ℕ → ℕ → List ℕ
 numbered m n k = getD (lists m n) k []
 
--- Whether the two elements, if they are different, have different images, and whether the image of their product is the product of their images.
+-- Whether the image of the product of the two elements is the product of their images and, if the two differ, their images differ too.
 unfoldable pub keeps : Product → Product → List ℕ → List ℕ → Bool
 keeps s t f l =
     let products = eqb (at f (s (at l 1) (at l 2))) (t (at f (at l 1)) (at f (at l 2))) in

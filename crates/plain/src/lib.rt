@@ -40,7 +40,7 @@ pub fn number_of_lists(m: usize, n: usize) -> usize
     total
 }
 
-// Writes list number k, counted from 0, of all lists of this length with entries from 1 to n.
+// Fills `list` with list number k, counted from 0, of all lists of its length with entries from 1 to n.
 fn write_list(list: &mut [u8], n: usize, k: usize)
     requires { ⌜ Element 120 n ⌝ }
     requires { ⌜ k < n ^ length (now list) ⌝ }
@@ -92,7 +92,7 @@ pub struct Said {
     pub third: usize,
 }
 
-// Returns the answer of a question that fails with at most one value.
+// Returns the answer with this number, which is 0 if no question fails, and at most one value.
 pub fn failed(number: usize, value: usize) -> Said
     ensures answer { λ r. ⌜ r ≡ record { number = number; first = value; second = 0; third = 0 } ⌝ }
 {
@@ -135,7 +135,7 @@ fn associates(cells: &[u8], n: usize, triple: &[u8; 3]) -> bool
     product(cells, n, ij, k) == product(cells, n, i, jk)
 }
 
-// Asks question 4 of a table: goes through every triple in list order, and returns the first that fails.
+// Asks question 4 of a table: goes through the triples in list order, and returns 4 with the first that fails, or 0 if none does.
 fn judge_triples(cells: &[u8], n: usize) -> Said
     requires { ⌜ Filled n (now cells) ⌝ }
     ensures answer { λ r. ⌜ r ≡ saidOf (Option·map (λ l. no 4 l) (badTriple n (product n (now (cells .entry))))) ⌝ }
@@ -158,7 +158,7 @@ fn judge_triples(cells: &[u8], n: usize) -> Said
     failed(0, 0)
 }
 
-// Asks the four questions about a table, and returns the first that fails.
+// Asks the four questions about a table, and returns the first that fails, with its values, or 0 if none does.
 pub fn judge(cells: &[u8], n: usize) -> Said
     ensures answer { λ r. ⌜ r ≡ saidOf (tableRefusal n (now (cells .entry))) ⌝ }
 {
@@ -188,7 +188,7 @@ fn image(map: &[u8], i: usize) -> usize
     map[i - 1] as usize
 }
 
-// Returns whether the two elements, if they are different, have different images, and whether the image of their product is the product of their images.
+// Returns whether the image of the product of the two elements is the product of their images and, if the two differ, their images differ too.
 fn keeps(source: &[u8], m: usize, target: &[u8], n: usize, map: &[u8], pair: &[u8; 2]) -> bool
     requires { ⌜ Filled m (now source) ⌝ ∗ ⌜ Filled n (now target) ⌝ ∗ ⌜ IsList m n (now map) ⌝ ∗ ⌜ IsList 2 m (now pair) ⌝ }
     ensures answer { λ r. ⌜ r ≡ keeps (product m (now (source .entry))) (product n (now (target .entry))) (now (map .entry)) (now (pair .entry)) ⌝ }
@@ -220,7 +220,7 @@ fn is_embedding(source: &[u8], m: usize, target: &[u8], n: usize, map: &[u8]) ->
     true
 }
 
-// Returns whether a list is a map of the kind asked for: an isomorphism, or an embedding.
+// Returns whether a list of m elements of the target is an embedding, or with `isomorphisms` an isomorphism.
 fn is_map(isomorphisms: bool, source: &[u8], m: usize, target: &[u8], n: usize, map: &[u8]) -> bool
     requires { ⌜ Filled m (now source) ⌝ ∗ ⌜ Filled n (now target) ⌝ ∗ ⌜ IsList m n (now map) ⌝ }
     ensures answer { λ r. ⌜ r ≡ isMap (plainKind isomorphisms) m (product m (now (source .entry))) n (product n (now (target .entry))) (now (map .entry)) ⌝ }

@@ -12,6 +12,6 @@ use Rattle.planning.specs.Degrees.{leastFit, leastDegree, fitPositions, 
 unfoldable pub degreeSays : ℕ → List ℕ → ℕ → Answer (Option ℕ)
 degreeSays m cells size = givenUnless (degreeRefusal m cells size) (leastDegree m (product m cells))
 
--- The position buffer after the call: it begins with the landing positions; after "none of these" no byte has changed; later bytes are untouched.
+-- The position buffer after the call: it begins with the landing positions, and later bytes are untouched; "none of these" and a refusal change no byte.
 unfoldable pub positionsAfter : ℕ → List ℕ → List ℕ → List ℕ
 positionsAfter m cells before = writtenUnless (degreeRefusal m cells (length before)) (fitPositions m (leastFit m (product m cells))) before

@@ -1,4 +1,4 @@
--- What the functions that are called once the questions have passed leave in the image buffer. Assumes nothing.
+-- What is left in the image buffer once the questions have passed. Assumes nothing.
 use mathlib.Core.List.{List}
 use mathlib.Core.Option.{Option, Option·map}
 use Prim.Native.Nat.{ℕ}

@@ -36,7 +36,7 @@ fn landing(degree: usize, k: usize, x: usize) -> usize
     rest % degree + 1
 }
 
-// Writes the landing positions of the image of each of m elements in turn.
+// Writes to the start of `positions`, for each of m elements in turn, the landing positions of its image; later bytes are untouched.
 fn write_positions(image: &[u8], m: usize, degree: usize, positions: &mut [u8])
     requires { ⌜ m ≤ largestOrder ⌝ ∗ ⌜ Element 3 degree ⌝ ∗ ⌜ IsList m (transformationOrder degree) (now image) ⌝ ∗ ⌜ m * 3 ≤ length (now positions) ⌝ }
     ensures positions { λ _. ⌜ now (positions .exit) ≡ overwritten (landings m degree (now (image .entry))) (now (positions .entry)) ⌝ }
@@ -93,7 +93,7 @@ pub enum DegreeAnswer {
 }
 
 // Tries the degrees from 1 upward. At the first that fits it writes the first embedding to `image` and its positions to `positions`, and returns the degree;
-// if none fits, no byte changes.
+// if none fits, it returns `Nothing`, and no byte changes.
 fn place(cells: &[u8], m: usize, image: &mut [u8], positions: &mut [u8]) -> DegreeAnswer
     requires { ⌜ Accepted m (now cells) ⌝ ∗ ⌜ m ≤ 27 ⌝ ∗ ⌜ length (now image) ≡ m ⌝ ∗ ⌜ m * 3 ≤ length (now positions) ⌝ }
     ensures answer { λ r. ⌜ degreeAnswerSays r ≡ gives (leastDegree m (product m (now (cells .entry)))) ⌝ }

@@ -72,7 +72,7 @@ pub fn frequencies(cells: &[u8], n: usize) -> [u16; ORDER]
 
 // ---- rows and columns exchanged
 
-// Writes the table with rows and columns exchanged to `turned`.
+// Writes the table with its rows and columns exchanged to the start of `turned`; later bytes are untouched.
 pub fn turn(cells: &[u8], n: usize, turned: &mut [u8])
     requires { ⌜ Filled n (now cells) ⌝ ∗ ⌜ n * n ≤ length (now turned) ⌝ }
     ensures turned { λ _. ⌜ now (turned .exit) ≡ overwritten (turnedCells n (now (cells .entry))) (now (turned .entry)) ⌝ }

@@ -12,11 +12,11 @@ pub const CELLS: usize = ORDER * ORDER;
 // The number of bytes that the marks of two tables of the largest order take, at one bit for each pair.
 pub const SCRATCH: usize = CELLS / 8;
 
-// The bytes of the longest text of a table: 120 lines of 120 fields of three digits, each with a comma or CR after it, and an LF.
+// The number of bytes of the longest text of a table: 120 lines, each of 120 fields of three digits with a comma or CR after each field, and an LF.
 pub const TEXT: usize = 57720;
 
 // One byte more than the longest text: enough to see that a file is too long. Later bytes do not matter (`first-bytes-decide`).
 pub const FILE: usize = TEXT + 1;
 
-// The longest output of the program `recue`: its first record, and one for each of 120 elements.
+// A number of bytes that is enough for every output of the program `recue`: 15 for its first record, and 9 for each of 120 elements.
 pub const OUTPUT: usize = 1095;

@@ -14,7 +14,7 @@ use Rattle.files.specs.Files.{fileRefusal, room}
 
 -- ---- the files that are read
 
--- A folder: for each number the bytes of the file with that number, or none if it can't be opened.
+-- A folder: for each number the bytes of the file with that number, or none if it cannot be opened.
 abbrev pub Folder : Type 0
 Folder = ℕ → Option (List ℕ)
 
@@ -22,12 +22,12 @@ Folder = ℕ → Option (List ℕ)
 abbrev pub mostFiles : ℕ
 mostFiles = 50
 
--- A file followed by the later ones; if it can't be opened, no file is read.
+-- A file followed by the later ones; if it cannot be opened, no file is read.
 abbrev pub opened : Option (List ℕ) → List (List ℕ) → List (List ℕ)
 opened none later = []
 opened (some t) later = t ∷ later
 
--- The files from number k on, at most d of them, until one can't be opened.
+-- The files from number k on, at most d of them, until one cannot be opened.
 unfoldable pub filesFrom : Folder → ℕ → ℕ → List (List ℕ)
 filesFrom folder k zero = []
 filesFrom folder k (suc d) = let later = filesFrom folder (suc k) d in opened (folder k) later

@@ -42,7 +42,7 @@ abbrev pub openedText : Bool → List ℕ → Option (List ℕ)
 openedText true text = some text
 openedText false text = none
 
--- The buffer of cells after a step: a new file is loaded into it.
+-- The buffer of cells after a step: a new file is loaded into it; any other step changes no byte.
 abbrev pub cellsThen : Task → Bool → List ℕ → List ℕ → List ℕ
 cellsThen Read true text cells = cellsAfter text cells
 cellsThen Read false text cells = cells

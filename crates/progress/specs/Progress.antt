@@ -14,7 +14,7 @@ use Rattle.files.specs.Files.{fileRefusal, room}
 use Rattle.progress.specs.Classes.{Folder, mostFiles, holdsLike, Note, refusedBy, inClass}
 use Rattle.progress.specs.Output.{note}
 
--- Whether a file, by its note, is the lowest of a class of tables of order n, and is file i.
+-- Whether file i, with this note, is the lowest file of a class of tables of order n.
 abbrev pub namesOrder : ℕ → ℕ → Note → Bool
 namesOrder n i (refusedBy q) = false
 namesOrder n i (inClass m l) = eqb m n && eqb l i
@@ -49,7 +49,7 @@ wantedIn notes over = 0
 abbrev pub wanted : Progress → ℕ
 wanted s = wantedIn (s .notes) (s .phase)
 
--- The first class of tables of order n above file j, by its lowest file; if there is none, the number of the new file.
+-- The first file above j that is the lowest of a class of tables of order n; if there is none, the number of the new file.
 unfoldable pub nextClass : List Note → ℕ → ℕ → ℕ
 nextClass notes n j = least (length notes) (λ i. ltb j i && namesOrder n i (note notes i))
 
@@ -71,7 +71,7 @@ abbrev pub compared : List Note → ℕ → List ℕ → ℕ → Bool → Progre
 compared notes n cells j true = noted notes (inClass n j)
 compared notes n cells j false = onward notes n cells j
 
--- One step: the program gets the bytes of the file that it asked for, or none if it can't be opened. A file that was opened before and can't be opened again
+-- One step: the program gets the bytes of the file that it asked for, or none if it cannot be opened. A file that was opened before and cannot be opened again
 -- counts as isomorphic to no table.
 abbrev pub stepIn : List Note → Phase → Option (List ℕ) → Progress
 stepIn notes reading none = progress notes over

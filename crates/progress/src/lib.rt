@@ -1,5 +1,5 @@
 // What was noted of each file that the program `classes` has read, and which file is wanted next: `start` has no notes, and `wanted` returns the number of the
-// file that is to be read. Its definitions are those of the whole program, from the folder to what is printed.
+// file that is to be read. The definitions of this crate are those of the whole program, from the folder to what is printed.
 ghost use mathlib.Core.Path.{_≡_};
 ghost use mathlib.Core.List.{List};
 ghost use Prim.Native.Nat.{ℕ};
@@ -7,15 +7,16 @@ ghost use lib.ListN.{replicate};
 ghost use Rattle.progress.specs.Progress as progress;
 ghost use Rattle.progress.specs.Held.{progressOf, fileName};
 
-// What is done with the next file that is read: it is a new file; or it is file j, to be compared with the new file's table, which has order n; or no more
-// files are read.
+// What comes next. `Read`: a new file is read. `Compare(n, j)`: file j is read again, to be compared with the new file's table, which has order n. `Stop`: no
+// more files are read.
 pub enum Task {
     Read,
     Compare(usize, usize),
     Stop,
 }
 
-// What was noted of each file in turn, and what comes next. Order 0 stands for a refused file.
+// What was noted of the first `count` files, and what comes next. For file k, place k - 1 of `orders` holds its order, and of `numbers` the lowest file of its
+// class; for a refused file they hold 0 and the number of the question.
 pub struct Classifier {
     pub count: usize,
     pub orders: [u8; 50],
@@ -23,7 +24,7 @@ pub struct Classifier {
     pub task: Task,
 }
 
-// Returns the name of file k, made from its last two digits.
+// Returns the name of file k, such as `01.csv`, made from the last two digits of k.
 pub fn file_name(k: usize) -> [u8; 6]
     ensures name { λ r. ⌜ r ≡ fileName k ⌝ }
 {

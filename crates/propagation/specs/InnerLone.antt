@@ -65,9 +65,9 @@ pub data PropagatedBy (m : ℕ) (s : Product) (n : ℕ) (t : Product) (rows : Li
       → PropagatedBy m s n t rows (set used (l - 1) 1) newRows
 
 -- What the answer of narrowing by each row that holds one element alone says of the rows that it leaves. Where no row held one of n elements alone, the answer
--- is "yes" and no row changes. Otherwise it is "yes" only if each of the first m rows has one of n elements; and "no" only if some row has at most one element,
--- and placing that one leaves none for some source element. The rows are narrowed by the rows that hold one element alone, one after another: with "yes" until
--- each was used, with "no" until one would leave a row without an element.
+-- is "yes" and no row changes. Otherwise it is "yes" only if each of the first m rows has at least one of n elements; and "no" only if some row has at most one
+-- element, and placing that one leaves no element for some source element. The rows are narrowed by the rows that hold one element alone, one after another:
+-- with "yes" until each has been used, with "no" until one would leave a row without an element.
 pub record KeptOrEmptiedByAll (m : ℕ) (s : Product) (n : ℕ) (t : Product) (rows : List ℕ) (ok : Bool) (newRows : List ℕ) : Type 0 where
   pub kept : ok ≡ true → (l x : ℕ) → Element m l → Element n x → rowOf rows l ≡ singleRow x → (c : ℕ) → Element m c → (y : ℕ) × Element n y × (has newRows c y ≡ true)
   pub emptied : ok ≡ false → (l : ℕ) × (x : ℕ) × Element m l × Element n x × Only newRows l x × KeptOrEmptied m s n t l x false (has newRows)

@@ -55,14 +55,14 @@ pub data MultipliedBefore (s t : Product) (image : List ℕ) (l : ℕ) (rows : L
 abbrev pub Narrows : ℕ → Product → ℕ → Product → ℕ → ℕ → (ℕ → ℕ → Bool) → (ℕ → ℕ → Bool) → Type 0
 Narrows m s n t l x old new = (c y : ℕ) → Element m c → Element n y → new c y ≡ true → narrowed s t old l x c y ≡ true
 
--- What the answer of a narrowing by x for l says of the rows that it leaves: "yes" only if each of the first m rows has one of n elements, "no" only if
--- `narrowed` leaves none for some source element.
+-- What the answer of a narrowing by x for l says of the rows that are left: "yes" only if each of the first m rows has at least one of n elements, "no" only if
+-- `narrowed` leaves no element for some source element.
 pub record KeptOrEmptied (m : ℕ) (s : Product) (n : ℕ) (t : Product) (l x : ℕ) (ok : Bool) (rows : ℕ → ℕ → Bool) : Type 0 where
   pub kept : ok ≡ true → (c : ℕ) → Element m c → (y : ℕ) × Element n y × (rows c y ≡ true)
   pub emptied : ok ≡ false → (c : ℕ) × Element m c × ((y : ℕ) → Element n y → narrowed s t rows l x c y ≡ false)
 
--- The rows are those that placing x for l leaves of each source element before c in turn: its row keeps the elements that pass `narrowed` over the rows as they
--- are then, and there is one.
+-- The rows after those of the source elements before c have been narrowed, one after another, by placing x for l: each keeps its elements that pass `narrowed`
+-- over the rows as they are at that time, and at least one passes.
 pub data NarrowedBefore (s : Product) (n : ℕ) (t : Product) (l x : ℕ) (rows : List ℕ) : ℕ → List ℕ → Type 0 where
   begun : NarrowedBefore s n t l x rows 1 rows
   further : (c : ℕ) (mid : List ℕ) (row : Row) → NarrowedBefore s n t l x rows c mid → row ≡ packedRow n (narrowed s t (has mid) l x c) → isEmpty row ≡ false

@@ -37,7 +37,8 @@ pub enum Questions {
     Failed(SearchFault),
 }
 
-// Asks the questions about the two tables and about the lengths of the two buffers. Returns the first that fails.
+// Asks the questions about the two tables, then those about the map buffer, of length `images`, and about the scratch buffer, of length `marks`. Returns the
+// first that fails, or that all passed.
 pub fn ask(
     source: &[u8],
     m: usize,
@@ -61,7 +62,7 @@ pub fn ask(
     Questions::Passed
 }
 
-// Asks the questions of a search, then the one about the length of the pairs. Returns the first that fails.
+// Asks the questions of a search, then the one about the pairs buffer, of length `room`. Returns the first that fails, or that all passed.
 pub fn ask_among(
     source: &[u8],
     m: usize,

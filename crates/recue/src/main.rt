@@ -1,4 +1,4 @@
-// Reads source.csv and target.csv from the folder that it is run in, and prints the first embedding of the one table in the other, or that there is none, or
+// Reads source.csv and target.csv from the folder that it is run in, and prints the first embedding of the first table in the second, or that there is none, or
 // why a file is refused. Crate `output` proves what is printed, from the bytes of the files; this file only reads the files and writes the text.
 ghost use Prim.Native.Nat.{_<_};
 ghost use lib.ListN.{length};
@@ -8,8 +8,8 @@ use libc::STDOUT_FILENO;
 use tables::limits::FILE;
 use tables::limits::OUTPUT;
 
-// Reads a file to `text` and returns how many bytes were read. A file that can't be opened counts as empty; of a file whose reading fails, the bytes read
-// before count.
+// Reads a file into `text` and returns how many bytes were read. A file that cannot be opened counts as empty; if reading fails, the bytes read until then are
+// counted.
 fn read_file(name: &[u8], text: &mut [u8; FILE]) -> usize
     requires room { ⌜ longestText < length (now text) ⌝ }
     ensures count { λ r. ⌜ Counts r (now (text .exit)) ⌝ }

@@ -32,7 +32,8 @@ fn by_first_places(cells: &[u8], n: usize) -> [u8; ORDER]
     found
 }
 
-// Writes to `renamed` the table in which each element has the number of its place in the list that `by_first_places` returns. The two tables are isomorphic.
+// Writes to `renamed` the table in which each element has the number of its place in the list that `by_first_places` returns; later bytes are untouched. The
+// two tables are isomorphic.
 pub fn rename(cells: &[u8], n: usize, renamed: &mut [u8])
     requires { ⌜ Filled n (now cells) ⌝ ∗ ⌜ n * n ≤ length (now renamed) ⌝ }
     ensures renamed { λ _. ⌜ now (renamed .exit) ≡ overwritten (renamedCells n (now (cells .entry))) (now (renamed .entry)) ⌝ }

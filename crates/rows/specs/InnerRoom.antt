@@ -29,6 +29,6 @@ module _ (rows : List ℕ) where
   unfoldable pub roomy : ℕ → Bool
   roomy m = all (hasRoom m) (elements m)
 
-  -- Whether each of those of m rows that have fewer than two elements has room for the rows inside it.
+  -- Whether each of the m rows with fewer than two elements has room for the rows inside it.
   unfoldable pub smallRoomy : ℕ → Bool
   smallRoomy m = all (λ c. let row = rowOf rows c in leb 2 (ones (row .lo) + ones (row .hi)) || hasRoom m c) (elements m)

@@ -1,5 +1,5 @@
--- Rows of bits: for each source element the target elements that are left for it. Target elements 1 to 60 are the bits of one word, from its lowest,
--- and 61 to 120 those of another. All rows are one list of words, the 120 low ones first. Assumes nothing.
+-- Rows of bits: for each source element the target elements that are left for it. Target elements 1 to 60 are the bits of one word, from the lowest
+-- on, and 61 to 120 those of another. All rows are one list of words, the 120 low ones first. Assumes nothing.
 use mathlib.Core.Path.{_≡_}
 use mathlib.Core.Bool.{Bool, _&&_, cond}
 use mathlib.Core.List.{List}
@@ -32,7 +32,7 @@ rowOf rows c = record { lo = at rows c; hi = at rows (120 + c) }
 unfoldable pub has : List ℕ → ℕ → ℕ → Bool
 has rows c y = inRow (rowOf rows c) y
 
--- The word of the k target elements from `from` on: bit j is set where from + j passes.
+-- The word of the k target elements from `from` on: bit j is set if from + j passes the test.
 unfoldable pub word : (ℕ → Bool) → ℕ → ℕ → ℕ
 word p from zero = 0
 word p from (suc k) = word p from k + cond (p (from + k)) (2 ^ k) 0
@@ -41,11 +41,11 @@ word p from (suc k) = word p from k + cond (p (from + k)) (2 ^ k) 0
 unfoldable pub packedRow : ℕ → (ℕ → Bool) → Row
 packedRow n p = record { lo = word p 1 (min n 60); hi = word p 61 (n - 60) }
 
--- The list, with entry i masked by one more word.
+-- The list of words, with entry i masked by the word w.
 unfoldable pub maskedWord : List ℕ → ℕ → ℕ → List ℕ
 maskedWord words i w = set words (i - 1) (bitAnd (at words i) w)
 
--- The rows, with row c masked by one more row.
+-- The rows, with row c masked by the given row.
 unfoldable pub masked : List ℕ → ℕ → Row → List ℕ
 masked rows c row = maskedWord (maskedWord rows c (row .lo)) (120 + c) (row .hi)
 
@@ -83,7 +83,7 @@ Forced c v rows newRows = newRows ≡ masked rows c (singleRow v)
 unfoldable pub upperRow : Row → ℕ → Row
 upperRow row x = cond (leb x 60) (record { lo = row .lo / 2 ^ x * 2 ^ x; hi = row .hi }) (record { lo = 0; hi = row .hi / 2 ^ (x - 60) * 2 ^ (x - 60) })
 
--- The row with only those of its elements that are below x, such bits counted in the same way. If x is above 120, nothing is taken out.
+-- The row with only those of its elements that are below x; bits that stand for no element count as in `upperRow`. If x is above 120, nothing is taken out.
 unfoldable pub underRow : Row → ℕ → Row
 underRow row x =
     cond (leb x 60) (record { lo = row .lo % 2 ^ (x - 1); hi = 0 })
@@ -102,10 +102,10 @@ unfoldable pub stepwise : (ℕ → List ℕ → List ℕ) → ℕ → List ℕ �
 stepwise step zero rows = rows
 stepwise step (suc c) rows = step (suc c) (stepwise step c rows)
 
--- The rows, with only those of n elements in each of the first m rows that pass the test of that row.
+-- The rows after each of the first m rows has kept only those of its elements from 1 to n that pass the test of that row.
 abbrev pub keptRows : ℕ → ℕ → (ℕ → ℕ → Bool) → List ℕ → List ℕ
 keptRows m n p = stepwise (λ c rows. masked rows c (packedRow n (p c))) m
 
--- The rows after those of the first m rows that are chosen are cut in turn.
+-- The rows after each chosen one of the first m rows has been cut, one after another.
 abbrev pub cutRows : ℕ → (ℕ → Bool) → (List ℕ → ℕ → List ℕ) → List ℕ → List ℕ
 cutRows m chosen cut = stepwise (λ c rows. cond (chosen c) (cut rows c) rows) m

@@ -24,7 +24,7 @@ stateOf Cr = automaton.cr
 stateOf Line = automaton.line
 stateOf Dead = automaton.dead
 
--- The place of a text's first fault, or none.
+-- The offending place of a text, or none.
 abbrev pub formPlace : Form → Option ℕ
 formPlace Sheet = none
 formPlace (Offends k) = some k

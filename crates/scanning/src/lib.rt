@@ -1,4 +1,4 @@
-// Question 40: whether a text is one or more records of two fields, quoted or not, byte by byte. The definitions are in the crate `sheets`.
+// Question 40, asked byte by byte: is a text one or more records of two fields, quoted or not? The definitions are in the crate `sheets`.
 ghost use mathlib.Core.Path.{_≡_};
 ghost use mathlib.Core.Bool.{cond};
 ghost use mathlib.Core.Option.{none, some};
@@ -51,7 +51,7 @@ enum Part {
 }
 
 // Where the reading stands: at the start of a field; after a byte of a field with no quote marks; between quote marks; after a quote mark that closes the
-// field or is the first of two; after CR; after CR LF; nowhere, because no sheet begins so.
+// field or is the first of two; after CR; after CR LF; nowhere, because no sheet begins with what was read.
 enum State {
     Opening(Part),
     Bare(Part),
@@ -62,7 +62,7 @@ enum State {
     Dead,
 }
 
-// Returns the state after a byte that follows a field: only a comma or CR may.
+// Returns the state after a byte that follows a field: only a comma may follow the number, and only CR the name.
 fn after_field(part: Part, b: u8) -> State
     ensures answer { λ r. ⌜ stateOf r ≡ afterField (partOf part) b ⌝ }
 {
@@ -190,7 +190,7 @@ fn is_dead(state: State) -> bool
     }
 }
 
-// Whether the text is one or more records of two fields, or the place of its first fault.
+// The answer to question 40: that the text is one or more records of two fields, or the offending place.
 pub enum Form {
     Sheet,
     Offends(usize),

@@ -14,8 +14,8 @@ use Rattle.calls.specs.Among.{callAmong}
 abbrev pub leftInLeft : List ℕ → Lent
 leftInLeft bytes = lend (left .cells) 2 (left .cells) 2 bytes (0 ∷ 7 ∷ [])
 
--- Calls with pairs that allow only the exchange; with other unused bits and a later byte; after the exchange; with pairs that allow nothing; and with no byte
--- of pairs.
+-- Calls with pairs that allow only the exchange; with other unused bits and a later byte; after the exchange; with pairs that leave element 2 no image;
+-- and with no byte of pairs.
 abbrev pub AmongExamples : Type 0
 AmongExamples =
     (callAmong first (6 ∷ []) (leftInLeft (0 ∷ 0 ∷ [])) ≡ called (gives found) (2 ∷ 1 ∷ []) (6 ∷ 7 ∷ []))

@@ -36,7 +36,7 @@ WantedAmong pairs l ask f = Wanted embeddings l ask f × Allows (l .m) (l .n) pa
 abbrev pub AllMarked : List ℕ → Lent → Type 0
 AllMarked pairs l = (i j : ℕ) → Element (l .m) i → Element (l .n) j → marked (l .n) pairs i j ≡ true
 
--- Only the pairs of f are marked.
+-- The pairs of f are marked, and no others.
 abbrev pub OnlyOf : List ℕ → List ℕ → Lent → Type 0
 OnlyOf f pairs l = (i j : ℕ) → Element (l .m) i → Element (l .n) j → (marked (l .n) pairs i j ≡ true) ↔ (at f i ≡ j)
 

@@ -27,7 +27,7 @@ LimitsExamples =
     × (limitedCall embeddings 0 twoInSwap .says ≡ gives (ended nothing 0)) × (limitedCall isomorphisms 0 swapInTwo .says ≡ gives (ended nothing 0))
 
 -- A call with left as the source and right as the target.
-abbrev pub leftOntoRight : Lent
+abbrev leftOntoRight : Lent
 leftOntoRight = lend (left .cells) 2 (right .cells) 2 (0 ∷ 0 ∷ []) (replicate 4 0)
 
 -- From left onto right a reversed map is found after two trials, and there is no candidate for a plain one; between tables of different orders no reversed

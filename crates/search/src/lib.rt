@@ -1,7 +1,7 @@
 // Searches for maps between two tables: the first map of a kind, the next one after the bytes of the map buffer, and the first one within a limit of
 // trials; and the first and the next embedding among given pairs. The caller lends the cells, the orders and both buffers, with any content. A refused call
-// changes no lent byte, and a call that finds no map changes no byte of the map buffer. A reversed isomorphism is searched for as an isomorphism onto the
-// target with rows and columns exchanged.
+// changes no lent byte, and a call that finds no map changes no byte of the map buffer. Every call that is not refused leaves the marks of the candidates at
+// the start of scratch. A reversed isomorphism is searched for as an isomorphism onto the target with rows and columns exchanged.
 //
 // Pairs are bits, laid out as those of the scratch buffer are: bit (i - 1) * n + (j - 1) is set where i may go to j. An embedding is allowed if the bit of
 // each element with its image is set. No byte of the pairs changes.
@@ -72,7 +72,7 @@ pub fn first(
     search(kind, false, source, m, target, n, map, scratch)
 }
 
-// Writes the earliest map of the kind that is later than the bytes of `map` over them. Answers found, none, or the earliest question that fails.
+// Replaces the bytes of `map` by the earliest map of the kind that is later than these bytes. Answers found, none, or the earliest question that fails.
 pub fn next(
     kind: Kind,
     source: &[u8],
@@ -167,7 +167,7 @@ pub fn first_among(
     search_among(false, source, m, target, n, pairs, map, scratch)
 }
 
-// Writes the earliest embedding that the pairs allow and that is later than the bytes of `map` over them. Answers found, none, or the earliest question
+// Replaces the bytes of `map` by the earliest embedding that the pairs allow and that is later than these bytes. Answers found, none, or the earliest question
 // that fails.
 pub fn next_among(
     source: &[u8],

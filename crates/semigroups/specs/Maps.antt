@@ -51,7 +51,7 @@ pub data Ask : Type 0 where
   first : Ask
   next : List ℕ → Ask
 
--- Whether a list is late enough for what is asked: for the first entry any list is, for the next one a list later than the bytes.
+-- Whether a list is late enough for what is asked: for the first entry every list is; for the next one it must be later than the bytes.
 abbrev pub beyond : Ask → List ℕ → Bool
 beyond first f = true
 beyond (next b) f = earlier b f

@@ -15,11 +15,11 @@ use Rattle.sheets.specs.Questions.{loadNamesRefusal, saveNamesRefusal}
 unfoldable pub loadNamesAnswer : {t : List ℕ} → Reading t → List ℕ → List ℕ → Answer ℕ
 loadNamesAnswer w names lengths = givenUnless (loadNamesRefusal w (length names) (length lengths)) (length (namesIn w))
 
--- The buffer of names after the call: the names, one after another; a refusal changes no byte.
+-- The buffer of names after the call: the names, one after another; later bytes are untouched, and a refusal changes no byte.
 unfoldable pub namesAfter : {t : List ℕ} → Reading t → List ℕ → List ℕ → List ℕ
 namesAfter w names lengths = writtenUnless (loadNamesRefusal w (length names) (length lengths)) (flatten (namesIn w)) names
 
--- The buffer of lengths after the call: the length of each name; a refusal changes no byte.
+-- The buffer of lengths after the call: the length of each name; later bytes are untouched, and a refusal changes no byte.
 unfoldable pub lengthsAfter : {t : List ℕ} → Reading t → List ℕ → List ℕ → List ℕ
 lengthsAfter w names lengths = writtenUnless (loadNamesRefusal w (length names) (length lengths)) (map length (namesIn w)) lengths
 
@@ -29,6 +29,6 @@ lengthsAfter w names lengths = writtenUnless (loadNamesRefusal w (length names) 
 unfoldable pub saveNamesAnswer : List ℕ → List ℕ → List ℕ → Answer ℕ
 saveNamesAnswer names lengths text = givenUnless (saveNamesRefusal names lengths (length text)) (length (namesText (namesAt names lengths)))
 
--- The text buffer after the call: the sheet of the names; a refusal changes no byte.
+-- The text buffer after the call: the sheet of the names; later bytes are untouched, and a refusal changes no byte.
 unfoldable pub sheetAfter : List ℕ → List ℕ → List ℕ → List ℕ
 sheetAfter names lengths text = writtenUnless (saveNamesRefusal names lengths (length text)) (namesText (namesAt names lengths)) text

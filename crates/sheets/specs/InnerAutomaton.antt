@@ -12,7 +12,7 @@ pub data Column : Type 0 where
   name-part : Column
 
 -- Where the reading stands: at the start of a field; after a byte of a field with no quote marks; between quote marks; after a quote mark that closes the
--- field or is the first of two; after CR; after CR LF; nowhere, because no sheet begins so.
+-- field or is the first of two; after CR; after CR LF; nowhere, because no sheet begins with what was read.
 pub data State : Type 0 where
   opening : Column → State
   bare : Column → State
@@ -77,11 +77,11 @@ run q (b ∷ t) = run (stateAfter q b) t
 unfoldable pub accepts : List ℕ → Bool
 accepts t = accepting (run (opening number-part) t)
 
--- How many bytes are read before the reading stands nowhere; all of them, if it never does.
+-- How many bytes are read before the one after which the reading stands nowhere; all of them, if there is no such byte.
 unfoldable pub placeFrom : State → List ℕ → ℕ
 placeFrom q [] = 0
 placeFrom q (b ∷ t) = let r = suc (placeFrom (stateAfter q b) t) in cond (isDead (stateAfter q b)) 0 r
 
--- How many bytes of the text are read before no sheet begins so.
+-- The length of the longest beginning of the text that some sheet starts with.
 unfoldable pub place : List ℕ → ℕ
 place t = placeFrom (opening number-part) t

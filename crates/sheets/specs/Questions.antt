@@ -18,7 +18,7 @@ placeUnless passes k = cond passes none (some (k ∷ []))
 
 -- ---- loading
 
--- The questions about the record at place k: 42, is its number k, and at most 120? 41, is its name a name?
+-- The questions about the record at place k: 42, is its number k, and at most 120? 41, is its name 1 to 40 allowed bytes?
 abbrev pub rowQuestions : ℕ → Row → List Question
 rowQuestions k r = seek 42 (placeUnless (isNumber k (r .number)) k) ∷ seek 41 (placeUnless (isName (r .name)) k) ∷ []
 
@@ -39,7 +39,8 @@ loadNamesRefusal w nameRoom lengthRoom = firstNo (loadNamesQuestions w nameRoom 
 
 -- ---- saving
 
--- The questions about the names from place k on, in these bytes with these lengths: 41, do the bytes of the name lie in the buffer, and is it a name?
+-- The questions about the names from place k on, in these bytes with these lengths: 41, do the bytes of the name lie in the buffer, and are they 1 to 40
+-- allowed bytes?
 unfoldable pub namesQuestions : ℕ → List ℕ → List ℕ → List Question
 namesQuestions k bytes [] = []
 namesQuestions k bytes (n ∷ ns) = seek 41 (placeUnless (leb n (length bytes) && isName (take n bytes)) k) ∷ namesQuestions (suc k) (drop n bytes) ns

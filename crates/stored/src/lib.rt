@@ -2,7 +2,8 @@
 ghost use mathlib.Core.Path.{_≡_};
 ghost use Rattle.semigroups.specs.Transformations.{transformationCells};
 
-// The table of degree 3. Before each row a comment gives the number and the images of its s.
+// The table of degree 3. The comment before each row gives the number and the images of s; the comment "then the identity" marks the cell in column 6, where t
+// is the identity, so that it holds s again.
 const PRODUCTS: [u8; 729] = [
     // 1: 1 1 1
     1,

@@ -1,4 +1,4 @@
--- What some of the questions about a text say: the number of the question (RULES 7.2), and what it carries. Assumes nothing.
+-- What an answer to some of the questions about a text means: the number of the question that fails (RULES 7.2), and what it carries. Assumes nothing.
 use mathlib.Core.Option.{Option, none, some}
 use Rattle.semigroups.specs.Questions.{Refusal}
 use Rattle.answers.specs.Answers.{noRefusal}

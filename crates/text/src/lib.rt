@@ -19,13 +19,13 @@ use answers::Numbered;
 use products::limits::ORDER;
 use products::limits::TEXT;
 
-// Whether some of the questions about a text pass, or the first that fails.
+// The answer to some of the questions about a text: that they pass, or the first that fails.
 enum Judged {
     Passed,
     Failed(No),
 }
 
-// Asks question 21: is every byte a digit, a comma, or part of a CR LF pair? Returns whether it passes, or the first byte that fails.
+// Asks question 21: is every byte a digit, a comma, or part of a CR LF pair? Returns that it passes, or the place of the first other byte.
 fn judge_bytes(text: &[u8]) -> Judged
     ensures answer { λ r. ⌜ judgedRefusal r ≡ bytesRefusal (now (text .entry)) ⌝ }
 {
@@ -112,7 +112,8 @@ fn judge_field(text: &[u8], at: usize, end: usize) -> Judged
     Judged::Passed
 }
 
-// A field of the text: the place after it, the place where the next field begins, whether a comma stands between the two, and whether there is a next one.
+// A field of the text: the place after it; the place after the comma or line break that follows it, where the next field begins if there is one; whether a
+// comma follows it; and whether there is a next field.
 struct Field {
     end: usize,
     next: usize,
@@ -120,7 +121,7 @@ struct Field {
     more: bool,
 }
 
-// Returns the field that begins at `at`. Where the text ends, it is empty.
+// Returns the field that begins at `at`. At the end of the text the field is empty.
 fn next_field(text: &[u8], at: usize) -> Field
     requires { ⌜ at ≤ length (now text) ⌝ }
     ensures answer { λ r. ⌜ r ≡ fieldAt (now (text .entry)) at ⌝ }

@@ -9,7 +9,7 @@ ghost use Rattle.transformations.specs.InnerQuestions.{roomRefusal};
 use tables::No;
 use tables::Numbered;
 
-// Writes a table of order n to the start of `cells` and answers its order; or answers question 9 if there is no room for it.
+// Writes a table of order n to the start of `cells` and returns its order; or returns the refusal by question 9, and writes nothing, if there is no room.
 fn put(n: usize, table: &[u8], cells: &mut [u8]) -> Numbered
     ensures answer { λ r. ⌜ numberedSays r ≡ givenUnless (roomRefusal (length (now (table .entry))) (length (now (cells .entry)))) n ⌝ }
     ensures cells { λ r. ⌜ now (cells .exit) ≡ writtenUnless (roomRefusal (length (now (table .entry))) (length (now (cells .entry)))) (now (table .entry)) (now (cells .entry)) ⌝ }
@@ -25,7 +25,8 @@ fn put(n: usize, table: &[u8], cells: &mut [u8]) -> Numbered
     Numbered::Number(n)
 }
 
-// Writes the table of all transformations of `degree` points to the start of `cells` and answers its order; or answers question 8 or 9.
+// Writes the table of all transformations of `degree` points to the start of `cells` and answers its order; or, if question 8 or 9 fails, answers which, and
+// writes nothing.
 pub fn fill(degree: usize, cells: &mut [u8]) -> Numbered
     ensures answer { λ r. ⌜ numberedSays r ≡ transformationSays degree (length (now (cells .entry))) ⌝ }
     ensures cells { λ r. ⌜ now (cells .exit) ≡ transformationCellsAfter degree (now (cells .entry)) ⌝ }

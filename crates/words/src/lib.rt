@@ -103,7 +103,7 @@ pub fn map_words(said: MapAnswer) -> [u64; 16]
     }
 }
 
-// Returns the sixteen numbers of an answer of the shorter check.
+// Returns the sixteen numbers of an answer of the check with generators.
 pub fn generators_words(verdict: GeneratorsVerdict) -> [u64; 16]
     ensures answer { λ r. ⌜ r ≡ questionWords (generatorsVerdictRefusal verdict) ⌝ }
 {

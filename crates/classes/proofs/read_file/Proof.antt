@@ -1,4 +1,4 @@
--- `read_file` meets its contract: where the file can't be opened nothing is read. Assumes nothing.
+-- `read_file` meets its contract: where the file cannot be opened nothing is read. Assumes nothing.
 use mathlib.Core.Path.{sym}
 use mathlib.Core.Bool.{false≢true}
 use borrow.Author.Needs.{needs}
