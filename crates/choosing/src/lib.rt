@@ -54,16 +54,18 @@ fn long(w: u16) -> usize
     w as usize
 }
 
-// Returns the rank of c: its row's size if that is less than 2, so that rows of one element come first; else its row's size times its cost, and 2 more.
+// Returns the rank of c: its row's size times its cost, and 15,000 more if the row has several elements. So a row of one element comes before those of several,
+// unless every product of its element is the square of that element: then it settles next to nothing, and its rank is 30,000.
 fn rank<'a>(rows: &'a [u64; WORDS], costs: &'a [u16; 120], c: usize) -> usize
     requires { ⌜ Element 120 c ⌝ }
     ensures answer { λ r. ⌜ r ≡ rank (now (rows .entry)) (now (costs .entry)) c ⌝ }
 {
     let k = rows::size(rows::row_of(rows, c));
+    let r = k * long(costs[c - 1]);
     if k < 2 {
-        return k;
+        return r;
     }
-    k * long(costs[c - 1]) + 2
+    r + 15000
 }
 
 // An element and its rank. Element 0 stands for none; its rank is not looked at.

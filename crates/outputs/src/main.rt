@@ -19,12 +19,20 @@ fn show(source: &[u8], target: &[u8]) -> usize
     written
 }
 
-// Prints the output for this text as the source, then as the target of the accepted source `1`. Returns the length of the second.
-fn refused(text: &[u8]) -> usize
-    ensures answer { λ r. ⌜ r ≡ length (recueOutput (49 ∷ 13 ∷ 10 ∷ []) (now (text .entry))) ⌝ }
+// How long two outputs are.
+struct Lengths {
+    first: usize,
+    second: usize,
+}
+
+// Prints the output for this text as the source, then as the target of the accepted source `1`. Returns the length of each.
+fn refused(text: &[u8]) -> Lengths
+    ensures first { λ r. ⌜ r .first ≡ length (recueOutput (now (text .entry)) (49 ∷ 13 ∷ 10 ∷ [])) ⌝ }
+    ensures second { λ r. ⌜ r .second ≡ length (recueOutput (49 ∷ 13 ∷ 10 ∷ []) (now (text .entry))) ⌝ }
 {
-    show(text, b"1\r\n");
-    show(b"1\r\n", text)
+    let first = show(text, b"1\r\n");
+    let second = show(b"1\r\n", text);
+    Lengths { first, second }
 }
 
 fn main() {

@@ -15,14 +15,15 @@ use Rattle.semigroups.specs.Lists.{elements, at, count}
 use Rattle.semigroups.specs.Tables.{Product, Element}
 use Rattle.semigroups.specs.TablesLaws.{Closed}
 use Rattle.semigroups.specs.InnerMaps.{Embedding, Among}
-use Rattle.semigroups.proofs.Booleans.{equal-or-not, at-most-or-above}
+use Rattle.semigroups.proofs.Booleans.{either, unfalse, equal-or-not, at-most-or-above}
 use Rattle.semigroups.proofs.Lists.{mem-elements}
 use Rattle.semigroups.proofs.Sums.{sum-same, sum-add, count-element}
 use Rattle.rows.specs.declared.Row.{Row}
 use Rattle.rows.specs.InnerRows.{inRow, rowOf, has, singleRow, RowInside, Only, Shrinks, Forced}
+use Rattle.rows.specs.InnerRoom.{smallRoomy}
 use Rattle.rows.proofs.Rows.{in-single, single-size, inside-single, inside-self, single-unique, shrinks-has, shrinks-none, shrinks-more, only-still}
-use Rattle.propagation.specs.InnerRows.{Narrows}
-use Rattle.propagation.specs.InnerLone.{KeepsOrFails, Lone, NextLone, KeptOrEmptiedFrom, PropagatedBy, begun, further, KeptOrEmptiedByAll}
+use Rattle.propagation.specs.InnerRows.{Narrows, KeptOrEmptied}
+use Rattle.propagation.specs.InnerLone.{KeepsOrFails, Lone, NextLone, NarrowedWithRoom, KeptOrEmptiedFrom, PropagatedBy, begun, further, KeptOrEmptiedByAll}
 use Rattle.propagation.proofs.Narrowed.{narrowed-wider, forced-kept}
 
 -- ---- an embedding among the rows
@@ -39,6 +40,21 @@ module _ (m : ℕ) (s : Product) (n : ℕ) (t : Product) (f : List ℕ) (F : Emb
       → Among m (has rows) f → Among m (has newRows) f
   product-kept closed rows newRows a y b z ha hb ea eb =
       forced-kept m s n t f F lm ln rows newRows (s a b) (t y z) (closed a b ha hb) (F .homomorphism .keeps-product a b ha hb ∙ ap₂ t ea eb)
+
+-- ---- rows narrowed if they have room
+
+module _ (m : ℕ) (s : Product) (n : ℕ) (t : Product) (l x : ℕ) (rows newRows : List ℕ) where
+  -- With "yes" each row keeps an element.
+  kept-with-room : NarrowedWithRoom m s n t l x rows true newRows → (c : ℕ) → Element m c → (y : ℕ) × Element n y × (has newRows c y ≡ true)
+  kept-with-room N = N .in-turn (unfalse (smallRoomy rows m) (λ e. false≢true (sym (N .crowded e .0)))) .1 .kept refl
+
+  -- With "no" narrowing leaves no element for some source element, or some row with fewer than two elements has no room.
+  failed-with-room : NarrowedWithRoom m s n t l x rows false newRows → KeptOrEmptied m s n t l x false (has newRows) ⊎ (smallRoomy newRows m ≡ false)
+  failed-with-room N = go (either (smallRoomy rows m))
+    where
+      go : (smallRoomy rows m ≡ true) ⊎ (smallRoomy rows m ≡ false) → KeptOrEmptied m s n t l x false (has newRows) ⊎ (smallRoomy newRows m ≡ false)
+      go (inl e) = inl (N .in-turn e .1)
+      go (inr e) = inr (ap (λ (u : List ℕ). smallRoomy u m) (N .crowded e .1) ∙ e)
 
 -- ---- marks of use, each a number that is not 0
 
@@ -180,7 +196,9 @@ module _ (m : ℕ) (s : Product) (n : ℕ) (t : Product) (closed : Closed m s) (
         effect-more newRows told = go held
           where
             go : ((x : ℕ) × Element n x × (rowOf rows l ≡ singleRow x)) ⊎ ((x : ℕ) → Element n x → rowOf rows l ≡ singleRow x → ⊥) → Effect m s n t rows₀ newRows (set used (l - 1) 1)
-            go (inl h) = all-kept (some-lone (h .0) (h .1) (h .2) (P .effect)) (told .alone (h .0) (h .1) (h .2) .kept refl)
+            go (inl h) =
+                let w = told .alone (h .0) (h .1) (h .2) in
+                all-kept (some-lone (h .0) (h .1) (h .2) (P .effect)) (kept-with-room m s n t l (h .0) (w .0) newRows (w .2))
             go (inr none) = still (P .effect)
               where
                 same : newRows ≡ rows
@@ -197,7 +215,7 @@ module _ (m : ℕ) (s : Product) (n : ℕ) (t : Product) (closed : Closed m s) (
                         let long = P .long in
                         before c x hc (λ z. ne (marked-other used l 1 (h .0) (omega arith) (omega arith) c (hc .0) apart ∙ z)) hx e
 
-        -- Narrowing by row l would have left some row without an element.
+        -- Narrowing by row l would have left some row without an element, or some row with fewer than two elements has no room.
         pub told-no : (newRows : List ℕ) → Shrinks rows newRows → KeptOrEmptiedFrom m s n t l rows false newRows → KeptOrEmptiedByAll m s n t rows₀ false newRows
         told-no newRows less told = go held
           where
@@ -206,9 +224,10 @@ module _ (m : ℕ) (s : Product) (n : ℕ) (t : Product) (closed : Closed m s) (
             go (inl h) =
                 let hl = next-element in
                 let some = some-lone (h .0) (h .1) (h .2) (P .effect) in
+                let w = told .alone (h .0) (h .1) (h .2) in
                 record {
                   kept = λ e. absurd (false≢true e);
-                  emptied = λ _. (l, h .0, hl, h .1, only-still rows newRows less l (h .0) (omega arith) (subst (RowInside (rowOf rows l)) (h .2) (inside-self (rowOf rows l))), told .alone (h .0) (h .1) (h .2));
+                  emptied = λ _. (l, h .0, hl, h .1, only-still rows newRows less l (h .0) (omega arith) (subst (RowInside (rowOf rows l)) (h .2) (inside-self (rowOf rows l))), failed-with-room m s n t l (h .0) (w .0) newRows (w .2));
                   otherwise = λ none. absurd (none (some .place) (some .image) (some .within) (some .element) (some .row));
                   all = λ e. absurd (false≢true e);
                   until = λ _. (used, rows, l, next-element, P .steps, P .next, told);

@@ -7,7 +7,7 @@ use mathlib.Core.Option.{Option, none, some}
 use Prim.Native.Nat.{ℕ}
 use lib.ListN.{length, replicate}
 use Rattle.semigroups.specs.ListsLaws.{Increasing}
-use Rattle.semigroups.specs.Tables.{product}
+use Rattle.semigroups.specs.Tables.{product, Accepted}
 use Rattle.semigroups.specs.Questions.{Refusal, searchRefusal}
 use Rattle.semigroups.specs.Calls.{refused}
 use Rattle.semigroups.specs.MapsLaws.{Isomorphism}
@@ -81,3 +81,7 @@ pub record Demand3 (m : ℕ) (source target : List ℕ) : Type 0 where
   pub each-once : (f : List ℕ) → List·Memᴰ f (fullList m source target) → EachOnce f (fullList m source source) (fullList m source target)
   -- A table's full list onto itself has the identity, composites in either order, and inverses.
   pub onto-itself : IsGroup m (fullList m source source)
+
+-- Demand 3 holds for any two accepted tables of one order.
+abbrev pub Demand3Theorem : Type 0
+Demand3Theorem = (m : ℕ) (source target : List ℕ) → Accepted m source → Accepted m target → Demand3 m source target

@@ -35,8 +35,20 @@ wanted-requires c κs = tt
 loop-holds : tie.Need-loop-holds Inv-loop μ-loop
 loop-holds c = (refl, refl, start-sound _ (c .before .start .ensures .0 _), c .wanted .ensures)
 
+file-name-requires : tie.Need-file-name-requires Inv-loop μ-loop
+file-name-requires c κs = search needs
+
+slice-aggregate-open-read : tie.Need-slice-aggregate-open-read Inv-loop μ-loop
+slice-aggregate-open-read c = search needs
+
+open-read-requires : tie.Need-open-read-requires Inv-loop μ-loop
+open-read-requires c κs = search needs
+
+slice-aggregate-read-file : tie.Need-slice-aggregate-read-file Inv-loop μ-loop
+slice-aggregate-read-file c = sym (c .before .before .before .before .before .loop .inv .0)
+
 read-file-requires : tie.Need-read-file-requires Inv-loop μ-loop
-read-file-requires c κs = let v = c .before .before .loop .inv .0 in omega arith
+read-file-requires c κs = let v = c .before .before .before .before .before .loop .inv .0 in omega arith
 
 array-share-prefix-text : tie.Need-array-share-prefix-text Inv-loop μ-loop
 array-share-prefix-text c = search needs
@@ -45,12 +57,12 @@ slice-aggregate-step : tie.Need-slice-aggregate-step Inv-loop μ-loop
 slice-aggregate-step c = search needs
 
 slice-aggregate-step-2 : tie.Need-slice-aggregate-step-2 Inv-loop μ-loop
-slice-aggregate-step-2 c = sym (c .before .before .before .before .before .loop .inv .1)
+slice-aggregate-step-2 c = sym (c .before .before .before .before .before .before .before .before .before .loop .inv .1)
 
 step-requires : tie.Need-step-requires Inv-loop μ-loop
 step-requires c κs =
-    let v = c .before .before .before .before .before .loop .inv in
-    let t = c .before .before .before .before .loop-test .taken in
+    let v = c .before .before .before .before .before .before .before .before .before .loop .inv in
+    let t = c .before .before .before .before .before .before .before .before .loop-test .taken in
     (v .1, (v .2, λ e. t (v .3 _ ∙ e)))
 
 wanted-requires-2 : tie.Need-wanted-requires-2 Inv-loop μ-loop
@@ -58,20 +70,20 @@ wanted-requires-2 c κs = tt
 
 loop-less : tie.Need-loop-less Inv-loop μ-loop
 loop-less c =
-    let l = c .before .before .before .before .before .before .before .before .loop in
+    let l = c .before .before .before .before .before .before .before .before .before .before .before .before .loop in
     let v = l .inv in
-    let t = c .before .before .before .before .before .before .before .loop-test .taken in
-    later-fewer (progressOf (l .classifier) (l .cells)) (v .2) (λ e. t (v .3 _ ∙ e)) (came (c .before .before .before .before .before)) (c .before .before .step .ensures .0)
+    let t = c .before .before .before .before .before .before .before .before .before .before .before .loop-test .taken in
+    later-fewer (progressOf (l .classifier) (l .cells)) (v .2) (λ e. t (v .3 _ ∙ e)) (came (c .before .before .before .before .before .before)) (c .before .before .step .ensures .0)
 
 loop-again : tie.Need-loop-again Inv-loop μ-loop
 loop-again c =
-    let l = c .before .before .before .before .before .before .before .before .loop in
+    let l = c .before .before .before .before .before .before .before .before .before .before .before .before .loop in
     let v = l .inv in
-    let t = c .before .before .before .before .before .before .before .loop-test .taken in
+    let t = c .before .before .before .before .before .before .before .before .before .before .before .loop-test .taken in
     let st = c .before .before .step in (
-      c .before .before .before .before .before .read-file .ensures .1 .0 ∙ v .0,
+      c .before .before .before .before .before .before .read-file .ensures .1 .1 .0 ∙ v .0,
       st .kept .1 .1 .1 .0 ∙ v .1,
-      later-sound (progressOf (l .classifier) (l .cells)) (v .2) (λ e. t (v .3 _ ∙ e)) (came (c .before .before .before .before .before)) (st .ensures .0),
+      later-sound (progressOf (l .classifier) (l .cells)) (v .2) (λ e. t (v .3 _ ∙ e)) (came (c .before .before .before .before .before .before)) (st .ensures .0),
       c .wanted2 .ensures,
     )
 
@@ -101,6 +113,10 @@ main-spec =
     start-requires
     wanted-requires
     loop-holds
+    file-name-requires
+    slice-aggregate-open-read
+    open-read-requires
+    slice-aggregate-read-file
     read-file-requires
     array-share-prefix-text
     slice-aggregate-step

@@ -6,11 +6,23 @@ use borrow.Author.Needs.{needs}
 use Rattle.recue.proofs.main.Statement.{statement}
 use Rattle.recue.proofs.main.Tie as tie
 
+slice-aggregate-open-read : tie.Need-slice-aggregate-open-read
+slice-aggregate-open-read c = search needs
+
+open-read-requires : tie.Need-open-read-requires
+open-read-requires c κs = search needs
+
 slice-aggregate-read-file : tie.Need-slice-aggregate-read-file
 slice-aggregate-read-file c = search needs
 
 read-file-requires : tie.Need-read-file-requires
 read-file-requires c κs = search needs
+
+slice-aggregate-open-read-2 : tie.Need-slice-aggregate-open-read-2
+slice-aggregate-open-read-2 c = search needs
+
+open-read-requires-2 : tie.Need-open-read-requires-2
+open-read-requires-2 c κs = search needs
 
 slice-aggregate-read-file-2 : tie.Need-slice-aggregate-read-file-2
 slice-aggregate-read-file-2 c = search needs
@@ -49,8 +61,12 @@ pub main-spec : {M : Type 1} → statement M
 main-spec =
     tie.close
     (tie.spec
+    slice-aggregate-open-read
+    open-read-requires
     slice-aggregate-read-file
     read-file-requires
+    slice-aggregate-open-read-2
+    open-read-requires-2
     slice-aggregate-read-file-2
     read-file-requires-2
     array-share-prefix-source
