@@ -4,16 +4,20 @@ use mathlib.Core.Path.{_≡_, refl}
 use mathlib.Core.List.{List, [], _∷_, map, flatMap, flatten}
 use mathlib.Core.Option.{Option, none, some, orElse}
 use Prim.Native.Nat.{ℕ}
+use native.Mathlib.Omega.{arith}
+use lib.ListN.{replicate}
 use Rattle.semigroups.specs.Lists.{at, range, elements, all, find, firstOf}
 use Rattle.semigroups.specs.Tables.{product, isElement, badCell}
 use Rattle.semigroups.specs.Questions.{Refusal}
 use Rattle.semigroups.specs.InnerQuestions.{no}
 use Rattle.csv.specs.Decimals.{isDigit, value, valueFrom, numeral, numeralWithin}
 use Rattle.csv.specs.Records.{isBreak, onto, records, fields, rows, recordText, lineText, rowsText}
-use Rattle.csv.specs.RoundsLaws.{endsInBreak, closed}
+use Rattle.csv.specs.RoundsLaws.{endsInBreak, closed, Buffers, saved, rounds, Unchanged}
 use Rattle.csv.specs.Tables.{fieldsOf, orderOf, cellsOf, rowFields, tableText}
 use Rattle.csv.specs.Calls.{cellsAfter, textAfter}
 use Rattle.csv.specs.Questions.{breakAt, inBreak, isAllowed, firstOther, fieldsQuestions, isSquare, loadRefusal, saveRefusal}
+use Rattle.csv.proofs.Passing.{save-passes}
+use Rattle.csv.proofs.Rules.{text-rules}
 
 -- A text, the length of the cell buffer, and the refusal.
 pub record Example : Type 0 where
@@ -106,6 +110,16 @@ swap-closed = refl
 pub swap-resaved : map resaved (swap-text ∷ swap-open ∷ []) ≡ swap-text ∷ swap-text ∷ []
 unfolding resaved swap-text swap-open textAfter cellsAfter saveRefusal badCell loadRefusal firstOf orElse isElement firstOther find range isAllowed inBreak breakAt isBreak isDigit fieldsQuestions flatMap fieldsOf flatten rows records fields onto value valueFrom isSquare all orderOf cellsOf tableText rowFields product elements numeral numeralWithin rowsText lineText recordText at
 swap-resaved = refl
+
+-- The table saved, then loaded and saved again, however often: the text stays.
+abbrev swap-buffers : Buffers
+swap-buffers = record { text = replicate 12 7; size = 0; cells = replicate 5 7 }
+
+swap-stays : (r : ℕ) → Unchanged 2 (1 ∷ 2 ∷ 2 ∷ 1 ∷ []) (saved 2 (1 ∷ 2 ∷ 2 ∷ 1 ∷ []) swap-buffers) (rounds r (saved 2 (1 ∷ 2 ∷ 2 ∷ 1 ∷ []) swap-buffers))
+swap-stays =
+    text-rules .saved-stays 2 (1 ∷ 2 ∷ 2 ∷ 1 ∷ []) swap-buffers
+    (save-passes 2 (1 ∷ 2 ∷ 2 ∷ 1 ∷ []) 12 .0 (unfold saveRefusal firstOf orElse isElement badCell find range at tableText rowFields product elements numeral numeralWithin rowsText lineText recordText flatMap in refl))
+    (omega arith)
 
 -- Decimal numbers of one, two and three digits.
 pub numerals : map numeral (7 ∷ 40 ∷ 109 ∷ []) ≡ (55 ∷ []) ∷ (52 ∷ 48 ∷ []) ∷ (49 ∷ 48 ∷ 57 ∷ []) ∷ []

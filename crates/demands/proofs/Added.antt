@@ -1,13 +1,15 @@
 -- Demand 1 holds of the calls that RULES 9, 11 and 15 to 20 add. Assumes nothing.
-use mathlib.Core.Path.{_≡_, ap}
-use mathlib.Core.List.{[], _∷_}
+use mathlib.Core.Path.{_≡_, refl, ap, ap₂}
+use mathlib.Core.List.{[], _∷_, flatMap}
+use mathlib.Core.Option.{Option, none, Option·map, orElse}
 use lib.ListN.{length, replicate}
-use Rattle.semigroups.specs.Tables.{product}
+use Rattle.semigroups.specs.Lists.{range, elements, at, all, find, firstOf, lists}
+use Rattle.semigroups.specs.Tables.{product, isElement, associates, badCell, badTriple}
 use Rattle.semigroups.specs.QuestionsLaws.{EarliestNo}
 use Rattle.semigroups.specs.InnerQuestions.{no}
-use Rattle.semigroups.specs.Questions.{searchQuestions, searchRefusal}
-use Rattle.semigroups.specs.Calls.{refused, gives, Answer}
-use Rattle.semigroups.specs.Maps.{Sought, first, sought}
+use Rattle.semigroups.specs.Questions.{Refusal, searchQuestions, searchRefusal}
+use Rattle.semigroups.specs.Calls.{refused, gives, givenUnless, Answer}
+use Rattle.semigroups.specs.Maps.{embeddings, Sought, first, sought}
 use Rattle.semigroups.specs.Trials as trials
 use Rattle.semigroups.specs.Generated.{generated}
 use Rattle.semigroups.specs.Light.{generatorsQuestions, generatorsRefusal}
@@ -21,19 +23,23 @@ use Rattle.semigroups.proofs.Subsemigroups.{subsemigroup-passes, subsemigroup-e
 use Rattle.semigroups.proofs.Copies.{copies-pass, copies-examples}
 use Rattle.calls.specs.Subsemigroups.{subsemigroupSays, partAfter, elementsAfter}
 use Rattle.parts.proofs.Parts.{subsemigroup-keeps}
-use Rattle.planning.specs.Degrees.{leastDegree, degreeQuestions, degreeRefusal}
-use Rattle.planning.specs.Calls.{degreeSays}
+use Rattle.planning.specs.Degrees.{Fit, leastDegree, degreeQuestions, degreeRefusal}
+use Rattle.planning.specs.Calls.{degreeSays, positionsAfter}
+use Rattle.planning.specs.Examples.{cyclic4}
+use Rattle.planning.proofs.Examples.{degree-examples, degree-question-examples}
 use Rattle.planning.proofs.Questions.{degree-passes, positions-kept}
 use Rattle.sheets.specs.Readings.{namesIn}
-use Rattle.sheets.specs.Names.{namesText, namesAt}
-use Rattle.sheets.specs.Questions.{loadNamesQuestions, loadNamesRefusal, saveNamesQuestions, saveNamesRefusal}
-use Rattle.sheets.specs.Calls.{loadNamesAnswer, saveNamesAnswer}
+use Rattle.sheets.specs.Names.{isName, namesText, namesAt}
+use Rattle.sheets.specs.Grammar.{isPrintable}
+use Rattle.sheets.specs.Questions.{loadNamesQuestions, loadNamesRefusal, namesQuestions, saveNamesQuestions, saveNamesRefusal}
+use Rattle.sheets.specs.Calls.{loadNamesAnswer, saveNamesAnswer, sheetAfter}
 use Rattle.sheets.proofs.Passing.{load-names-pass, save-names-pass, load-keeps, save-keeps}
 use Rattle.calls.specs.Limited.{firstWork, limitedCall}
-use Rattle.calls.specs.Calls.{Called, marksOf}
+use Rattle.calls.specs.Calls.{Called, called, marksOf}
 use Rattle.calls.specs.Among.{amongQuestions, amongRefusal, answerAmong, callAmong, marksAmong}
 use Rattle.search.specs.AmongExamples.{leftInLeft}
-use Rattle.search.proofs.Limits.{limits-theorem}
+use Rattle.search.specs.LimitsExamples.{twoInSwap}
+use Rattle.search.proofs.Limits.{limits-theorem, limits-examples}
 use Rattle.search.proofs.Among.{among-passes}
 use Rattle.search.proofs.AmongLaws.{among-laws}
 use Rattle.search.proofs.AmongExamples.{among-examples}
@@ -41,6 +47,7 @@ use Rattle.calls.specs.Copies.{copiesSays, copiesScratch}
 use Rattle.copies.proofs.Answering.{copies-keep}
 use Rattle.demands.specs.AddedLaws.{AddedCalls}
 use Rattle.demands.proofs.Answers.{asks, answers, search-answers}
+use Rattle.demands.proofs.Demand1.{lent, short}
 
 pub added-calls : AddedCalls
 unfolding loadNamesAnswer loadNamesRefusal saveNamesAnswer saveNamesRefusal limitedCall searchRefusal generatorsRefusal subsemigroupSays subsemigroupRefusal degreeSays degreeRefusal copiesSays copiesRefusal callAmong amongRefusal
@@ -98,3 +105,40 @@ pairs-short : EarliestNo (amongQuestions 2 (left .cells) 2 (left .cells) 2 2 0) 
 pairs-short =
     added-calls .among first [] (leftInLeft (0 ∷ 0 ∷ [])) .refused-exactly (no 70 []) .0
     (ap (λ (c : Called (Answer Sought)). c .says) (among-examples .4))
+
+-- With only the pairs of element 1 marked, element 2 has no image: the answer is "none", and the map stays as it is.
+among-kept : callAmong first (3 ∷ []) (leftInLeft (0 ∷ 0 ∷ [])) .mapBytes ≡ 0 ∷ 0 ∷ []
+among-kept = added-calls .among-none-keeps-map first (3 ∷ []) (leftInLeft (0 ∷ 0 ∷ [])) (ap (λ (c : Called (Answer Sought)). c .says) (among-examples .3))
+
+-- Of two names the second has no byte: question 41 refuses to save them, and the text stays as it is.
+names-kept : sheetAfter (97 ∷ []) (1 ∷ 0 ∷ []) (replicate 9 7) ≡ replicate 9 7
+unfolding saveNamesRefusal namesQuestions firstOf orElse isName isElement all isPrintable
+names-kept = added-calls .save-names-refused (97 ∷ []) (1 ∷ 0 ∷ []) (replicate 9 7) (no 41 (2 ∷ [])) refl
+
+-- With no byte of scratch a search with a limit is refused by question 6, and both buffers stay as they are.
+limited-short : limitedCall embeddings 4 (lent 0) ≡ called (refused (no 6 [])) (0 ∷ 0 ∷ []) (replicate 0 9)
+unfolding lent
+limited-short = added-calls .limited-refused embeddings 4 (lent 0) (no 6 []) short
+
+-- The degree 2 table has no embedding in swap: the answer is "none", and the map stays as it is.
+limited-kept : limitedCall embeddings 0 twoInSwap .mapBytes ≡ replicate 4 0
+limited-kept = added-calls .limited-none-keeps-map embeddings 0 0 twoInSwap (limits-examples .3)
+
+-- The least degree of mat5 is asked for with 14 bytes of positions, one too few: question 80, and they stay as they are.
+positions-short : positionsAfter 5 (mat5 .cells) (replicate 14 9) ≡ replicate 14 9
+unfolding degreeSays
+positions-short =
+    added-calls .degree-refused 5 (mat5 .cells) (replicate 14 9) .0 (no 80 [])
+    (refused-by (leastDegree 5 (product 5 (mat5 .cells))) (degreeRefusal 5 (mat5 .cells) 14) (no 80 []) .1 (degree-question-examples .1))
+
+-- The cyclic group of order 4 fits at none of these degrees, and 12 bytes of positions stay as they are.
+cyclic4-passes : degreeRefusal 4 (cyclic4 .cells) 12 ≡ none
+unfolding degreeRefusal firstOf orElse isElement badCell badTriple associates product lists elements range at find flatMap
+cyclic4-passes = refl
+
+cyclic4-none : degreeSays 4 (cyclic4 .cells) 12 ≡ gives none
+unfolding degreeSays leastDegree
+cyclic4-none = ap₂ (λ (q : Option Refusal) (o : Option Fit). givenUnless q (Option·map (λ (x : Fit). x .degree) o)) cyclic4-passes (degree-examples .cyclic4-none)
+
+cyclic4-kept : positionsAfter 4 (cyclic4 .cells) (replicate 12 9) ≡ replicate 12 9
+cyclic4-kept = added-calls .degree-refused 4 (cyclic4 .cells) (replicate 12 9) .1 cyclic4-none

@@ -6,7 +6,7 @@ ghost use mathlib.Core.Bool.{cond};
 ghost use Prim.Native.Nat.{_*_, _≤_};
 ghost use lib.ListN.{length, take};
 ghost use Rattle.semigroups.specs.InnerSearch.{plainKind};
-ghost use Rattle.semigroups.specs.Tables.{Filled, Accepted};
+ghost use Rattle.semigroups.specs.Tables.{Filled, Accepted, largestOrder};
 ghost use Rattle.semigroups.specs.InnerTables.{turnedCells};
 ghost use Rattle.semigroups.specs.Scratch.{scratchSize};
 ghost use Rattle.semigroups.specs.Calls.{gives, overwritten};
@@ -70,7 +70,7 @@ fn find_marked(
 
 // Writes the map of the outcome, if it has one, to `map`.
 fn put_found(result: Outcome, m: usize, map: &mut [u8])
-    requires { ⌜ (length (now map) ≡ m) × (m ≤ 120) ⌝ }
+    requires { ⌜ (length (now map) ≡ m) × (m ≤ largestOrder) ⌝ }
     ensures map { λ _. ⌜ now (map .exit) ≡ cond (result .ok) (take m (result .image)) (now (map .entry)) ⌝ }
 {
     let ok = result.ok;

@@ -25,8 +25,8 @@ unfoldable pub startRows : ℕ → Product → ℕ → Product → (ℕ → ℕ 
 startRows m s n t candidate = let rows = keptRows m n candidate fullRows in cond (eqb m n) (keptRows n n (sameColour n s t) rows) rows
 
 -- What the search must find from a partial map: the earliest map asked for that begins with the list placed and rises along the relation, or none.
-abbrev pub Due : Product → ℕ → Product → ℕ → List ℕ → List ℕ → (ℕ → ℕ → Bool) → Bool → Partial → Option (List ℕ)
-Due s m t n scratch after relation tight p = earliestRising m s n t (marked n scratch) (bounded tight after) relation (m - p .len) (placedList p)
+abbrev pub due : Product → ℕ → Product → ℕ → List ℕ → List ℕ → (ℕ → ℕ → Bool) → Bool → Partial → Option (List ℕ)
+due s m t n scratch after relation tight p = earliestRising m s n t (marked n scratch) (bounded tight after) relation (m - p .len) (placedList p)
 
 -- The images placed are elements, and zeros follow them.
 pub record PlacedImages (n : ℕ) (image : List ℕ) (len : ℕ) : Type 0 where

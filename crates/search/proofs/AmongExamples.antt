@@ -3,7 +3,7 @@ use mathlib.Core.Path.{_≡_, refl, sym, ap, _∙_}
 use mathlib.Core.Bool.{Bool, true, false, not, cond}
 use mathlib.Core.Logic.{_⊎_}
 use mathlib.Core.List.{List, [], _∷_, flatMap}
-use mathlib.Core.Option.{none, orElse}
+use mathlib.Core.Option.{none, some, orElse}
 use Prim.Native.Nat.{ℕ}
 use native.Mathlib.Omega.{arith}
 use borrow.Author.Tests.{not-true, eq-eqb, eqb-true}
@@ -13,11 +13,13 @@ use Rattle.semigroups.specs.ListsLaws.{Earliest}
 use Rattle.semigroups.specs.Tables.{product, grid, isElement, associates, badCell, badTriple}
 use Rattle.semigroups.specs.Scratch.{packedByte, bit, scratchSize, marks, marked}
 use Rattle.semigroups.specs.Invariants.{power, periodFrom, index, period, idempotentPower, indexPeriod, sameIndexPeriod}
-use Rattle.semigroups.specs.Calls.{gives, Answer}
-use Rattle.semigroups.specs.Maps.{isHomomorphism, isEmbedding, embeddings, maps, first, earliest, Sought, found}
+use Rattle.semigroups.specs.InnerQuestions.{no}
+use Rattle.semigroups.specs.Calls.{refused, gives, Answer}
+use Rattle.semigroups.specs.Maps.{isHomomorphism, isEmbedding, embeddings, maps, first, next, earliest, Sought, found}
 use Rattle.semigroups.specs.Candidates.{candidate}
+use Rattle.semigroups.specs.Cases.{left}
 use Rattle.semigroups.proofs.Lists.{pairs-at}
-use Rattle.calls.specs.Calls.{Lent, Called, call}
+use Rattle.calls.specs.Calls.{Lent, lend, Called, called, call}
 use Rattle.calls.specs.Allowed.{allows, allowed}
 use Rattle.calls.specs.Among.{amongRefusal, refusalAmong, callAmong}
 use Rattle.search.specs.AmongLaws.{PassesAmong, WantedAmong, AllMarked, OnlyOf, SamePairs}
@@ -92,3 +94,25 @@ same-marked i j hi hj =
 pub unused-same : callAmong first (6 ∷ []) l ≡ callAmong first (246 ∷ 9 ∷ []) l
 unfolding scratchSize
 unused-same = among-laws .same-pairs first (6 ∷ []) (246 ∷ 9 ∷ []) l (omega arith) (omega arith) same-marked
+
+-- With no byte of pairs a call is refused by 70, and changes no lent byte, whatever it asks for.
+pub pairs-refused : refusalAmong [] l ≡ some (no 70 [])
+pairs-refused = among-laws .refused-exactly first [] l (no 70 []) .0 (ap (λ (c : Called (Answer Sought)). c .says) (among-examples .4))
+
+pub pairs-unchanged : callAmong (next (1 ∷ 2 ∷ [])) [] l ≡ called (refused (no 70 [])) (0 ∷ 0 ∷ []) (0 ∷ 7 ∷ [])
+pairs-unchanged = among-laws .refused-unchanged (next (1 ∷ 2 ∷ [])) [] l (no 70 []) pairs-refused
+
+-- With pairs that leave element 2 no image the answer is "none", and the map stays.
+pub none-kept : callAmong first (3 ∷ []) l .mapBytes ≡ 0 ∷ 0 ∷ []
+none-kept = among-laws .none-keeps-map first (3 ∷ []) l (ap (λ (c : Called (Answer Sought)). c .says) (among-examples .3))
+
+-- With another scratch buffer, of one byte, the exchange is found as well.
+abbrev other : Lent
+other = lend (left .cells) 2 (left .cells) 2 (0 ∷ 0 ∷ []) (9 ∷ [])
+
+other-passes : PassesAmong (6 ∷ []) other
+unfolding amongRefusal scratchSize grid product isElement badCell badTriple range elements at all find keep firstOf lists orElse flatMap associates
+other-passes = among-passes (6 ∷ []) other .0 refl
+
+pub exchange-apart : (callAmong first (6 ∷ []) l .says ≡ callAmong first (6 ∷ []) other .says) × (callAmong first (6 ∷ []) l .mapBytes ≡ callAmong first (6 ∷ []) other .mapBytes)
+exchange-apart = among-laws .scratch-apart first (6 ∷ []) (left .cells) 2 (left .cells) 2 (0 ∷ 0 ∷ []) (0 ∷ 7 ∷ []) (9 ∷ []) passes-exchange other-passes

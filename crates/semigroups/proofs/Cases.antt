@@ -6,10 +6,11 @@ use mathlib.Core.Option.{none, orElse}
 use Rattle.semigroups.specs.Lists.{range, elements, at, all, find, keep, firstOf, sum, count, least, member, distinct, earlier, lists}
 use Rattle.semigroups.specs.Tables.{product, grid, isElement, associates, badCell, badTriple}
 use Rattle.semigroups.specs.Questions.{tableRefusal}
-use Rattle.semigroups.specs.Invariants.{power, periodFrom, index, period, idempotentPower, indexPeriod, frequency, diagonalFrequency, rowFrequency, columnFrequency, commuting, profile}
+use Rattle.semigroups.specs.Invariants.{power, periodFrom, index, period, idempotentPower, indexPeriod, frequency, diagonalFrequency, rowFrequency, columnFrequency, commuting, profile, sameIndexPeriod, sameProfile}
 use Rattle.semigroups.specs.Maps.{isHomomorphism, isEmbedding, isIsomorphism, maps, earliest, after}
 use Rattle.semigroups.specs.Transformations.{transformations, transformationOrder, transformation, numberOf, transformationProduct, transformationCells}
 use Rattle.semigroups.specs.Cases.{Table, left, two, tables, Case, result, cases, Worked}
+use Rattle.semigroups.specs.MistakesExamples.{WholeProfiles, TurnedRound}
 use Rattle.semigroups.proofs.Tables.{accepted}
 
 -- Two functions that agree over a list agree at each entry.
@@ -40,3 +41,13 @@ worked =
 row-and-column : (rowFrequency 2 (product 2 (left .cells)) 1 ≡ 2) × (columnFrequency 2 (product 2 (left .cells)) 1 ≡ 1)
 unfolding range elements sum count product rowFrequency columnFrequency
 row-and-column = (refl, refl)
+
+-- ---- the mistakes of RULES 24
+
+whole-profiles : WholeProfiles
+unfolding two range elements at all find keep sum count least member distinct earlier lists product grid isElement power periodFrom index period idempotentPower indexPeriod sameIndexPeriod frequency diagonalFrequency rowFrequency columnFrequency commuting profile sameProfile isHomomorphism isEmbedding maps after transformations transformationOrder transformation numberOf transformationProduct transformationCells flatMap
+whole-profiles = record { in-right = refl; in-two = refl; no-candidate = refl; right-fits = refl }
+
+turned-round : TurnedRound
+unfolding two range elements at all keep sum count member distinct earlier lists product grid isElement isHomomorphism isEmbedding maps after transformations transformationOrder transformation numberOf transformationProduct transformationCells flatMap
+turned-round = record { left-would-fit = refl; right-would-not = refl }

@@ -3,19 +3,25 @@
 -- common one. Assumes nothing.
 use mathlib.Core.Path.{_≡_, refl, sym, ap, _∙_, subst}
 use mathlib.Core.Bool.{Bool}
-use mathlib.Core.List.{List}
+use mathlib.Core.List.{List, [], _∷_, flatMap, List·Memᴰ·head, List·Memᴰ·tail}
 use Prim.Native.Nat.{ℕ, zero, suc, _+_, _-_, _*_, _/_, _%_, _≤_, _<_}
 use native.Mathlib.Nat.{suc-mul, mul-comm, div-add-mod', mod-lt}
 use native.Mathlib.Omega.{arith}
 use borrow.Author.Tests.{eq-eqb, eqb-true}
 use lib.Dec.{eqb}
-use Rattle.semigroups.specs.Lists.{at, least}
-use Rattle.semigroups.specs.Tables.{Product, Element, Associative}
+use Rattle.semigroups.specs.Lists.{range, elements, at, all, sum, count, least, member, distinct, earlier, lists}
+use Rattle.semigroups.specs.Tables.{Product, product, grid, Element, Associative, isElement, Accepted}
 use Rattle.semigroups.specs.TablesLaws.{Closed}
 use Rattle.semigroups.specs.Invariants.{power, index, period, idempotentPower}
 use Rattle.semigroups.specs.InvariantsLaws.{IsIdempotentPower, TheIdempotentPower}
 use Rattle.semigroups.specs.InnerMaps.{Embedding}
+use Rattle.semigroups.specs.Maps.{isHomomorphism, isEmbedding, after}
+use Rattle.semigroups.specs.Transformations.{transformations, transformationOrder, transformation, numberOf, transformationProduct, transformationCells}
+use Rattle.semigroups.specs.Cases.{swap, two}
 use Rattle.semigroups.proofs.Lists.{least-first}
+use Rattle.semigroups.proofs.Tables.{accepted-closed}
+use Rattle.semigroups.proofs.Maps.{is-embedding}
+use Rattle.semigroups.proofs.Cases.{worked}
 use Rattle.semigroups.proofs.IndexPeriod.{power-one, power-next, power-element, shift, turns, index-period, index-period-bound, power-kept}
 
 -- The least multiple of r that is at least p is below p + r.
@@ -119,3 +125,15 @@ idempotent-power-kept m s n t f F c ac d ad a h =
       is-power = sym (power-kept m s n t f F c a h (x .exponent)) ∙ ap (at f) (x .is-power);
       idempotent = sym (F .homomorphism .keeps-product e e he he) ∙ ap (at f) (x .idempotent);
     })
+
+-- An instance: the embedding (2,3) of swap in the degree 2 table, at element 2, whose idempotent power is 1.
+swap-embeds : Embedding 2 (product 2 (swap .cells)) (two .order) (product (two .order) (two .cells)) (2 ∷ 3 ∷ [])
+unfolding two range elements at all sum count member distinct earlier lists product grid isElement isHomomorphism isEmbedding after transformations transformationOrder transformation numberOf transformationProduct transformationCells flatMap
+swap-embeds = is-embedding 2 (product 2 (swap .cells)) (two .order) (product (two .order) (two .cells)) (2 ∷ 3 ∷ []) refl
+
+swap-kept : at (2 ∷ 3 ∷ []) (idempotentPower 2 (product 2 (swap .cells)) 2) ≡ idempotentPower (two .order) (product (two .order) (two .cells)) (at (2 ∷ 3 ∷ []) 2)
+swap-kept =
+    let a : Accepted 2 (swap .cells) = worked .accepted swap (List·Memᴰ·tail (List·Memᴰ·head refl)) in
+    let b : Accepted (two .order) (two .cells) = worked .accepted two (List·Memᴰ·tail (List·Memᴰ·tail (List·Memᴰ·tail (List·Memᴰ·tail (List·Memᴰ·tail (List·Memᴰ·head refl)))))) in
+    idempotent-power-kept 2 (product 2 (swap .cells)) (two .order) (product (two .order) (two .cells)) (2 ∷ 3 ∷ []) swap-embeds
+    (accepted-closed 2 (swap .cells) a) (a .associative) (accepted-closed (two .order) (two .cells) b) (b .associative) 2 (omega arith, omega arith)

@@ -4,7 +4,7 @@ use mathlib.Core.Path.{_≡_, refl, sym, ap, _∙_, subst}
 use mathlib.Core.Bool.{Bool, true, false, not, _&&_}
 use mathlib.Core.Logic.{_⊎_, _↔_}
 use mathlib.Core.Option.{Option, none, some, Option·map, orElse, map-eq-none-iff, Option·none-ne-some}
-use mathlib.Core.List.{List, [], _∷_, flatMap, List·Memᴰ}
+use mathlib.Core.List.{List, [], _∷_, flatMap, List·Memᴰ, List·Memᴰ·head, List·Memᴰ·tail, List·Memᴰ·not-nil}
 use Prim.Native.Nat.{ℕ, _-_}
 use native.Mathlib.Omega.{arith}
 use borrow.Author.Tests.{eqb-true, eqb-false, eq-eqb, not-true, not-false}
@@ -20,15 +20,17 @@ use Rattle.semigroups.specs.InnerQuestions.{no, cellsRefusal}
 use Rattle.semigroups.specs.QuestionsLaws as full
 use Rattle.semigroups.specs.InnerGenerated.{Inside}
 use Rattle.semigroups.specs.Generated.{setOf, products, grown, generated}
-use Rattle.semigroups.specs.LightLaws.{Generates, AssociativeThrough, FailingThrough, GeneratorsRefused, wrong-cells, wrong-entry, not-generated, wrong-triple, GeneratorsPass, LightsLaw, LightsTheorem}
+use Rattle.semigroups.specs.LightLaws.{Generates, AssociativeThrough, FailingThrough, GeneratorsRefused, wrong-cells, wrong-entry, not-generated, wrong-triple, GeneratorsPass, LightsLaw, LightsTheorem, EmptyRefused}
 use Rattle.semigroups.specs.Light.{badTripleThrough, generatorsRefusal}
 use Rattle.semigroups.specs.LightExamples.{LightsExamples}
+use Rattle.semigroups.specs.Cases.{mat5}
 use Rattle.semigroups.proofs.Booleans.{clash, untrue, both, and-left, and-right, not-of-false, impossible}
 use Rattle.semigroups.proofs.Lists.{none-find, member-mem, mem-member, all-at, all-of, is-element, element-is}
 use Rattle.semigroups.proofs.ListOrder.{mem-lists, find-earliest, find-nowhere, earliest-unique}
 use Rattle.semigroups.proofs.Questions.{failed-before, passed-before}
 use Rattle.semigroups.proofs.Tables.{triple-list, list-at, product-element, filled, no-cells-refusal, accepted, no-refusal, refused}
 use Rattle.semigroups.proofs.Generated.{generated-smallest, all-generated}
+use Rattle.semigroups.proofs.Cases.{worked}
 
 -- ---- the theorem
 
@@ -280,7 +282,25 @@ generators-pass n cells l = (
     go e (at-triple f i g t b) = absurd (clashes (no 4 t) e (triple-decides n cells l f i g ∙ ap (Option·map (λ t. no 4 t)) b))
     go e (to-end f i g b) = record { table = accepted n cells (lights-theorem n cells l f i g .accepts .0 e); inside = i; generates = g }
 
+-- ---- an empty list
+
+-- What an empty list generates has no member, and every table has element 1.
+pub empty-refused : EmptyRefused
+empty-refused n cells f = too-few n cells [] f inside (λ g. nothing 1 (g 1 (omega arith, f .order .0)))
+  where
+    inside : Inside n []
+    inside x m = absurd (List·Memᴰ·not-nil m)
+
+    nothing : (x : ℕ) → List·Memᴰ x (generated n (product n cells) []) → ⊥
+    nothing =
+        generated-smallest n (product n cells) [] (product-element n cells (f .size) (f .in-range)) inside .inside-others (λ x. ⊥)
+        (record { holds-list = λ x m. List·Memᴰ·not-nil m; holds-products = λ x y p q. p })
+
 -- ---- examples
+
+-- An instance: mat5 with an empty list.
+mat5-empty : generatorsRefusal 5 (mat5 .cells) [] ≡ some (no 51 [])
+mat5-empty = empty-refused 5 (mat5 .cells) (worked .accepted mat5 (List·Memᴰ·tail (List·Memᴰ·tail (List·Memᴰ·tail (List·Memᴰ·tail (List·Memᴰ·tail (List·Memᴰ·tail (List·Memᴰ·head refl))))))) .filled)
 
 pub lights-examples : LightsExamples
 unfolding generatorsRefusal firstOf orElse isElement badCell badTripleThrough generated grown setOf products associates product lists elements range at all find keep member flatMap

@@ -8,7 +8,7 @@ use Rattle.semigroups.specs.Candidates.{candidate}
 use Rattle.semigroups.specs.Requests.{TableRequests}
 use Rattle.semigroups.proofs.Booleans.{and-right}
 use Rattle.semigroups.proofs.Generated.{generated-theorem}
-use Rattle.semigroups.proofs.Light.{lights-law, lights-theorem, generators-pass, generators-refused}
+use Rattle.semigroups.proofs.Light.{lights-law, lights-theorem, generators-pass, generators-refused, empty-refused}
 use Rattle.semigroups.proofs.Reversed.{reversed-theorem}
 use Rattle.semigroups.proofs.Candidates.{embedding-candidate}
 use Rattle.semigroups.proofs.Subsemigroups.{subsemigroup-theorem}
@@ -36,6 +36,7 @@ table-requests =
       shorter-check = lights-theorem;
       generators-pass = generators-pass;
       generators-refused = generators-refused;
+      empty-list = empty-refused;
       reversed-maps = reversed-theorem;
       commuting-equal = λ m s n t i j e. commuting-same _ _ e;
       commuting-equal-reversed = λ m s n t i j e. commuting-same _ _ e;

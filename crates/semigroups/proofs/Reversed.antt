@@ -2,11 +2,11 @@
 -- isomorphisms; two in a row make an isomorphism, and one before or after an isomorphism makes a reversed one. Assumes nothing.
 use mathlib.Core.Path.{_≡_, refl, sym, ap, _∙_, subst}
 use mathlib.Core.Logic.{_⊎_, inl, inr}
-use mathlib.Core.List.{List, [], flatMap}
+use mathlib.Core.List.{List, [], _∷_, flatMap, List·Memᴰ, List·Memᴰ·head, List·Memᴰ·tail}
 use Prim.Native.Nat.{ℕ}
 use lib.ListN.{length}
 use Rattle.semigroups.specs.Lists.{range, elements, at, all, keep, sum, count, member, distinct, earlier, lists}
-use Rattle.semigroups.specs.Tables.{Product, product, grid, turned, Element, Associative, isElement}
+use Rattle.semigroups.specs.Tables.{Product, product, grid, turned, Element, Associative, Accepted, isElement}
 use Rattle.semigroups.specs.TablesLaws.{Closed}
 use Rattle.semigroups.specs.InnerTables.{turnedCells}
 use Rattle.semigroups.specs.Invariants.{profile, sameProfile}
@@ -15,15 +15,16 @@ use Rattle.semigroups.specs.InnerMaps.{Embedding}
 use Rattle.semigroups.specs.Maps.{isHomomorphism, isEmbedding, isIsomorphism, isomorphisms, reversed, maps, after}
 use Rattle.semigroups.specs.Candidates.{candidate}
 use Rattle.semigroups.specs.Transformations.{transformations, transformationOrder, transformation, numberOf, transformationProduct, transformationCells}
-use Rattle.semigroups.specs.Cases.{two}
+use Rattle.semigroups.specs.Cases.{left, right, two}
 use Rattle.semigroups.specs.ReversedLaws.{ReversedTheorem}
-use Rattle.semigroups.specs.ReversedExamples.{ReversedExamples}
+use Rattle.semigroups.specs.ReversedExamples.{worked as full-list, ReversedExamples}
 use Rattle.semigroups.proofs.Booleans.{same-truth, equal-or-not}
 use Rattle.semigroups.proofs.Lists.{keep-same}
 use Rattle.semigroups.proofs.Tables.{accepted-closed}
 use Rattle.semigroups.proofs.Maps.{is-isomorphism, isomorphism-is, reversed-isomorphism, isomorphism-reversed, reversed-order, maps-increasing, mem-maps, maps-mem, maps-exactly, no-isomorphism}
 use Rattle.semigroups.proofs.Composition.{after-embeds}
 use Rattle.semigroups.proofs.Isomorphisms.{empty-or-as-long}
+use Rattle.semigroups.proofs.Cases.{worked}
 use Rattle.semigroups.proofs.Turned.{Turns, turned-turns, cells-turn, turned-accepted, profile-turned}
 
 -- ---- onto a product that turns the target's
@@ -144,3 +145,39 @@ reversed-theorem =
 examples : ReversedExamples
 unfolding turnedCells two range elements at all keep sum count member distinct earlier lists product grid isElement isHomomorphism isEmbedding isIsomorphism maps after transformations transformationOrder transformation numberOf transformationProduct transformationCells flatMap
 examples = (refl, refl, refl, refl, refl, refl, refl, refl, refl, refl)
+
+-- ---- instances of the composites
+
+left-accepted : Accepted (left .order) (left .cells)
+left-accepted = worked .accepted left (List·Memᴰ·tail (List·Memᴰ·tail (List·Memᴰ·head refl)))
+
+right-accepted : Accepted (right .order) (right .cells)
+right-accepted = worked .accepted right (List·Memᴰ·tail (List·Memᴰ·tail (List·Memᴰ·tail (List·Memᴰ·head refl))))
+
+-- The exchange of two elements, which is the second entry of each full list below.
+abbrev exchange : List ℕ
+exchange = 2 ∷ 1 ∷ []
+
+second : (l : List (List ℕ)) → l ≡ (1 ∷ 2 ∷ []) ∷ exchange ∷ [] → List·Memᴰ exchange l
+second l e = subst (List·Memᴰ exchange) (sym e) (List·Memᴰ·tail (List·Memᴰ·head refl))
+
+-- From left to right and on to left, the exchange twice: two reversed maps make a plain one, the identity.
+twice-reversed : List·Memᴰ (1 ∷ 2 ∷ []) (full-list isomorphisms left left)
+unfolding after at
+twice-reversed =
+    reversed-theorem .composites 2 (left .cells) 2 (right .cells) 2 (left .cells) left-accepted right-accepted left-accepted exchange exchange .both-reversed
+    (second (full-list reversed left right) (examples .0)) (second (full-list reversed right left) (examples .4))
+
+-- From left to left and on to right: a reversed map after a plain one makes a reversed one.
+plain-then-reversed : List·Memᴰ (1 ∷ 2 ∷ []) (full-list reversed left right)
+unfolding after at
+plain-then-reversed =
+    reversed-theorem .composites 2 (left .cells) 2 (left .cells) 2 (right .cells) left-accepted left-accepted right-accepted exchange exchange .reversed-after
+    (second (full-list isomorphisms left left) (examples .3)) (second (full-list reversed left right) (examples .0))
+
+-- From right to left and on to left: a plain map after a reversed one makes a reversed one.
+reversed-then-plain : List·Memᴰ (1 ∷ 2 ∷ []) (full-list reversed right left)
+unfolding after at
+reversed-then-plain =
+    reversed-theorem .composites 2 (right .cells) 2 (left .cells) 2 (left .cells) right-accepted left-accepted left-accepted exchange exchange .reversed-before
+    (second (full-list reversed right left) (examples .4)) (second (full-list isomorphisms left left) (examples .3))

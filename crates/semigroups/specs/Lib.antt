@@ -43,6 +43,7 @@ pub mod InnerSearch
 pub mod InvariantsExamples
 pub mod IsomorphismsLaws
 pub mod LightExamples
+pub mod MistakesExamples
 pub mod PassingLaws
 pub mod ReversedExamples
 pub mod SubsemigroupsExamples

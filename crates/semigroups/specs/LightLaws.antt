@@ -58,3 +58,7 @@ pub record LightsTest (n : ℕ) (cells l : List ℕ) : Type 0 where
 -- What `LightsTest` claims holds for every table that passes questions 1 to 3 with a list that passes questions 50 and 51.
 abbrev pub LightsTheorem : Type 0
 LightsTheorem = (n : ℕ) (cells l : List ℕ) → Filled n cells → Inside n l → Generates n (product n cells) l → LightsTest n cells l
+
+-- For every table that passes questions 1 to 3, an empty list is refused by question 51 (RULES 15.4).
+abbrev pub EmptyRefused : Type 0
+EmptyRefused = (n : ℕ) (cells : List ℕ) → Filled n cells → generatorsRefusal n cells [] ≡ some (no 51 [])

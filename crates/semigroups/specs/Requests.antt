@@ -13,7 +13,7 @@ use Rattle.semigroups.specs.Invariants.{index, period, commuting}
 use Rattle.semigroups.specs.Maps.{embeddings, isomorphisms, reversed}
 use Rattle.semigroups.specs.Candidates.{candidate}
 use Rattle.semigroups.specs.GeneratedLaws.{GeneratedTheorem}
-use Rattle.semigroups.specs.LightLaws.{LightsLaw, LightsTheorem, GeneratorsPass, GeneratorsRefused}
+use Rattle.semigroups.specs.LightLaws.{LightsLaw, LightsTheorem, GeneratorsPass, GeneratorsRefused, EmptyRefused}
 use Rattle.semigroups.specs.Light.{generatorsRefusal}
 use Rattle.semigroups.specs.ReversedLaws.{ReversedTheorem}
 use Rattle.semigroups.specs.SubsemigroupsLaws.{SubsemigroupTheorem}
@@ -28,6 +28,8 @@ pub record TableRequests : Type 1 where
   pub shorter-check : LightsTheorem
   pub generators-pass : (n : ℕ) (cells l : List ℕ) → (generatorsRefusal n cells l ≡ none) ↔ GeneratorsPass n cells l
   pub generators-refused : (n : ℕ) (cells l : List ℕ) (r : Refusal) → (generatorsRefusal n cells l ≡ some r) ↔ GeneratorsRefused n cells l r
+  -- RULES 15.4: an empty list does not pass question 51.
+  pub empty-list : EmptyRefused
   -- RULES 10: reversed isomorphisms: their full lists, their composites, their profiles.
   pub reversed-maps : ReversedTheorem
   -- RULES 8.1: candidates for isomorphisms, plain and reversed, commute with equally many elements; those for embeddings have index and period equal, and

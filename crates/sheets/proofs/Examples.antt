@@ -4,6 +4,7 @@ use mathlib.Core.Path.{_≡_, refl}
 use mathlib.Core.Bool.{true, false}
 use mathlib.Core.List.{[], _∷_, flatMap, flatten}
 use mathlib.Core.Option.{orElse}
+use Prim.Native.Nat.{ℕ}
 use lib.ListN.{replicate}
 use borrow.Author.Tests.{leb-true}
 use Rattle.semigroups.specs.Lists.{all, firstOf}
@@ -17,11 +18,12 @@ use Rattle.sheets.specs.Names.{isName, isNumber, needsQuotes, doubled, n
 use Rattle.sheets.specs.Questions.{rowsQuestions, loadNamesRefusal, namesQuestions, saveNamesRefusal}
 use Rattle.sheets.specs.Calls.{loadNamesAnswer, namesAfter, lengthsAfter, saveNamesAnswer, sheetAfter}
 use Rattle.sheets.specs.InnerAutomaton.{stateAfter, openingStep, bareStep, afterField, isDead, placeFrom, place}
-use Rattle.sheets.specs.RoundsLaws.{SavedNamesLoad, NamesLoadClosed}
+use Rattle.sheets.specs.RoundsLaws.{SavedNamesLoad, NamesLoadClosed, NameBuffers, namesSaved, nameRounds, SheetUnchanged}
 use Rattle.sheets.proofs.Places.{place-offending}
-use Rattle.sheets.proofs.Readings.{same-reading}
+use Rattle.sheets.proofs.Readings.{read, same-reading}
 use Rattle.sheets.proofs.Passing.{save-names-pass, load-keeps}
 use Rattle.sheets.proofs.RoundTrips.{saved-names-load, loads-closed}
+use Rattle.sheets.proofs.Requests.{name-requests}
 
 -- ---- bytes
 
@@ -111,6 +113,15 @@ saved-back : SavedNamesLoad (97 ∷ 34 ∷ 98 ∷ 44 ∷ 92 ∷ 7 ∷ []) (4 ∷
 unfolding saveNamesRefusal namesQuestions firstOf orElse isName isElement all isPrintable namesAt namesText namesTextFrom nameText needsQuotes doubled flatMap numeral numeralWithin flatten
 saved-back =
     saved-names-load (97 ∷ 34 ∷ 98 ∷ 44 ∷ 92 ∷ 7 ∷ []) (4 ∷ 1 ∷ []) (replicate 17 7) (replicate 6 7) (replicate 3 7) (save-names-pass (97 ∷ 34 ∷ 98 ∷ 44 ∷ 92 ∷ 7 ∷ []) (4 ∷ 1 ∷ []) 17 .0 refl) (leb-true 5 6 refl) (leb-true 2 3 refl)
+
+-- Saved, then loaded and saved again, however often: the sheet stays.
+abbrev buffers : NameBuffers
+buffers = record { text = replicate 17 7; size = 0; names = replicate 6 7; lengths = replicate 3 7 }
+
+sheet-stays : (n : ℕ) → SheetUnchanged (namesSaved (97 ∷ 34 ∷ 98 ∷ 44 ∷ 92 ∷ 7 ∷ []) (4 ∷ 1 ∷ []) buffers) (nameRounds read n (namesSaved (97 ∷ 34 ∷ 98 ∷ 44 ∷ 92 ∷ 7 ∷ []) (4 ∷ 1 ∷ []) buffers))
+unfolding saveNamesRefusal namesQuestions firstOf orElse isName isElement all isPrintable namesAt namesText namesTextFrom nameText needsQuotes doubled flatMap numeral numeralWithin flatten
+sheet-stays =
+    name-requests .saved-stays read (97 ∷ 34 ∷ 98 ∷ 44 ∷ 92 ∷ 7 ∷ []) (4 ∷ 1 ∷ []) buffers (save-names-pass (97 ∷ 34 ∷ 98 ∷ 44 ∷ 92 ∷ 7 ∷ []) (4 ∷ 1 ∷ []) 17 .0 refl) (leb-true 5 6 refl) (leb-true 2 3 refl)
 
 -- The sheet above has no last line break, and loads as if it were there.
 sheet-closed : NamesLoadClosed (34 ∷ 49 ∷ 34 ∷ 44 ∷ 34 ∷ 97 ∷ 34 ∷ 34 ∷ 98 ∷ 44 ∷ 34 ∷ 13 ∷ 10 ∷ 50 ∷ 44 ∷ 92 ∷ []) (replicate 6 7) (replicate 3 7)

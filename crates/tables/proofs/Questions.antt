@@ -4,16 +4,15 @@ use mathlib.Core.Bool.{cond, not}
 use mathlib.Core.List.{List, [], _∷_, map}
 use mathlib.Core.Option.{Option, none, some, Option·map, orElse, map-eq-none-iff}
 use Prim.Native.Nat.{ℕ, _+_, _-_, _*_, _≤_, _<_}
-use native.Mathlib.Nat.{mul-le-mul}
 use borrow.Author.Tests.{le-leb, lt-leb, eq-eqb, ne-eqb}
 use lib.Dec.{eqb, leb}
 use lib.ListN.{length, getD}
 use Rattle.semigroups.specs.Lists.{elements, at, firstOf}
-use Rattle.semigroups.specs.Tables.{product, Element, isElement, badCell, badTriple, Filled, Accepted}
+use Rattle.semigroups.specs.Tables.{product, isElement, badCell, badTriple, Accepted}
 use Rattle.semigroups.specs.Scratch.{scratchSize}
 use Rattle.semigroups.specs.Questions.{Question, ask, seek, onSide, Refusal, refusalBy, firstNo, tripleQuestion, cellsQuestions, tableQuestions, tableRefusal, tablesQuestions, searchRefusal}
 use Rattle.semigroups.specs.InnerQuestions.{no, naming, cellsRefusal, tablesRefusal}
-use Rattle.semigroups.proofs.Tables.{place-below, accepted}
+use Rattle.semigroups.proofs.Tables.{accepted}
 use Rattle.semigroups.proofs.Questions.{first-sided, first-append, failed-before, passed-before}
 use Rattle.semigroups.proofs.Completions.{orElse-nothing, orElse-none, find-firstOf, firstFrom, first-start, first-skip, first-hit, first-end}
 

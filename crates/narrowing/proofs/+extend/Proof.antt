@@ -12,7 +12,7 @@ use Rattle.semigroups.specs.TablesLaws.{Closed}
 use Rattle.semigroups.proofs.Tables.{product-element}
 use Rattle.backtrack.specs.declared.Outcome.{Outcome}
 use Rattle.backtrack.proofs.Steps.{lowest}
-use Rattle.narrowing.specs.InnerState.{Due}
+use Rattle.narrowing.specs.InnerState.{due}
 use Rattle.twins.specs.InnerTwins.{sharesLater}
 use Rattle.narrowing.proofs.Extending.{Rest, Turn, Verdict, dead, done-bound, done-found, begins, ends, row-marked, shut, onward, fail, found}
 use Rattle.narrowing.proofs.extend.Reads as extend
@@ -35,7 +35,7 @@ extend-below t = and 5 extend-kinds.ps (falls 5 extend-kinds.ps _<_ μ-extend t)
 
 abbrev extend-Inv-loop : extend-lts.InvT-loop
 extend-Inv-loop source m target n scratch after group tight p alive at low x₀ x =
-    (1 ≤ x) × (x ≤ n + 1) × (low ≡ lowest tight after (p .len)) × (Due (product m source) m (product n target) n scratch after (sharesLater group) tight p ≡ Rest (product m source) m (product n target) n scratch after (sharesLater group) tight p x)
+    (1 ≤ x) × (x ≤ n + 1) × (low ≡ lowest tight after (p .len)) × (due (product m source) m (product n target) n scratch after (sharesLater group) tight p ≡ Rest (product m source) m (product n target) n scratch after (sharesLater group) tight p x)
 
 abbrev extend-μ-loop : extend-lts.MeasureT-loop
 extend-μ-loop source m target n scratch after group tight p alive at low x₀ x = n + 1 - x
