@@ -74,8 +74,19 @@ fn sweep_families(numbers: &mut Numbers) {
     sweep("elementary groups in that of rank 6", (1..6).map(elementary_group), &elementary_group(6));
     let bands = || (1..=10).flat_map(move |i| (1..=12).map(move |j| rectangular_band(i, j)));
     sweep("rectangular bands in that of 10 by 12", bands(), &rectangular_band(10, 12));
-    let flat = [6, 12, 18, 24, 30, 36, 42, 48, 54, 58, 59].map(|columns| rectangular_band(2, columns));
-    sweep("rectangular bands of 2 rows in that of 2 by 60", flat.into_iter(), &rectangular_band(2, 60));
+    let flat = (1..60).map(|columns| rectangular_band(2, columns));
+    sweep("rectangular bands of 2 rows in that of 2 by 60", flat, &rectangular_band(2, 60));
+    sweep("dihedral groups in that of order 120", (1..60).map(dihedral_group), &dihedral_group(60));
+    sweep("Brandt semigroups in that of order 101", (1..10).map(brandt), &brandt(10));
+    let wholes = [
+        ("parts of a Rees matrix semigroup, 3 by 4 over 10", rees(3, 4, 10, numbers)),
+        ("parts of a 3-nilpotent table of order 120", three_nilpotent(60, 59, numbers)),
+        ("parts of what 3 transformations of 5 points generate", generated(5, 3, numbers)),
+    ];
+    for (name, whole) in wholes {
+        let parts: Vec<Table> = (1..whole.order).map(|many| part(&whole, &chosen(many, &whole, numbers))).collect();
+        sweep(name, parts.into_iter(), &whole);
+    }
     let apart = |tables: Vec<Table>, numbers: &mut Numbers| -> Vec<Table> {
         tables.iter().map(|table| shuffled(table, numbers)).collect()
     };
@@ -110,8 +121,8 @@ fn draw_pairs(pairs: u64, seed: u64, numbers: &mut Numbers) {
     for number in 0..pairs {
         let (name, whole) = drawn(numbers);
         let (kind, source) = if numbers.below(2) == 0 {
-            let chosen: Vec<usize> = (0..1 + numbers.below(whole.order)).map(|_| numbers.below(whole.order)).collect();
-            ("a part".to_string(), part(&whole, &chosen))
+            let many = 1 + numbers.below(whole.order);
+            ("a part".to_string(), part(&whole, &chosen(many, &whole, numbers)))
         } else {
             drawn(numbers)
         };
@@ -138,6 +149,11 @@ fn draw_pairs(pairs: u64, seed: u64, numbers: &mut Numbers) {
     for (_, told) in longest {
         println!("{told}");
     }
+}
+
+/// Some elements of a table, counted from 0 and perhaps several times.
+fn chosen(many: usize, table: &Table, numbers: &mut Numbers) -> Vec<usize> {
+    (0..many).map(|_| numbers.below(table.order)).collect()
 }
 
 /// A table of some family, of order at most 120.
