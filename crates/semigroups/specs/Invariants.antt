@@ -73,7 +73,7 @@ commuting n s a = count (λ b. eqb (s a b) (s b a)) (elements n)
 
 -- ---- the profile
 
--- The profile of an element (1603.06204, definition 4.1; RULES 4.5): its index-period and five counts.
+-- The profile of an element: its index-period and five counts, the last of which the paper does not have (1603.06204, definition 4.1; RULES 4.5).
 pub record Profile : Type 0 where
   pub powers : IndexPeriod
   pub frequency : ℕ

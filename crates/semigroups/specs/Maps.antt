@@ -60,7 +60,7 @@ beyond (next b) f = earlier b f
 unfoldable pub earliest : Ask → List (List ℕ) → Option (List ℕ)
 earliest ask l = find (beyond ask) l
 
--- What a search gives: a map is found; or there is none, which is `nothing` here because `none` is a name of the library.
+-- What a search gives: a map is found; or there is none, which is `nothing` here because `none` is a name of the toolchain's library.
 pub data Sought : Type 0 where
   found : Sought
   nothing : Sought

@@ -1,5 +1,5 @@
 -- Cayley tables, called multiplication tables in arXiv 1603.06204, section 2. A table is its order n and its cells row after row.
--- Statements about a semigroup are about an order and a product of elements: a product with its factors exchanged, or a part of a table, is one more instance.
+-- Statements take any order and any product of elements, not cells, so they hold of a product with its factors exchanged, and of a part of a table, too.
 -- Assumes nothing.
 use mathlib.Core.Path.{_≡_}
 use mathlib.Core.Bool.{Bool, _&&_, not}

@@ -1,4 +1,4 @@
--- `put_bytes` copies bytes to a place of a buffer. The loop's invariant: the bytes before place i are written, the others are left.
+-- `put_bytes` copies bytes to a place of a buffer. The loop invariant: the bytes from i on are left to write.
 -- Assumes nothing.
 use Prim.Native.Nat.{_+_, _-_, _≤_}
 use native.Mathlib.Omega.{arith}
