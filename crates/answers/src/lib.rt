@@ -1,4 +1,7 @@
 // The types of the answers about tables, and each refusal as numbers.
+
+#![tactic(auto)]
+
 ghost use Rattle.std.specs.Prelude.{◌≡◌, [], ◌∷◌};
 ghost use Rattle.semigroups.specs.InnerQuestions.{no};
 ghost use Rattle.answers.specs.Answers.{no_refusal, fault_refusal, side_number, refusal_numbers, numbers_naming};

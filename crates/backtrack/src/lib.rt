@@ -1,6 +1,9 @@
 // The backtrack search of arXiv 1603.06204, section 3, over two tables and the candidates marked in a scratch buffer. The call for element i + 1 is made
 // inside the call for element i; to return is to backtrack. A placing is tested by the products of the new element alone: what the pairs placed before it
 // require is kept in the constraints.
+
+#![tactic(auto)]
+
 ghost use Rattle.std.specs.Prelude.{◌≡◌, false, cond, ◌&&◌, not, [], ◌-◌, ◌≤◌, eqb, leb, length, get_or, replicate};
 ghost use Rattle.std.proofs.Math.Option.{none};
 ghost use Rattle.semigroups.specs.Tables.{largest_order, product, Element, Filled};

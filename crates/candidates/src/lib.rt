@@ -1,5 +1,8 @@
 // Candidates and their marks in the scratch buffer. Where a mark stands, and how many bytes the marks take, is known here and in `rows::write_marks` alone.
 // What is compared of an element is packed into one number, its key, once for each element; a pair of elements then takes one comparison.
+
+#![tactic(auto)]
+
 ghost use Rattle.std.specs.Prelude.{◌≡◌, ◌+◌, ◌*◌, ◌≤◌, ◌<◌, length, get_or};
 ghost use Rattle.semigroups.specs.Tables.{largest_order, cell_place, product, Element, Filled};
 ghost use Rattle.semigroups.specs.Invariants.{index_period, profile};

@@ -10,7 +10,7 @@ ghost use Rattle.plain.specs.InnerSaid.{said_of};
 ghost use Rattle.judging.specs.InnerTally.{empty, counted, agreed};
 ghost use Rattle.std.proofs.Math.Option.{none};
 ghost use Rattle.semigroups.specs.Questions.{table_refusal};
-ghost use Rattle.csv.specs.Calls.{load_answer, cells_after as loaded_cells};
+ghost use Rattle.rfc4180.specs.Calls.{load_answer, cells_after as loaded_cells};
 ghost use Rattle.judging.specs.InnerSaid.{same_said};
 ghost use Rattle.cases.specs.InnerEmbedded.{mat5_cells, embedded_tally};
 ghost use Rattle.comparisons.specs.InnerWalking.{walk_calls};

@@ -1,5 +1,8 @@
 // Runs the cases of RULES 23.4, which are only run and not proved, and the thirteen worked ones again. They go through the compiled functions of the library,
 // and a second search, written separately, answers them too. Each group prints how many answers agree and how many differ.
+
+#![tactic(auto)]
+
 mod limits;
 mod printed;
 mod worked;

@@ -1,4 +1,7 @@
 // Which element is placed next among rows: one with a small row and many products that differ from its square.
+
+#![tactic(auto)]
+
 ghost use Rattle.std.specs.Prelude.{◌≡◌, cond, ◌≤◌, eqb};
 ghost use Rattle.semigroups.specs.Tables.{product, Element, Filled};
 ghost use Rattle.choosing.specs.InnerNext.{weight, Costs, rank, better, Open};

@@ -1,6 +1,9 @@
 // Reads 01.csv, 02.csv and so on from the folder that it is run in, and prints which of them hold isomorphic tables, or why a file is refused. Crates
 // `progress` and `classification` prove, from the bytes of the files, which file is read next and what is printed; this file only reads the files and writes
 // the text.
+
+#![tactic(auto)]
+
 use libc::STDOUT_FILENO;
 use progress::{Classifier, file_name};
 use tables::limits::{CELLS, FILE};

@@ -15,8 +15,8 @@ use Rattle.semigroups.specs.Questions.{Refusal}
 use Rattle.semigroups.proofs.Lists.{length_elements, mem_elements, keep_agree}
 use Rattle.semigroups.proofs.Questions.{earliest_no}
 use Rattle.semigroups.proofs.Sums.{count_same, count_map, sum_same}
-use Rattle.csv.specs.Tables.{order_of}
-use Rattle.csv.specs.Records.{rows_text}
+use Rattle.rfc4180.specs.Tables.{order_of}
+use Rattle.rfc4180.specs.Records.{rows_text}
 use Rattle.files.specs.Files.{file_questions, file_refusal, room}
 use Rattle.progress.specs.Classes.{accepted, alike, refused_by, in_class, note_by, file, lowest, note_of, notes_of}
 use Rattle.progress.specs.Output.{is_in, note, names, lowest_files, members, note_records, total_records, notes_text, classes_output}

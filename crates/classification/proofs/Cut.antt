@@ -9,7 +9,7 @@ use lib.ListN.{length, get_or, length-map}
 use Rattle.semigroups.specs.Lists.{elements}
 use Rattle.semigroups.specs.InnerQuestions.{no}
 use Rattle.semigroups.proofs.Booleans.{clash, same_truth}
-use Rattle.csv.specs.Tables.{order_of}
+use Rattle.rfc4180.specs.Tables.{order_of}
 use Rattle.files.specs.Files.{file_refusal, room}
 use Rattle.files.specs.FilesLaws.{first_bytes}
 use Rattle.files.proofs.Length.{Cut, whole, too_much, cut}

@@ -8,10 +8,10 @@ use lib.ListN.{length}
 use Rattle.semigroups.specs.Lists.{range, elements, at, all, find, keep, sum, count, least, first_of, member, distinct, lists}
 use Rattle.semigroups.specs.Tables.{product, is_element, associates, bad_cell, bad_triple}
 use Rattle.semigroups.specs.Maps.{is_homomorphism, is_embedding, is_isomorphism, maps, earliest}
-use Rattle.csv.specs.Decimals.{is_digit, value, value_from, numeral_within, numeral}
-use Rattle.csv.specs.Records.{is_break, onto, records, fields, rows, record_text, line_text, rows_text}
-use Rattle.csv.specs.Tables.{fields_of, order_of, cells_of}
-use Rattle.csv.specs.Questions.{break_at, in_break, is_allowed, first_other, fields_questions, is_square}
+use Rattle.rfc4180.specs.Decimals.{is_digit, value, value_from, numeral_within, numeral}
+use Rattle.rfc4180.specs.Records.{is_break, onto, records, fields, rows, record_text, line_text, rows_text}
+use Rattle.rfc4180.specs.Tables.{fields_of, order_of, cells_of}
+use Rattle.rfc4180.specs.Questions.{break_at, in_break, is_allowed, first_other, fields_questions, is_square}
 use Rattle.files.specs.Files.{file_refusal}
 use Rattle.progress.specs.Classes.{files_from, files_of, accepted, isomorphic, holds_like, alike, file, lowest, note_of, notes_of}
 use Rattle.progress.specs.Output.{note, names, lowest_files, members, total_record, note_records, total_records, notes_text, classes_output}

@@ -16,7 +16,7 @@ use Rattle.semigroups.proofs.Booleans.{clash, both, and_left, and_right}
 use Rattle.semigroups.proofs.Tables as tables
 use Rattle.semigroups.proofs.Maps.{first_earliest, first_none}
 use Rattle.semigroups.proofs.Composition.{identity_embeds, after_embeds, inverse_embeds}
-use Rattle.csv.specs.Tables.{order_of, cells_of}
+use Rattle.rfc4180.specs.Tables.{order_of, cells_of}
 use Rattle.files.specs.Files.{file_refusal, room}
 use Rattle.files.specs.FilesLaws.{FilePasses}
 use Rattle.files.proofs.Files.{file_passes}

@@ -14,7 +14,7 @@ use Rattle.semigroups.specs.Tables.{Element}
 use Rattle.semigroups.specs.Questions.{Refusal}
 use Rattle.semigroups.proofs.Booleans.{both}
 use Rattle.semigroups.proofs.Lists.{mem_elements, length_snoc, range_snoc}
-use Rattle.csv.specs.Tables.{order_of}
+use Rattle.rfc4180.specs.Tables.{order_of}
 use Rattle.files.specs.Files.{file_refusal, room}
 use Rattle.progress.specs.Classes.{accepted, alike, Note, refused_by, in_class, note_by, file, lowest, note_of, notes_of}
 use Rattle.progress.specs.Output.{names}

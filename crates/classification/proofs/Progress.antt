@@ -15,7 +15,7 @@ use Rattle.semigroups.specs.Tables.{Element, Accepted}
 use Rattle.semigroups.specs.Questions.{Refusal}
 use Rattle.semigroups.proofs.Booleans.{clash, both, and_right, equal_or_not, at_most_or_above, impossible}
 use Rattle.semigroups.proofs.Lists.{length_snoc}
-use Rattle.csv.specs.Tables.{order_of, cells_of}
+use Rattle.rfc4180.specs.Tables.{order_of, cells_of}
 use Rattle.files.specs.Files.{file_refusal, room}
 use Rattle.progress.specs.Classes.{Folder, most_files, opened, files_from, files_of, accepted, holds_like, alike, Note, refused_by, in_class, file, lowest, notes_of}
 use Rattle.progress.specs.Output.{note, names, notes_text, classes_output, folder_output}

@@ -11,7 +11,7 @@ use lib.ListN.{length, take}
 use Rattle.semigroups.specs.Tables.{Element, Accepted}
 use Rattle.semigroups.specs.Questions.{Refusal}
 use Rattle.semigroups.specs.Calls.{refused, gives}
-use Rattle.csv.specs.Tables.{order_of, cells_of}
+use Rattle.rfc4180.specs.Tables.{order_of, cells_of}
 use Rattle.files.specs.Files.{file_refusal, room}
 use Rattle.files.specs.Answers.{file_answer}
 use Rattle.files.proofs.Files.{Holds, accepted_file, refused_file}

@@ -11,10 +11,10 @@ use lib.Seq.{sets}
 use Rattle.semigroups.specs.Lists.{range, elements, keep}
 use Rattle.semigroups.specs.Tables.{Element}
 use Rattle.semigroups.specs.Calls.{overwritten}
-use Rattle.csv.specs.Decimals.{numeral}
-use Rattle.csv.specs.Records.{record_text, line_text, rows_text}
-use Rattle.csv.proofs.Decimals.{digits_few}
-use Rattle.csv.proofs.Writing.{Writing, write_first, write_room, write_last, sets_overwritten}
+use Rattle.rfc4180.specs.Decimals.{numeral}
+use Rattle.rfc4180.specs.Records.{record_text, line_text, rows_text}
+use Rattle.rfc4180.proofs.Decimals.{digits_few}
+use Rattle.rfc4180.proofs.Writing.{Writing, write_first, write_room, write_last, sets_overwritten}
 use Rattle.lines.proofs.Lines.{written}
 use Rattle.lines.proofs.Records.{record_three, fields_length, line_more, line_short, line_written}
 use Rattle.progress.specs.Classes.{Note, refused_by, in_class}

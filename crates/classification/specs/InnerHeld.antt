@@ -1,6 +1,6 @@
 -- The total of one class, as the code writes it. No contract of an entry point cites this. Assumes nothing.
 use Rattle.std.specs.Prelude.{cond, List, [], ℕ}
-use Rattle.csv.specs.Records.{line_text}
+use Rattle.rfc4180.specs.Records.{line_text}
 use Rattle.progress.specs.Classes.{Note}
 use Rattle.progress.specs.Output.{names, total_record}
 

@@ -9,7 +9,7 @@ use Rattle.semigroups.specs.Tables.{product, Element}
 use Rattle.semigroups.specs.Questions.{Refusal}
 use Rattle.semigroups.specs.QuestionsLaws.{EarliestNo}
 use Rattle.semigroups.specs.MapsLaws.{Isomorphism}
-use Rattle.csv.specs.Tables.{order_of, cells_of}
+use Rattle.rfc4180.specs.Tables.{order_of, cells_of}
 use Rattle.files.specs.Files.{file_questions, file_refusal, room}
 use Rattle.files.specs.FilesLaws.{FilePasses, first_bytes}
 use Rattle.progress.specs.Classes.{Folder, accepted, refused_by, in_class, file, lowest, note_of, notes_of}

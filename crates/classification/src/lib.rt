@@ -1,11 +1,14 @@
 // Which files hold isomorphic tables: the program `classes`, from the bytes of its files to the bytes that it prints. It holds two tables at a time. `step`
 // takes the bytes of the file that `progress` wants next, and `put` writes the whole output from what was noted of each file.
+
+#![tactic(auto)]
+
 ghost use Rattle.std.specs.Prelude.{◌≡◌, List, ℕ, ◌+◌, ◌*◌, ◌≤◌, ◌<◌, length, take, drop};
 ghost use Rattle.std.proofs.lemmas.List.Edits.{sets};
 ghost use Rattle.semigroups.specs.Tables.{largest_order, Accepted};
 ghost use Rattle.semigroups.specs.Calls.{overwritten};
-ghost use Rattle.csv.specs.Records.{line_text, rows_text};
-ghost use Rattle.csv.specs.Calls.{cells_after};
+ghost use Rattle.rfc4180.specs.Records.{line_text, rows_text};
+ghost use Rattle.rfc4180.specs.Calls.{cells_after};
 ghost use Rattle.files.specs.Files.{file_refusal, room};
 ghost use Rattle.progress.specs.Classes as classes;
 ghost use Rattle.progress.specs.Output as output;

@@ -1,6 +1,9 @@
 // The constraints by which the backtrack search of arXiv 1603.06204, section 3, tests a placing through the products of the new element alone: forced[c] is
 // the target element that the placed pairs require as the image of source element c, and owner[y] is the source element for which they reserve target element
 // y. Both are 0 where nothing is required, and 255, which is no element, where two different values are. Place 0 stands for no element.
+
+#![tactic(auto)]
+
 ghost use Rattle.std.specs.Prelude.{◌≡◌, true, false, ◌&&◌, [], ◌∷◌, ◌++◌, ℕ, ◌+◌, ◌-◌, ◌≤◌, ◌<◌, length, get_or, take};
 ghost use Rattle.semigroups.specs.Lists.{at, member};
 ghost use Rattle.semigroups.specs.Tables.{largest_order, Product, product, Element, Filled};

@@ -1,5 +1,8 @@
 // How often an element stands among the cells of a table, in its row and in its column, and how many elements commute with it (arXiv 1603.06204, section 4;
 // RULES 4.5): for one element, or for all elements of a table.
+
+#![tactic(auto)]
+
 ghost use Rattle.std.specs.Prelude.{◌≡◌};
 ghost use Rattle.semigroups.specs.Tables.{product, Element, Filled};
 ghost use Rattle.semigroups.specs.Invariants.{row_frequency, column_frequency, commuting};

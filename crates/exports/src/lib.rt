@@ -1,6 +1,9 @@
 // The library's entry points for programs in C and Rust: numbers and lent slices of any content. Each writes sixteen numbers to `answer`: the number of
 // the earliest failed question, or 0; the side that a refusal names, 1 for source or 2 for target, or 0; then the values of the answer, and zeros. A refused
 // call changes no other byte. A search or a count of copies that is not refused leaves the marks of the candidates at the start of `scratch`.
+
+#![tactic(auto)]
+
 ghost use Rattle.std.specs.Prelude.{◌≡◌, length};
 ghost use Rattle.semigroups.specs.Tables.{product};
 ghost use Rattle.semigroups.specs.Invariants.{index_period, profile};
@@ -15,7 +18,7 @@ ghost use Rattle.calls.specs.Calls.{lend, call, called};
 ghost use Rattle.calls.specs.Limited.{limited_call};
 ghost use Rattle.calls.specs.Among.{call_among};
 ghost use Rattle.transformations.specs.Calls.{transformation_says, transformation_cells_after};
-ghost use Rattle.csv.specs.Calls.{load_answer, cells_after, save_answer, text_after};
+ghost use Rattle.rfc4180.specs.Calls.{load_answer, cells_after, save_answer, text_after};
 ghost use Rattle.numbers.specs.Numbers.{question_words, answer_words, index_period_values, profile_values, checked_values, sought_values, limited_values, number_values, degree_values, copies_values};
 ghost use Rattle.numbers.specs.Returned.{words_of};
 ghost use Rattle.planning.specs.Calls.{degree_says, positions_after};

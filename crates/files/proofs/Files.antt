@@ -15,15 +15,15 @@ use Rattle.semigroups.proofs.Lists.{element_is}
 use Rattle.semigroups.proofs.Tables.{accepted}
 use Rattle.semigroups.proofs.Passing.{table_passes}
 use Rattle.semigroups.proofs.Questions.{all_passed, failed_before, passed_before, both_passed}
-use Rattle.csv.specs.Tables.{order_of, cells_of}
-use Rattle.csv.specs.Questions.{load_questions, load_refusal}
+use Rattle.rfc4180.specs.Tables.{order_of, cells_of}
+use Rattle.rfc4180.specs.Questions.{load_questions, load_refusal}
 use Rattle.semigroups.specs.Calls.{Answer, refused, gives, given_unless}
 use Rattle.semigroups.proofs.Calls.{gives_ne_refused}
-use Rattle.csv.specs.Calls.{load_answer, cells_after}
-use Rattle.csv.proofs.Passing.{load_passes}
-use Rattle.csv.proofs.Loading.{cells_length, load_passed}
-use Rattle.csv.proofs.Accepted.{first_row}
-use Rattle.csv.proofs.RoundTrips.{given_passed, loads_given}
+use Rattle.rfc4180.specs.Calls.{load_answer, cells_after}
+use Rattle.rfc4180.proofs.Passing.{load_passes}
+use Rattle.rfc4180.proofs.Loading.{cells_length, load_passed}
+use Rattle.rfc4180.proofs.Accepted.{first_row}
+use Rattle.rfc4180.proofs.RoundTrips.{given_passed, loads_given}
 use denote.Enum.Declared.{tag_of}
 use types.Run.{OneOf, miss}
 use Rattle.answers.specs.Answers.{no_refusal, numbered_says}

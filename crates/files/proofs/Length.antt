@@ -9,7 +9,7 @@ use lib.ListN.{length, take}
 use lib.Seq.{length-take-le, take_all}
 use Rattle.semigroups.specs.InnerQuestions.{no}
 use Rattle.semigroups.proofs.Booleans.{at_most_or_above}
-use Rattle.csv.proofs.Loading.{too_short, too_long}
+use Rattle.rfc4180.proofs.Loading.{too_short, too_long}
 use Rattle.files.specs.Files.{file_refusal, room}
 use Rattle.files.proofs.Files.{loading_refused}
 

@@ -16,9 +16,9 @@ use Rattle.semigroups.proofs.Questions.{Listed, listed, listed_append}
 use Rattle.answers.specs.Answers.{numbered_says}
 use Rattle.answers.specs.declared.Numbered.{Numbered}
 use Rattle.products.proofs.Products.{square_small}
-use Rattle.csv.specs.Tables.{order_of}
-use Rattle.csv.specs.Questions.{size_questions, load_questions}
-use Rattle.csv.proofs.Loading.{load_listed}
+use Rattle.rfc4180.specs.Tables.{order_of}
+use Rattle.rfc4180.specs.Questions.{size_questions, load_questions}
+use Rattle.rfc4180.proofs.Loading.{load_listed}
 use Rattle.files.specs.Files.{loaded_questions, file_questions, file_refusal, room}
 use Rattle.files.specs.Answers.{file_answer, failed_number}
 use Rattle.files.specs.Rules.{file_numbers}

@@ -1,7 +1,7 @@
 -- What the function that asks the questions about a file answers (RULES 21.1). Assumes nothing.
 use Rattle.std.specs.Prelude.{List, ℕ, length}
 use Rattle.semigroups.specs.Calls.{Answer, refused, gives, given_unless}
-use Rattle.csv.specs.Tables.{order_of}
+use Rattle.rfc4180.specs.Tables.{order_of}
 use Rattle.files.specs.Files.{file_refusal}
 
 -- The number of the question that fails, or 0 if none fails.

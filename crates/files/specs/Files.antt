@@ -3,8 +3,8 @@ use Rattle.std.specs.Prelude.{List, [], ◌∷◌, ◌++◌, ℕ, ◌*◌}
 use Rattle.std.proofs.Math.Option.{Option}
 use Rattle.semigroups.specs.Tables.{largest_order}
 use Rattle.semigroups.specs.Questions.{Question, Refusal, first_no, cell_question, triple_question}
-use Rattle.csv.specs.Tables.{order_of, cells_of}
-use Rattle.csv.specs.Questions.{load_questions}
+use Rattle.rfc4180.specs.Tables.{order_of, cells_of}
+use Rattle.rfc4180.specs.Questions.{load_questions}
 
 -- The questions about the table of a file that loads: 3, is every cell 1 to n? Then 4, is the table associative?
 abbrev pub loaded_questions : List ℕ → List Question

@@ -2,9 +2,9 @@
 -- Assumes nothing.
 use Rattle.std.specs.Prelude.{List, ℕ, ◌+◌, take}
 use Rattle.semigroups.specs.Tables.{Accepted}
-use Rattle.csv.specs.Tables.{order_of, cells_of}
-use Rattle.csv.specs.Questions.{longest_text}
-use Rattle.csv.specs.PassingLaws.{LoadPasses}
+use Rattle.rfc4180.specs.Tables.{order_of, cells_of}
+use Rattle.rfc4180.specs.Questions.{longest_text}
+use Rattle.rfc4180.specs.PassingLaws.{LoadPasses}
 
 -- What passes the questions about a file: it loads, and its table is accepted.
 pub record FilePasses (t : List ℕ) (room : ℕ) : Type 0 where

@@ -4,7 +4,7 @@ use Rattle.std.proofs.Math.Option.{none, some}
 use Rattle.semigroups.specs.Lists.{member}
 use Rattle.semigroups.specs.Questions.{Refusal}
 use Rattle.semigroups.specs.InnerQuestions.{no}
-use Rattle.csv.specs.Questions.{longest_text}
+use Rattle.rfc4180.specs.Questions.{longest_text}
 use Rattle.files.specs.Files.{file_refusal, room}
 use Rattle.files.specs.FilesLaws.{FilePasses, first_bytes}
 

@@ -1,7 +1,10 @@
 // The questions about a file that holds a table: its bytes are loaded as text, and the table is checked.
+
+#![tactic(auto)]
+
 ghost use Rattle.std.specs.Prelude.{◌≡◌};
 ghost use Rattle.answers.specs.Answers.{numbered_says};
-ghost use Rattle.csv.specs.Calls.{cells_after};
+ghost use Rattle.rfc4180.specs.Calls.{cells_after};
 ghost use Rattle.files.specs.Answers.{file_answer, failed_number};
 
 use tables::{Numbered, Verdict};

@@ -1,5 +1,8 @@
 // What a list of elements generates: the smallest set that contains the list and every product of its own members. `check` is the shorter check of a table
 // whose generators are known. It takes cells, an order and a list of any content; the first "no" is the answer.
+
+#![tactic(auto)]
+
 ghost use Rattle.std.specs.Prelude.{◌≡◌, ◌<◌, length, take};
 ghost use Rattle.std.proofs.Math.Option.{map};
 ghost use Rattle.semigroups.specs.Tables.{largest_order, Filled, product};

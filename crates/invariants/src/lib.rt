@@ -1,6 +1,9 @@
 // Invariants of the elements of a table (arXiv 1603.06204, sections 3 and 4; RULES 4): index, period and idempotent power, and the profile. `index_period`
 // and `profile` answer for one element; cells, order and element may have any content, and the questions about them are asked first. `all_index_period_keys`
 // returns the index and the period of every element, for cells that fill a table.
+
+#![tactic(auto)]
+
 ghost use Rattle.std.specs.Prelude.{◌≡◌};
 ghost use Rattle.semigroups.specs.Tables.{product, Element, Filled, Associative};
 ghost use Rattle.semigroups.specs.Questions.{element_refusal};

@@ -8,13 +8,13 @@ use borrow.Author.Tests.{lt-ltb, le-ltb}
 use lib.Dec.{ltb}
 use lib.ListN.{length, drop, set, length-append}
 use lib.Seq.{sets}
-use Rattle.csv.specs.Decimals.{numeral_within}
-use Rattle.csv.proofs.Writing.{write_first, write_last, sets_overwritten}
+use Rattle.rfc4180.specs.Decimals.{numeral_within}
+use Rattle.rfc4180.proofs.Writing.{write_first, write_last, sets_overwritten}
 use Rattle.lines.proofs.Lines.{written}
 use Rattle.judging.specs.InnerTally.{decimal, colon, agree_word, differ_word, tally_line}
 use Rattle.judging.specs.declared.tally.Tally.{Tally}
 use Rattle.semigroups.specs.Calls.{overwritten}
-use Rattle.csv.proofs.Decimals.{numeral_short}
+use Rattle.rfc4180.proofs.Decimals.{numeral_short}
 
 pub one_digit : (k : ℕ) → k < 10 → decimal k ≡ (48 + k) ∷ []
 unfolding numeral_within

@@ -1,6 +1,6 @@
 -- The tally of a group's comparisons, and the line that prints it. Assumes nothing.
 use Rattle.std.specs.Prelude.{Bool, true, false, cond, List, [], ◌∷◌, ◌++◌, ℕ, zero, suc, ◌+◌, eqb}
-use Rattle.csv.specs.Decimals.{numeral_within}
+use Rattle.rfc4180.specs.Decimals.{numeral_within}
 use Rattle.judging.specs.declared.tally.Tally.{Tally}
 
 -- The tally before anything is compared.

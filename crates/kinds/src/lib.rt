@@ -1,6 +1,9 @@
 // Searches by kind between accepted tables, for callers that have asked the questions: the first map of a kind, or the next one after the bytes of the map
 // buffer, with or without a limit of trials; and the first or the next embedding among given pairs. A reversed isomorphism is searched for as an isomorphism
 // onto the target with rows and columns exchanged.
+
+#![tactic(auto)]
+
 ghost use Rattle.std.specs.Prelude.{◌≡◌, cond, ◌*◌, ◌≤◌, length, take};
 ghost use Rattle.semigroups.specs.InnerSearch.{plain_kind};
 ghost use Rattle.semigroups.specs.Tables.{Filled, Accepted, largest_order};

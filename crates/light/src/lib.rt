@@ -1,6 +1,9 @@
 // Question 4 by Light's associativity test. Elements that generate the whole table are chosen, the rarest first; if few are enough, only the triples whose
 // middle is one of them are looked at. A "no" says that some triple does not associate, but not which one is first: `associative` in crate `tables` looks for
 // that.
+
+#![tactic(auto)]
+
 ghost use Rattle.std.specs.Prelude.{◌≡◌, map, ◌-◌, ◌≤◌, ◌<◌, length, take, drop, get_or};
 ghost use Rattle.semigroups.specs.Lists.{elements, all};
 ghost use Rattle.semigroups.specs.Tables.{largest_order, Element, Filled, product};

@@ -6,8 +6,8 @@ use native.Mathlib.Numerals.{add-one}
 use native.Mathlib.Omega.{arith}
 use lib.ListN.{length, drop, get_or, set, drop_of_length-le}
 use lib.Seq.{sets, drop-cons}
-use Rattle.csv.specs.Records.{record_text, line_text}
-use Rattle.csv.proofs.Writing.{Writing, write_first, write_next, write_last}
+use Rattle.rfc4180.specs.Records.{record_text, line_text}
+use Rattle.rfc4180.proofs.Writing.{Writing, write_first, write_next, write_last}
 
 -- The next piece is written.
 pub written : {before whole left now : List ℕ} {start at : ℕ} → Writing before start whole left now at → (p q : List ℕ) → left ≡ p ++ q

@@ -5,10 +5,10 @@ use Prim.Native.Nat.{ℕ, ◌+◌, ◌≤◌}
 use native.Mathlib.Omega.{arith}
 use lib.ListN.{length, length-append}
 use lib.Seq.{sets}
-use Rattle.csv.specs.Decimals.{numeral}
-use Rattle.csv.specs.Records.{record_text, line_text}
-use Rattle.csv.proofs.Decimals.{digits_few}
-use Rattle.csv.proofs.Writing.{write_first, write_last}
+use Rattle.rfc4180.specs.Decimals.{numeral}
+use Rattle.rfc4180.specs.Records.{record_text, line_text}
+use Rattle.rfc4180.proofs.Decimals.{digits_few}
+use Rattle.rfc4180.proofs.Writing.{write_first, write_last}
 use Rattle.lines.proofs.Lines.{written}
 
 pub record_three : (a b c : List ℕ) → record_text (a ∷ b ∷ c ∷ []) ≡ a ++ ((44 ∷ b) ++ (44 ∷ c))

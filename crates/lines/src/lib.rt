@@ -1,9 +1,12 @@
 // The pieces of RFC 4180 lines, each written at a given place of a lent buffer: bytes, a decimal number, a field after a comma, a line break, a record of a
 // word and two numbers. Each function returns the place after what it wrote, and changes no other byte. `digit_count` returns how many digits a number has.
+
+#![tactic(auto)]
+
 ghost use Rattle.std.specs.Prelude.{◌≡◌, ◌∷◌, [], ◌+◌, ◌≤◌, ◌<◌, length};
 ghost use Rattle.std.proofs.lemmas.List.Edits.{sets};
-ghost use Rattle.csv.specs.Decimals.{numeral};
-ghost use Rattle.csv.specs.Records.{record_text, line_text};
+ghost use Rattle.rfc4180.specs.Decimals.{numeral};
+ghost use Rattle.rfc4180.specs.Records.{record_text, line_text};
 
 // Returns how many digits k has in decimal.
 pub fn digit_count(k: usize) -> usize

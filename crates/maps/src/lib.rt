@@ -1,5 +1,8 @@
 // The map check: whether m bytes are an embedding of one table in another; if not, their earliest fault. Tables and bytes may have any content; a call is
 // refused by the first question that fails. `embeds` is the check without the questions; `write_images` writes a map that was found.
+
+#![tactic(auto)]
+
 ghost use Rattle.std.specs.Prelude.{◌≡◌, ℕ, ◌≤◌, length, take};
 ghost use Rattle.semigroups.specs.Lists.{at};
 ghost use Rattle.semigroups.specs.Tables.{largest_order, Product, Element, Filled, product};

@@ -1,4 +1,7 @@
 // The marks of a search in the scratch buffer: those of the candidates for embeddings or isomorphisms, and those of the candidates that given pairs allow.
+
+#![tactic(auto)]
+
 ghost use Rattle.std.specs.Prelude.{◌≡◌, ◌≤◌, length};
 ghost use Rattle.semigroups.specs.InnerSearch.{plain_kind};
 ghost use Rattle.semigroups.specs.Tables.{product, Accepted};

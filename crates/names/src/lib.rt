@@ -1,6 +1,9 @@
 // Name sheets: a record for each name, which holds its number and the name, as RFC 4180 text with quoted fields. In memory the names stand one after another
 // in one buffer, and their lengths, a byte each, in another. `load` asks questions 40, 42, 41 and 27 of a text, `save` asks 42, 41 and 28; a refusal changes
 // no byte. The definitions that the contracts cite, and the proof that loading and saving undo each other, are in the crate `sheets`.
+
+#![tactic(auto)]
+
 ghost use Rattle.std.specs.Prelude.{◌≡◌, ◌+◌, ◌≤◌, length, take, drop, replicate};
 ghost use mathlib.Core.List.{map, flatten};
 ghost use Rattle.std.proofs.lemmas.List.Edits.{sets};

@@ -1,5 +1,8 @@
 // How many elements form each pattern with a given one, and rows without the elements that have too few such neighbours: an embedding sends the neighbours of
 // an element to neighbours of its image, of the same pattern.
+
+#![tactic(auto)]
+
 ghost use Rattle.std.specs.Prelude.{◌≡◌, ◌&&◌, ◌+◌, ◌≤◌};
 ghost use Rattle.semigroups.specs.Tables.{product, Element, Filled};
 ghost use Rattle.rows.specs.InnerRows.{in_row, word, packed_row, kept_rows};

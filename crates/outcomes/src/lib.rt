@@ -1,5 +1,8 @@
 // The answers of searches and about least degrees as sixteen numbers, for programs in C and Rust: the number of the earliest failed question, or 0; the side
 // that a refusal names, 1 for source or 2 for target, or 0; then the values of the answer, and zeros.
+
+#![tactic(auto)]
+
 ghost use Rattle.std.specs.Prelude.{◌≡◌};
 ghost use Rattle.search.specs.Answers.{search_answer_says, limited_answer_says};
 ghost use Rattle.planning.specs.Answers.{degree_answer_says};

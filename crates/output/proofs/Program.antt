@@ -11,10 +11,10 @@ use Rattle.semigroups.specs.Tables.{product, is_element, associates, bad_cell, b
 use Rattle.semigroups.specs.Questions.{Refusal}
 use Rattle.semigroups.specs.InnerQuestions.{no}
 use Rattle.semigroups.specs.Maps.{is_homomorphism, is_embedding, maps, earliest}
-use Rattle.csv.specs.Decimals.{is_digit, value, value_from, numeral_within, numeral}
-use Rattle.csv.specs.Records.{is_break, onto, records, fields, rows, record_text, line_text, rows_text}
-use Rattle.csv.specs.Tables.{fields_of, order_of, cells_of}
-use Rattle.csv.specs.Questions.{break_at, in_break, is_allowed, first_other, fields_questions, is_square}
+use Rattle.rfc4180.specs.Decimals.{is_digit, value, value_from, numeral_within, numeral}
+use Rattle.rfc4180.specs.Records.{is_break, onto, records, fields, rows, record_text, line_text, rows_text}
+use Rattle.rfc4180.specs.Tables.{fields_of, order_of, cells_of}
+use Rattle.rfc4180.specs.Questions.{break_at, in_break, is_allowed, first_other, fields_questions, is_square}
 use Rattle.semigroups.specs.Calls.{refused, overwritten}
 use Rattle.output.specs.Records.{first_record, pair_record, pair_records, found_records, refused_records}
 use Rattle.files.specs.Files.{file_refusal, room}

@@ -9,11 +9,11 @@ use lib.ListN.{length, get_or, length-append}
 use lib.Seq.{sets}
 use Rattle.semigroups.specs.Lists.{range, elements, at}
 use Rattle.semigroups.specs.Questions.{Refusal}
-use Rattle.csv.specs.Decimals.{numeral}
-use Rattle.csv.specs.Records.{line_text, rows_text}
+use Rattle.rfc4180.specs.Decimals.{numeral}
+use Rattle.rfc4180.specs.Records.{line_text, rows_text}
 use Rattle.semigroups.specs.Calls.{overwritten}
-use Rattle.csv.proofs.Decimals.{digits_few}
-use Rattle.csv.proofs.Writing.{Writing, write_first, write_last, sets_overwritten}
+use Rattle.rfc4180.proofs.Decimals.{digits_few}
+use Rattle.rfc4180.proofs.Writing.{Writing, write_first, write_last, sets_overwritten}
 use Rattle.lines.proofs.Lines.{written, two_fields}
 use Rattle.lines.proofs.Records.{line_short}
 use Rattle.files.specs.Files.{refused_word}

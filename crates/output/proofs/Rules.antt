@@ -6,10 +6,10 @@ use Prim.Native.Nat.{ℕ}
 use Rattle.semigroups.specs.Lists.{range, elements, at, all, find, first_of, lists}
 use Rattle.semigroups.specs.Tables.{product, is_element, associates, bad_cell, bad_triple}
 use Rattle.semigroups.specs.InnerQuestions.{no}
-use Rattle.csv.specs.Decimals.{is_digit, value, value_from}
-use Rattle.csv.specs.Records.{is_break, onto, records, fields, rows, rows_text}
-use Rattle.csv.specs.Tables.{fields_of, order_of, cells_of}
-use Rattle.csv.specs.Questions.{break_at, in_break, is_allowed, first_other, fields_questions, is_square}
+use Rattle.rfc4180.specs.Decimals.{is_digit, value, value_from}
+use Rattle.rfc4180.specs.Records.{is_break, onto, records, fields, rows, rows_text}
+use Rattle.rfc4180.specs.Tables.{fields_of, order_of, cells_of}
+use Rattle.rfc4180.specs.Questions.{break_at, in_break, is_allowed, first_other, fields_questions, is_square}
 use Rattle.files.specs.Files.{file_refusal, room}
 use Rattle.files.proofs.Rules.{file_rules}
 use Rattle.output.specs.Records.{refused_records}

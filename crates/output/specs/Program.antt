@@ -5,8 +5,8 @@ use Rattle.std.proofs.Math.Option.{Option, none, some}
 use Rattle.semigroups.specs.Tables.{product}
 use Rattle.semigroups.specs.Questions.{Refusal}
 use Rattle.semigroups.specs.Maps.{embeddings, maps, first, earliest}
-use Rattle.csv.specs.Records.{rows_text}
-use Rattle.csv.specs.Tables.{order_of, cells_of}
+use Rattle.rfc4180.specs.Records.{rows_text}
+use Rattle.rfc4180.specs.Tables.{order_of, cells_of}
 use Rattle.output.specs.Records.{none_word, first_record, found_records, refused_records}
 use Rattle.files.specs.Files.{file_refusal, room}
 

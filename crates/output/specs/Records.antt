@@ -1,9 +1,9 @@
--- What the program prints, record by record (RULES 21.3). As text the records follow RFC 4180 (Records of crate csv).
+-- What the program prints, record by record (RULES 21.3). As text the records follow RFC 4180 (Records of crate rfc4180).
 -- Assumes nothing.
 use Rattle.std.specs.Prelude.{List, [], ◌∷◌, map, ℕ}
 use Rattle.semigroups.specs.Lists.{elements, at}
 use Rattle.semigroups.specs.Questions.{Refusal}
-use Rattle.csv.specs.Decimals.{numeral}
+use Rattle.rfc4180.specs.Decimals.{numeral}
 use Rattle.files.specs.Files.{refused_word}
 
 -- ---- the words of the first record, as bytes

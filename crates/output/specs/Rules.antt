@@ -2,8 +2,8 @@
 use Rattle.std.specs.Prelude.{◌≡◌, List, ℕ}
 use Rattle.std.proofs.Math.Option.{none, some}
 use Rattle.semigroups.specs.Questions.{Refusal}
-use Rattle.csv.specs.Records.{rows_text}
-use Rattle.csv.specs.Tables.{order_of, cells_of}
+use Rattle.rfc4180.specs.Records.{rows_text}
+use Rattle.rfc4180.specs.Tables.{order_of, cells_of}
 use Rattle.files.specs.Files.{file_refusal, room}
 use Rattle.output.specs.Records.{refused_records}
 use Rattle.output.specs.Program.{answer_records, recue_output}

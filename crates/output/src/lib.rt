@@ -1,11 +1,14 @@
 // The program `recue`, from the bytes of its two files to the bytes that it prints: RFC 4180 text, whose first record begins with found, none or refused;
 // after found there is a record for each source element.
+
+#![tactic(auto)]
+
 ghost use Rattle.std.specs.Prelude.{◌≡◌, ◌∷◌, [], ◌+◌, ◌*◌, ◌≤◌, ◌<◌, length};
 ghost use Rattle.std.proofs.lemmas.List.Edits.{sets};
 ghost use Rattle.semigroups.specs.Tables.{largest_order, Accepted};
 ghost use Rattle.semigroups.specs.Calls.{overwritten};
-ghost use Rattle.csv.specs.Decimals.{numeral};
-ghost use Rattle.csv.specs.Records.{line_text, rows_text};
+ghost use Rattle.rfc4180.specs.Decimals.{numeral};
+ghost use Rattle.rfc4180.specs.Records.{line_text, rows_text};
 ghost use Rattle.output.specs.Records.{first_record, pair_records, found_records};
 ghost use Rattle.output.specs.Program.{answer_records, recue_output};
 ghost use Rattle.output.specs.InnerLength.{longest_output};

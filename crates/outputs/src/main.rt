@@ -1,6 +1,9 @@
 // Prints the whole output of recue for files with given bytes: found, none, every refusal that either file can get, and texts at the limit of 57,720 bytes. The
 // expected output is in the file stdout, worked out by hand from the rules. The text of 121 records with 121 fields, which is too long to be written here,
 // comes from standard input.
+
+#![tactic(auto)]
+
 ghost use Rattle.std.specs.Prelude.{◌≡◌, [], ◌∷◌, length};
 ghost use Rattle.output.specs.Program.{recue_output};
 

@@ -1,5 +1,8 @@
 // What a list of elements generates, as a table of its own. Cells, order and list may have any content; the first "no" is the answer, and the buffers then keep
 // their bytes.
+
+#![tactic(auto)]
+
 ghost use Rattle.std.specs.Prelude.{◌≡◌, ◌*◌, ◌≤◌, length, take};
 ghost use Rattle.semigroups.specs.InnerLists.{NoRepeats};
 ghost use Rattle.semigroups.specs.Tables.{largest_order, Filled, product};

@@ -1,5 +1,8 @@
 // A map that is placed image by image (RULES 9.1): each placing is tested by the products of the new element alone, since what the pairs placed before it
 // require is kept in the constraints.
+
+#![tactic(auto)]
+
 ghost use Rattle.std.specs.Prelude.{◌≡◌, true, false, [], ◌∷◌, ◌++◌, ℕ, ◌+◌, ◌-◌, ◌≤◌, ◌<◌, take, set};
 ghost use Rattle.semigroups.specs.Lists.{member};
 ghost use Rattle.semigroups.specs.Tables.{largest_order, product, Element, Filled};

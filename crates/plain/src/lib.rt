@@ -1,4 +1,7 @@
 // A second search, written separately: it enumerates all lists and shares no function with the library.
+
+#![tactic(auto)]
+
 ghost use Rattle.std.specs.Prelude.{◌≡◌, ◌&&◌, ◌++◌, ◌^◌, ◌≤◌, ◌<◌, length, drop, replicate};
 ghost use Rattle.std.proofs.Math.Option;
 ghost use Rattle.std.proofs.Math.Option.{get_or};

@@ -1,6 +1,9 @@
 // The fewest rest positions of a table: the least degree from 1 to 3 whose table of all transformations holds an embedding, and the landing positions of each
 // element under the first one. The tables come from `transformations` and the embeddings from `kinds`; only their contracts are used. Table and buffer may
 // have any content; the first "no" is the answer, and the buffer then keeps its bytes.
+
+#![tactic(auto)]
+
 ghost use Rattle.std.specs.Prelude.{◌≡◌, cond, ◌*◌, ◌≤◌, length};
 ghost use Rattle.std.proofs.Math.Option.{none, some, get_or};
 ghost use Rattle.semigroups.specs.Lists.{at};

@@ -1,4 +1,7 @@
 // The products of a table, given as an order and cells; how often each element occurs; a table with rows and columns exchanged.
+
+#![tactic(auto)]
+
 ghost use Rattle.std.specs.Prelude.{◌≡◌, not, ◌*◌, ◌≤◌, length};
 ghost use Rattle.semigroups.specs.Lists.{elements, find};
 ghost use Rattle.semigroups.specs.Tables.{largest_order, Element, Filled, product, associates};

@@ -6,7 +6,7 @@ use Rattle.semigroups.specs.Lists.{elements, is_some, least}
 use Rattle.semigroups.specs.Tables.{product}
 use Rattle.semigroups.specs.Questions.{Refusal}
 use Rattle.semigroups.specs.Maps.{isomorphisms, maps, first, earliest}
-use Rattle.csv.specs.Tables.{order_of, cells_of}
+use Rattle.rfc4180.specs.Tables.{order_of, cells_of}
 use Rattle.files.specs.Files.{file_refusal, room}
 
 -- ---- the files that are read

@@ -3,7 +3,7 @@
 use Rattle.std.specs.Prelude.{Bool, true, false, List, [], ◌∷◌, map, ℕ, zero, suc, ◌+◌, ◌*◌, ◌/◌, ◌%◌, take}
 use Rattle.std.proofs.Math.Option.{Option, none, some}
 use Rattle.semigroups.specs.Lists.{elements, at}
-use Rattle.csv.specs.Calls.{cells_after}
+use Rattle.rfc4180.specs.Calls.{cells_after}
 use Rattle.progress.specs.Classes.{Note, refused_by, in_class}
 use Rattle.progress.specs.Progress.{Phase, reading, comparing, over, Progress, progress}
 use Rattle.progress.specs.declared.Task.{Task}

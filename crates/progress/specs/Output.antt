@@ -3,8 +3,8 @@
 -- Assumes nothing.
 use Rattle.std.specs.Prelude.{Bool, false, List, [], ◌∷◌, ◌++◌, map, ℕ, ◌-◌, eqb, length, get_or}
 use Rattle.semigroups.specs.Lists.{elements, keep, count}
-use Rattle.csv.specs.Decimals.{numeral}
-use Rattle.csv.specs.Records.{rows_text}
+use Rattle.rfc4180.specs.Decimals.{numeral}
+use Rattle.rfc4180.specs.Records.{rows_text}
 use Rattle.files.specs.Files.{refused_word}
 use Rattle.progress.specs.Classes.{Folder, files_of, Note, refused_by, in_class, notes_of}
 

@@ -5,7 +5,7 @@ use Rattle.std.proofs.Math.Option.{Option, none, some}
 use Rattle.semigroups.specs.Lists.{least}
 use Rattle.semigroups.specs.Tables.{Element, Accepted}
 use Rattle.semigroups.specs.Questions.{Refusal}
-use Rattle.csv.specs.Tables.{order_of, cells_of}
+use Rattle.rfc4180.specs.Tables.{order_of, cells_of}
 use Rattle.files.specs.Files.{file_refusal, room}
 use Rattle.progress.specs.Classes.{Folder, most_files, holds_like, Note, refused_by, in_class}
 use Rattle.progress.specs.Output.{note}

@@ -1,5 +1,8 @@
 // What was noted of each file that the program `classes` has read, and which file is wanted next: `start` has no notes, and `wanted` returns the number of the
 // file that is to be read. The definitions of this crate are those of the whole program, from the folder to what is printed.
+
+#![tactic(auto)]
+
 ghost use Rattle.std.specs.Prelude.{◌≡◌, List, ℕ, replicate};
 ghost use Rattle.progress.specs.Progress as progress;
 ghost use Rattle.progress.specs.Held.{progress_of, file_name};

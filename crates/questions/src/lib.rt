@@ -1,4 +1,7 @@
 // The questions that a search asks of its two tables and its buffers, one after another, and the refusal of each.
+
+#![tactic(auto)]
+
 ghost use Rattle.std.specs.Prelude.{◌≡◌};
 ghost use Rattle.semigroups.specs.Questions.{search_refusal};
 ghost use Rattle.answers.specs.Answers.{refusal_numbers};

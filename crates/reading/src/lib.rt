@@ -1,7 +1,10 @@
 // Reading a file that a program has tried to open. The contract does not say which bytes the system hands over, only how many, and when there are none.
+
+#![tactic(auto)]
+
 ghost use Rattle.std.specs.Prelude.{◌≡◌, false, ◌<◌, length};
 ghost use Rattle.io.specs.Counts.{IsPrefixLen};
-ghost use Rattle.csv.specs.Questions.{longest_text};
+ghost use Rattle.rfc4180.specs.Questions.{longest_text};
 ghost use Rattle.reading.specs.Opened.{is_open};
 
 // The result of reading a file: whether it could be opened, and how many bytes were read.

@@ -1,5 +1,8 @@
 // Reads source.csv and target.csv from the folder that it is run in, and prints the first embedding of the first table in the second, or that there is none, or
 // why a file is refused. Crate `output` proves what is printed, from the bytes of the files; this file only reads the files and writes the text.
+
+#![tactic(auto)]
+
 use libc::STDOUT_FILENO;
 use tables::limits::{FILE, OUTPUT};
 

@@ -1,4 +1,7 @@
 // Tables with their elements numbered anew: first those that are no product of two elements, then the others by their first places in the table.
+
+#![tactic(auto)]
+
 ghost use Rattle.std.specs.Prelude.{◌≡◌, ◌++◌, ◌-◌, ◌*◌, ◌≤◌, length, replicate};
 ghost use Rattle.semigroups.specs.Tables.{Filled};
 ghost use Rattle.semigroups.specs.Calls.{overwritten};

@@ -1,12 +1,15 @@
 // Saves Cayley tables as RFC 4180 text: a record for each row, a decimal field for each cell, each record closed by CR LF. `save` asks questions 1, 2, 3 and
-// 28; a refusal changes no byte. The definitions that the contracts cite are in the crate `csv`.
+// 28; a refusal changes no byte. The definitions that the contracts cite are in the crate `rfc4180`.
+
+#![tactic(auto)]
+
 ghost use Rattle.std.specs.Prelude.{◌≡◌, ◌+◌, ◌≤◌, length};
 ghost use Rattle.std.proofs.lemmas.List.Edits.{sets};
 ghost use Rattle.semigroups.specs.Tables.{Element, Filled};
 ghost use Rattle.semigroups.specs.Calls.{overwritten};
-ghost use Rattle.csv.specs.Records.{line_text};
-ghost use Rattle.csv.specs.Tables.{row_fields, table_text};
-ghost use Rattle.csv.specs.Calls.{save_answer, text_after};
+ghost use Rattle.rfc4180.specs.Records.{line_text};
+ghost use Rattle.rfc4180.specs.Tables.{row_fields, table_text};
+ghost use Rattle.rfc4180.specs.Calls.{save_answer, text_after};
 ghost use Rattle.answers.specs.Answers.{numbered_says};
 
 use tables::{No, Numbered, Verdict};

@@ -1,4 +1,7 @@
 // Question 40, asked byte by byte: is a text one or more records of two fields, quoted or not? The definitions are in the crate `sheets`.
+
+#![tactic(auto)]
+
 ghost use Rattle.std.specs.Prelude.{◌≡◌, cond};
 ghost use Rattle.std.proofs.Math.Option.{none, some};
 ghost use Rattle.sheets.specs.Grammar.{is_printable, is_text_data, is_quotable};

@@ -5,6 +5,9 @@
 //
 // Pairs are bits, laid out as those of the scratch buffer are: bit (i - 1) * n + (j - 1) is set where i may go to j. An embedding is allowed if the bit of
 // each element with its image is set. No byte of the pairs changes.
+
+#![tactic(auto)]
+
 ghost use Rattle.std.specs.Prelude.{◌≡◌};
 ghost use Rattle.semigroups.specs.Maps.{first, next};
 ghost use Rattle.backtrack.specs.InnerState.{bounded};

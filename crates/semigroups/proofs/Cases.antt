@@ -15,6 +15,7 @@ use Rattle.semigroups.proofs.Tables.{accepted}
 
 -- Two functions that give the same list over a list give the same at each entry.
 each : {A B : Type 0} (f g : A → B) (l : List A) → map f l ≡ map g l → (c : A) → Memᴰ c l → f c ≡ g c
+each f g mathlib.Core.List.[] e c m = elim m [ ]
 each f g (x ∷ xs) e c (Memᴰ.head q) = ap f q ∙ head-eq_of_cons-eq e ∙ sym (ap g q)
 each f g (x ∷ xs) e c (Memᴰ.tail m) = each f g xs (tail-eq_of_cons-eq e) c m
 

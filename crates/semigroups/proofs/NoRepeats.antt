@@ -17,15 +17,18 @@ use Rattle.semigroups.proofs.Lists.{length_range, get_d_range, length_elements, 
 module _ {A : Type 0} where
   -- The list without the one entry that a membership points at.
   abbrev without : {x : A} (l : List A) → Memᴰ x l → List A
+  without [] m = elim m [ ]
   without (y ∷ l) (Memᴰ.head e) = l
   without (y ∷ l) (Memᴰ.tail m) = y ∷ without l m
 
   sum_without : (w : A → ℕ) {x : A} (l : List A) (m : Memᴰ x l) → sum w l ≡ w x + sum w (without l m)
   unfolding sum
+  sum_without w {x = x} [] m = elim m [ ]
   sum_without w (y ∷ l) (Memᴰ.head e) = ap (λ (v : A). w v + sum w l) (sym e)
   sum_without w {x} (y ∷ l) (Memᴰ.tail m) = let h = sum_without w l m in omega arith
 
   mem_without : {x a : A} (l : List A) (m : Memᴰ x l) → Memᴰ a l → (a ≡ x → ⊥) → Memᴰ a (without l m)
+  mem_without {x = x} {a = a} [] m h ne = elim m [ ]
   mem_without {x} {a} (y ∷ l) (Memᴰ.head e) h ne = ⊎_elim (λ q. absurd (ne (q ∙ sym e))) (λ k. k) (Memᴰ.cases_cons h)
   mem_without {x} {a} (y ∷ l) (Memᴰ.tail m) h ne = go (λ k. mem_without l m k ne) (Memᴰ.cases_cons h)
     where
@@ -54,6 +57,7 @@ module _ {A : Type 0} where
   -- ---- places
 
   pub mem_place : {a : A} (d : A) (l : List A) → Memᴰ a l → (i : ℕ) × (i < length l) × (get_or l i d ≡ a)
+  mem_place d [] m = elim m [ ]
   mem_place d (x ∷ l) (Memᴰ.head e) = (zero, suc-le-suc zero-le, sym e)
   mem_place d (x ∷ l) (Memᴰ.tail m) = let r = mem_place d l m in (suc r.0, suc-le-suc r.1, r.2)
 

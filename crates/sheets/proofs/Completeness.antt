@@ -5,7 +5,7 @@ use mathlib.Core.List.{List, [], ◌∷◌, ◌++◌, flat_map}
 use Prim.Native.Nat.{ℕ, ◌≤◌}
 use native.Mathlib.Omega.{arith}
 use lib.ListN.{length, length-append}
-use Rattle.csv.specs.Every.{Every}
+use Rattle.rfc4180.specs.Every.{Every}
 use Rattle.sheets.specs.Grammar.{is_printable, is_text_data, is_quotable, Item, single, twice, Field, non_escaped, escaped, Entry, Sheet, ProperItem, ProperField, ProperEntry, ProperSheet, item_text, field_text, entry_text, entries_text, sheet_text, IsSheet}
 use Rattle.sheets.specs.InnerAutomaton.{Column, number_part, name_part, State, opening, bare, quoted, shut, cr, line, after_field, bare_step, opening_step, state_after, accepting, run, accepts}
 use Rattle.sheets.proofs.Bytes.{bare_quote, inside_quote}

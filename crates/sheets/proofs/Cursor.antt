@@ -12,8 +12,8 @@ use lib.ListN.{length, get_or, drop, length-append, length-drop}
 use lib.Seq.{drop-cons}
 use borrow.Author.Tests.{eqb-true, eq-eqb, ne_eqb, leb-true}
 use Rattle.semigroups.proofs.Booleans.{and_left}
-use Rattle.csv.specs.Every.{Every}
-use Rattle.csv.proofs.Fields.{empty}
+use Rattle.rfc4180.specs.Every.{Every}
+use Rattle.rfc4180.proofs.Fields.{empty}
 use Rattle.sheets.specs.Grammar.{is_printable, is_text_data, Item, single, twice, Field, non_escaped, escaped, ProperItem, ProperField, item_text, field_text, item_value, field_value}
 use Rattle.sheets.specs.InnerCursor.{bare_value, quoted_value, quoted_size, value_at, size_at}
 use Rattle.sheets.proofs.Bytes.{bare_text, bare_comma, bare_quote, inside_quote}

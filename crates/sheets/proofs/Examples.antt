@@ -11,7 +11,7 @@ use Rattle.semigroups.specs.Lists.{all, first_of}
 use Rattle.semigroups.specs.Tables.{is_element}
 use Rattle.semigroups.specs.InnerQuestions.{no}
 use Rattle.semigroups.specs.Calls.{gives, refused}
-use Rattle.csv.specs.Decimals.{is_digit, value_from, value, numeral, numeral_within}
+use Rattle.rfc4180.specs.Decimals.{is_digit, value_from, value, numeral, numeral_within}
 use Rattle.sheets.specs.Grammar.{is_printable, is_text_data, is_quotable, single, twice, non_escaped, escaped, item_text, field_text, entry_text, entries_text, sheet_text, IsSheet, item_value, field_value, entry_row, sheet_rows}
 use Rattle.sheets.specs.Readings.{Offending, passes, rows_names, Reading}
 use Rattle.sheets.specs.Names.{is_name, is_number, needs_quotes, doubled, name_text, names_text_from, names_text, names_at}

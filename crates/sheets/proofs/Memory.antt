@@ -14,9 +14,9 @@ use Rattle.semigroups.specs.Lists.{first_of}
 use Rattle.semigroups.specs.InnerQuestions.{no}
 use Rattle.semigroups.specs.Questions.{first_no}
 use Rattle.semigroups.specs.Calls.{overwritten}
-use Rattle.csv.specs.Decimals.{numeral}
-use Rattle.csv.proofs.Decimals.{digits_few}
-use Rattle.csv.proofs.Writing.{Writing, write_first, write_length, write_room, write_next, write_last, sets_overwritten}
+use Rattle.rfc4180.specs.Decimals.{numeral}
+use Rattle.rfc4180.proofs.Decimals.{digits_few}
+use Rattle.rfc4180.proofs.Writing.{Writing, write_first, write_length, write_room, write_next, write_last, sets_overwritten}
 use Rattle.sheets.specs.Names.{is_name, needs_quotes, doubled, name_text, names_text_from, names_text, names_at}
 use Rattle.sheets.specs.Questions.{names_questions}
 use Rattle.sheets.proofs.Numbers.{name_is}

@@ -15,11 +15,11 @@ use Rattle.semigroups.specs.Lists.{all}
 use Rattle.semigroups.specs.Tables.{Element, is_element}
 use Rattle.semigroups.proofs.Booleans.{clash, both, and_left, and_right, untrue, at_most_or_above, not_of_false}
 use Rattle.semigroups.proofs.Lists.{is_element_law, element_is}
-use Rattle.csv.specs.Decimals.{is_digit, value_from, value, numeral}
-use Rattle.csv.specs.Every.{Every}
-use Rattle.csv.proofs.Every.{every_mem, mem_every}
-use Rattle.csv.proofs.Fields.{is_digit_law, empty, bound_more, bound_two}
-use Rattle.csv.proofs.Decimals.{numeral_digits, numeral_value, value_numeral, numeral_long, numeral_leading, digits_few}
+use Rattle.rfc4180.specs.Decimals.{is_digit, value_from, value, numeral}
+use Rattle.rfc4180.specs.Every.{Every}
+use Rattle.rfc4180.proofs.Every.{every_mem, mem_every}
+use Rattle.rfc4180.proofs.Fields.{is_digit_law, empty, bound_more, bound_two}
+use Rattle.rfc4180.proofs.Decimals.{numeral_digits, numeral_value, value_numeral, numeral_long, numeral_leading, digits_few}
 use Rattle.sheets.specs.Grammar.{is_printable}
 use Rattle.sheets.specs.Names.{is_name, is_number}
 use Rattle.sheets.specs.PassingLaws.{Name}

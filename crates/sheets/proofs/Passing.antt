@@ -10,8 +10,8 @@ use native.Mathlib.Omega.{arith}
 use lib.ListN.{length, drop, length-map, length-drop}
 use Rattle.semigroups.specs.Lists.{range, elements, first_of, sum}
 use Rattle.semigroups.specs.Questions.{first_no}
-use Rattle.csv.specs.Decimals.{numeral}
-use Rattle.csv.proofs.Every.{every_mem, mem_every}
+use Rattle.rfc4180.specs.Decimals.{numeral}
+use Rattle.rfc4180.proofs.Every.{every_mem, mem_every}
 use Rattle.sheets.specs.Grammar.{Row, sheet_rows}
 use Rattle.sheets.specs.Readings.{Reading, passes, offends, rows_names, names_in}
 use Rattle.sheets.specs.Names.{is_name, names_at}

@@ -17,8 +17,8 @@ use Rattle.semigroups.specs.InnerQuestions.{no}
 use Rattle.semigroups.proofs.Booleans.{and_left, and_right}
 use Rattle.semigroups.proofs.Lists.{is_element_law, element_is}
 use Rattle.semigroups.proofs.Questions.{all_passed, ask_passed, failed_before, passed_before, both_passed, Listed, listed, listed_append}
-use Rattle.csv.specs.Decimals.{numeral}
-use Rattle.csv.specs.Every.{Every}
+use Rattle.rfc4180.specs.Decimals.{numeral}
+use Rattle.rfc4180.specs.Every.{Every}
 use Rattle.sheets.specs.Grammar.{Row}
 use Rattle.sheets.specs.Readings.{Reading, offence, read_rows, rows_names, names_in}
 use Rattle.sheets.specs.Names.{is_name, is_number, names_text, names_at}

@@ -14,8 +14,8 @@ use Rattle.semigroups.specs.Lists.{first_of}
 use Rattle.semigroups.specs.InnerQuestions.{no}
 use Rattle.semigroups.specs.Questions.{first_no}
 use Rattle.semigroups.specs.Calls.{overwritten}
-use Rattle.csv.specs.Every.{Every}
-use Rattle.csv.proofs.Writing.{Writing, write_first, write_length, write_room, write_next, write_last, sets_overwritten}
+use Rattle.rfc4180.specs.Every.{Every}
+use Rattle.rfc4180.proofs.Writing.{Writing, write_first, write_length, write_room, write_next, write_last, sets_overwritten}
 use Rattle.sheets.specs.Grammar.{Entry, Sheet, ProperEntry, ProperSheet, field_text, entry_text, entries_text, sheet_text, IsSheet, Row, entry_row, sheet_rows}
 use Rattle.sheets.specs.Readings.{rows_names}
 use Rattle.sheets.specs.Names.{is_name, is_number}

@@ -16,10 +16,10 @@ use Rattle.semigroups.specs.QuestionsLaws.{Passed}
 use Rattle.semigroups.specs.Calls.{Answer, gives, given_unless, overwritten, written_unless}
 use Rattle.semigroups.proofs.Sums.{sum_map}
 use Rattle.semigroups.proofs.Questions.{all_passed}
-use Rattle.csv.specs.Every.{Every}
-use Rattle.csv.specs.RoundsLaws.{given}
-use Rattle.csv.proofs.Writing.{overwritten_length, overwritten_twice}
-use Rattle.csv.proofs.RoundTrips.{given_passed}
+use Rattle.rfc4180.specs.Every.{Every}
+use Rattle.rfc4180.specs.RoundsLaws.{given}
+use Rattle.rfc4180.proofs.Writing.{overwritten_length, overwritten_twice}
+use Rattle.rfc4180.proofs.RoundTrips.{given_passed}
 use Rattle.sheets.specs.Grammar.{IsSheet, Sheet, Entry, Row, entries_text, sheet_text, sheet_rows, entry_row}
 use Rattle.sheets.specs.Readings.{Reading, passes, offends, offence, read_rows, rows_names, names_in}
 use Rattle.sheets.specs.ReadingsLaws.{Readable}

@@ -7,8 +7,8 @@ use Prim.Native.Nat.{ℕ, ◌≤◌}
 use native.Mathlib.Omega.{arith}
 use lib.Dec.{eqb}
 use lib.ListN.{length, length-append}
-use Rattle.csv.specs.Records.{onto}
-use Rattle.csv.specs.Every.{Every}
+use Rattle.rfc4180.specs.Records.{onto}
+use Rattle.rfc4180.specs.Every.{Every}
 use Rattle.sheets.specs.Grammar.{is_printable, is_text_data, is_quotable, Item, single, twice, Field, non_escaped, escaped, Entry, Sheet, ProperItem, ProperField, ProperEntry, ProperSheet, item_text, field_text, entry_text, entries_text, sheet_text, IsSheet, item_value, field_value, Row, entry_row, sheet_rows}
 use Rattle.sheets.specs.InnerAutomaton.{Column, number_part, name_part, State, opening, bare, quoted, shut, cr, line, dead, after_field, bare_step, opening_step, state_after}
 use Rattle.sheets.proofs.Bytes.{bare_quote, inside_quote}

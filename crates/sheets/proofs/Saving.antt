@@ -9,10 +9,10 @@ use native.Mathlib.Omega.{arith}
 use lib.Dec.{eqb}
 use borrow.Author.Tests.{eqb-true, ne_eqb, le-leb}
 use Rattle.semigroups.proofs.Booleans.{or_fails}
-use Rattle.csv.specs.Decimals.{is_digit, numeral, numeral_within}
-use Rattle.csv.proofs.Rows.{Digits, digit_range}
-use Rattle.csv.proofs.Decimals.{numeral_digits}
-use Rattle.csv.specs.Every.{Every}
+use Rattle.rfc4180.specs.Decimals.{is_digit, numeral, numeral_within}
+use Rattle.rfc4180.proofs.Rows.{Digits, digit_range}
+use Rattle.rfc4180.proofs.Decimals.{numeral_digits}
+use Rattle.rfc4180.specs.Every.{Every}
 use Rattle.sheets.specs.Grammar.{is_printable, is_text_data, is_quotable, Item, single, twice, Field, non_escaped, escaped, Entry, Sheet, ProperItem, ProperField, ProperEntry, ProperSheet, item_text, field_text, entry_text, entries_text, sheet_text, IsSheet, item_value, field_value, Row, entry_row, sheet_rows}
 use Rattle.sheets.specs.Readings.{Reading, passes, offence, read_rows, rows_names}
 use Rattle.sheets.specs.Names.{needs_quotes, doubled, name_text, names_text_from, names_text}

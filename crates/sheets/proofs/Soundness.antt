@@ -6,7 +6,7 @@ use mathlib.Core.List.{List, [], ◌∷◌, ◌++◌, flat_map, append_assoc, ap
 use Prim.Native.Nat.{ℕ}
 use lib.Dec.{eqb}
 use borrow.Author.Tests.{eqb-true}
-use Rattle.csv.specs.Every.{Every}
+use Rattle.rfc4180.specs.Every.{Every}
 use Rattle.sheets.specs.Grammar.{is_text_data, is_quotable, Item, single, twice, Field, non_escaped, escaped, Entry, Sheet, ProperItem, ProperField, item_text, field_text, entry_text, entries_text, sheet_text, IsSheet}
 use Rattle.sheets.specs.InnerAutomaton.{Column, number_part, name_part, State, opening, bare, quoted, shut, cr, line, dead, after_field, bare_step, opening_step, state_after, accepting, run, accepts}
 

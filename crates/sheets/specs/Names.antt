@@ -4,7 +4,7 @@ use Rattle.std.specs.Prelude.{Bool, false, ◌&&◌, ◌||◌, not, cond, ℕ, s
 use mathlib.Core.List.{List, [], ◌∷◌, ◌++◌, flat_map}
 use Rattle.semigroups.specs.Lists.{all}
 use Rattle.semigroups.specs.Tables.{largest_order, is_element}
-use Rattle.csv.specs.Decimals.{is_digit, value, numeral}
+use Rattle.rfc4180.specs.Decimals.{is_digit, value, numeral}
 use Rattle.sheets.specs.Grammar.{is_printable}
 
 -- "A name is 1 to 40 bytes from hexadecimal 20 to 7E" (RULES 20.2).

@@ -3,7 +3,7 @@ use Rattle.std.specs.Prelude.{◌≡◌, ℕ, ◌≤◌, length}
 use mathlib.Core.List.{List, map, flatten, Memᴰ}
 use Rattle.semigroups.specs.Lists.{elements, sum}
 use Rattle.semigroups.specs.Tables.{largest_order, Element}
-use Rattle.csv.specs.Decimals.{numeral}
+use Rattle.rfc4180.specs.Decimals.{numeral}
 use Rattle.sheets.specs.Grammar.{IsSheet, Row, sheet_rows}
 use Rattle.sheets.specs.Readings.{rows_names}
 use Rattle.sheets.specs.Names.{names_text, names_at}

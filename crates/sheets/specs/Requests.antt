@@ -3,7 +3,7 @@ use Rattle.std.specs.Prelude.{◌≡◌, true, ◌⊎◌, ◌↔◌, ℕ, ◌≤
 use mathlib.Core.List.{List, [], ◌∷◌, Memᴰ}
 use Rattle.std.proofs.Math.Option.{none, some}
 use Rattle.semigroups.specs.Tables.{largest_order}
-use Rattle.csv.specs.Decimals.{numeral}
+use Rattle.rfc4180.specs.Decimals.{numeral}
 use Rattle.sheets.specs.Readings.{Reading, offence}
 use Rattle.sheets.specs.ReadingsLaws.{Readable, SameReading}
 use Rattle.sheets.specs.Names.{is_name, is_number, needs_quotes}

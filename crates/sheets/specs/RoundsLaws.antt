@@ -4,7 +4,7 @@ use Rattle.std.specs.Prelude.{◌≡◌, false, ℕ, zero, suc, ◌≤◌, lengt
 use mathlib.Core.List.{List, [], ◌∷◌, ◌++◌, flatten}
 use Rattle.semigroups.specs.Lists.{sum}
 use Rattle.semigroups.specs.Calls.{gives, overwritten}
-use Rattle.csv.specs.RoundsLaws.{given}
+use Rattle.rfc4180.specs.RoundsLaws.{given}
 use Rattle.sheets.specs.Grammar.{IsSheet}
 use Rattle.sheets.specs.Readings.{Reading, names_in}
 use Rattle.sheets.specs.ReadingsLaws.{Readable}

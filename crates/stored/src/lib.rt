@@ -1,4 +1,7 @@
 // The tables of all transformations of one, two and three points: the cell in row s and column t holds the number of the transformation s, then t.
+
+#![tactic(auto)]
+
 ghost use Rattle.std.specs.Prelude.{◌≡◌};
 ghost use Rattle.semigroups.specs.Transformations.{transformation_cells};
 

@@ -1,4 +1,7 @@
 // The four questions about a table, given as an order and cells of any content. The first "no" is the answer, with its cell or triple.
+
+#![tactic(auto)]
+
 ghost use Rattle.std.specs.Prelude.{◌≡◌, min, max};
 ghost use Rattle.std.proofs.Math.Option.{map};
 ghost use Rattle.semigroups.specs.Lists.{all};

@@ -7,10 +7,10 @@ use Prim.Native.Nat.{ℕ, ◌+◌, ◌-◌, ◌*◌, ◌≤◌, ◌<◌}
 use native.Mathlib.Omega.{arith}
 use lib.ListN.{length, get_or, drop, get_or-eq_default}
 use Rattle.semigroups.proofs.Booleans.{clash, at_most_or_above}
-use Rattle.csv.specs.Decimals.{is_digit, value, value_from}
-use Rattle.csv.specs.InnerCursor.{digits}
-use Rattle.csv.proofs.Fields.{empty, below_digit, digits_past, digits_none, digits_more, digit_here}
-use Rattle.csv.proofs.Rows.{digit_range}
+use Rattle.rfc4180.specs.Decimals.{is_digit, value, value_from}
+use Rattle.rfc4180.specs.InnerCursor.{digits}
+use Rattle.rfc4180.proofs.Fields.{empty, below_digit, digits_past, digits_none, digits_more, digit_here}
+use Rattle.rfc4180.proofs.Rows.{digit_range}
 
 -- How many digits stand from place i on.
 abbrev pub digits_from : List ℕ → ℕ → ℕ

@@ -1,6 +1,6 @@
 -- The field of a text at a place, as the reading functions return it. Assumes nothing.
 use Rattle.std.specs.Prelude.{List, ℕ}
-use Rattle.csv.specs.InnerCursor.{field_end, next_field, comma_follows, field_follows}
+use Rattle.rfc4180.specs.InnerCursor.{field_end, next_field, comma_follows, field_follows}
 use Rattle.text.specs.declared.Field.{Field}
 
 -- The field that begins at this place.

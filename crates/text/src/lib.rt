@@ -1,14 +1,17 @@
 // Loads Cayley tables from RFC 4180 text: a record for each row, a decimal field for each cell, each record closed by CR LF, which the last may lack. `load`
 // asks questions 20, 21, 23 to 27 and 1 of a text; a refusal changes no byte. The definitions that the contracts cite, and the proof that saving and loading
-// undo each other, are in the crate `csv`.
+// undo each other, are in the crate `rfc4180`.
+
+#![tactic(auto)]
+
 ghost use Rattle.std.specs.Prelude.{◌≡◌, true, ◌-◌, ◌≤◌, length, drop, get_or};
 ghost use Rattle.std.proofs.Math.Option.{none};
-ghost use Rattle.csv.specs.InnerCursor.{digits, field_end};
-ghost use Rattle.csv.specs.Decimals.{is_digit, value};
-ghost use Rattle.csv.specs.Tables.{fields_of, order_of, cells_of};
-ghost use Rattle.csv.specs.InnerQuestions.{bytes_refusal, fields_refusal, grid_refusal, field_refusal};
+ghost use Rattle.rfc4180.specs.InnerCursor.{digits, field_end};
+ghost use Rattle.rfc4180.specs.Decimals.{is_digit, value};
+ghost use Rattle.rfc4180.specs.Tables.{fields_of, order_of, cells_of};
+ghost use Rattle.rfc4180.specs.InnerQuestions.{bytes_refusal, fields_refusal, grid_refusal, field_refusal};
 ghost use Rattle.semigroups.specs.Calls.{overwritten};
-ghost use Rattle.csv.specs.Calls.{load_answer, cells_after};
+ghost use Rattle.rfc4180.specs.Calls.{load_answer, cells_after};
 ghost use Rattle.answers.specs.Answers.{numbered_says};
 ghost use Rattle.text.specs.Answers.{judged_refusal};
 ghost use Rattle.text.specs.InnerFields.{field_at};

@@ -1,5 +1,8 @@
 // The tables of all transformations of one to three points, written to a lent buffer. An invalid degree or a buffer that is too small is refused, and the
 // buffer then keeps its bytes.
+
+#![tactic(auto)]
+
 ghost use Rattle.std.specs.Prelude.{◌≡◌, length};
 ghost use Rattle.semigroups.specs.Calls.{given_unless, written_unless};
 ghost use Rattle.answers.specs.Answers.{numbered_says};

@@ -1,5 +1,8 @@
 // The answers about tables, elements and maps as sixteen numbers, for programs in C and Rust: the number of the earliest failed question, or 0; the side that
 // a refusal names, 1 for source or 2 for target, or 0; then the values of the answer, and zeros.
+
+#![tactic(auto)]
+
 ghost use Rattle.std.specs.Prelude.{◌≡◌, ◌≤◌, length};
 ghost use Rattle.answers.specs.Answers.{verdict_refusal, numbered_says};
 ghost use Rattle.invariants.specs.Answers.{index_period_says, profile_says};

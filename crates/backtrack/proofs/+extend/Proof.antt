@@ -243,8 +243,8 @@ extend_returns_5 t c =
     let l = c.before.before.loop in
     c.no-map2.ensures ∙ ends (s t z) z.args.m (r t z) z.args.n z.args.scratch.now z.args.after.now z.args.tight z.args.known.now z.args.held.now (map t z) z.requires.1.1 c.before.before.before.before.before.before.before.before.before.before.before.if1.false z.args.limit l.left l.x c.before.loop-test.false l.invariant.3
 
-pub +extend-spec : {M : Type 1} → statement M
-+extend-spec = close μ-extend λ t. extend-lts.spec (calls t)
+pub +extend_spec : {M : Type 1} → statement M
++extend_spec = close μ-extend λ t. extend-lts.spec (calls t)
     (extend_at t)
     extend.Post
     extend_Inv_loop

@@ -17,5 +17,5 @@ sub-t3 c = search rules
 returns-2 : tie.Need-returns-2
 returns-2 c = (pay_one c.before.args.left c.if1.false, refl)
 
-pub pay-spec : {M : Type 1} → statement M
-pay-spec = tie.close (tie.spec returns sub-t3 returns-2)
+pub pay_spec : {M : Type 1} → statement M
+pay_spec = tie.close (tie.spec returns sub-t3 returns-2)

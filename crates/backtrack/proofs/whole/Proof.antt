@@ -21,5 +21,5 @@ returns c = let a = c.before.before.args in c.no-map.ensures ∙ ap (found a.lim
 returns-2 : tie.Need-returns-2
 returns-2 c = let a = c.before.args in ap (found a.limit a.image) (sym c.if1.false)
 
-pub whole-spec : {M : Type 1} → statement M
-whole-spec = tie.close (tie.spec no-map-requires returns returns-2)
+pub whole_spec : {M : Type 1} → statement M
+whole_spec = tie.close (tie.spec no-map-requires returns returns-2)

@@ -90,8 +90,8 @@ returns c =
     let a = c.before.before.args in
     fill_end (appended a.values a.keys.now a.numbers.now) a.n l.a l.longer l.invariant.1 l.invariant.0 c.loop-test.false
 
-pub append-spec : {M : Type 1} → statement M
-append-spec =
+pub append_spec : {M : Type 1} → statement M
+append_spec =
     tie.close
     (tie.spec
     invariant-loop

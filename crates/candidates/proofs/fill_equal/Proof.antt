@@ -98,8 +98,8 @@ same_length c =
     let a = (start c.before).args in
     ap length (returns c) ∙ length_scratch a.m a.n (same c.before) a.scratch.now (start c.before).pre.1
 
-pub fill-equal-spec : {M : Type 1} → statement M
-fill-equal-spec =
+pub fill-equal_spec : {M : Type 1} → statement M
+fill-equal_spec =
     tie.close
     (tie.spec
     invariant-loop

@@ -10,5 +10,5 @@ returns-2 c =
     let p = c.before.before.before.requires in
     next_row (record { number = refl; row = p.0; column = p.2 }) c.before.if1.false
 
-pub following-spec : {M : Type 1} → statement M
-following-spec = tie.close (tie.spec (λ c. search rules) (λ c. search rules) (λ c. search rules) returns-2)
+pub following_spec : {M : Type 1} → statement M
+following_spec = tie.close (tie.spec (λ c. search rules) (λ c. search rules) (λ c. search rules) returns-2)

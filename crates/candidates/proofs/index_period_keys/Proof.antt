@@ -49,6 +49,6 @@ returns c =
     let p = i.before.before.before.before in
     ((append_period p i.append.result ((append_index p).1 i.append.result i.append.ensures)).1 c.append2.result c.append2.ensures).each
 
-pub index-period-keys-spec : {M : Type 1} → statement M
-index-period-keys-spec =
+pub index-period-keys_spec : {M : Type 1} → statement M
+index-period-keys_spec =
     tie.close (tie.spec all-index-period-keys-requires append-requires append-requires-2 returns)

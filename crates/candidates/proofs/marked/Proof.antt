@@ -22,7 +22,7 @@ returns : tie.Need-returns
 unfolding marked bit
 returns c = ap (λ (k : ℕ). eqb (bit (get_or c.before.before.before.args.scratch.now (k / 8) 0) (k % 8)) 1) c.before.pair-number.ensures
 
-pub marked-spec : {M : Type 1} → statement M
-marked-spec =
+pub marked_spec : {M : Type 1} → statement M
+marked_spec =
     tie.close
     (tie.spec (λ c κs. search rules) shared-slice-read-result (λ c. search rules) (λ c. search rules) returns)

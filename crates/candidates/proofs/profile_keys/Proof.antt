@@ -111,8 +111,8 @@ returns z =
     let c = y.before.before.before.before.before.before.before.before.before.before.before.before.before.before.before.before in
     ((commutings c y.append4.result (with_column y)).1 z.append5.result z.append5.ensures).each
 
-pub profile-keys-spec : {M : Type 1} → statement M
-profile-keys-spec =
+pub profile-keys_spec : {M : Type 1} → statement M
+profile-keys_spec =
     tie.close
     (tie.spec
     all-counts-requires

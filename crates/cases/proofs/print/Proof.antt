@@ -12,8 +12,8 @@ array-share-prefix-out c = line_within _ _ _ c.put-line.ensures.0 c.put-line.ens
 slice-aggregate-write-all : tie.Need-slice-aggregate-write-all
 slice-aggregate-write-all c = sym (length-take-le _ _ (line_within _ _ _ c.before.put-line.ensures.0 c.before.put-line.ensures.1))
 
-pub print-spec : {M : Type 1} → statement M
-print-spec =
+pub print_spec : {M : Type 1} → statement M
+print_spec =
     tie.close
     (tie.spec
     (λ c κs. search rules)

@@ -75,8 +75,8 @@ returns-2 c =
       (c.onward.ensures.1.0, (c.onward.ensures.1.1, (loaded v).load-then-check.ensures.1)),
     )
 
-pub begun-spec : {M : Type 1} → statement M
-begun-spec =
+pub begun_spec : {M : Type 1} → statement M
+begun_spec =
     tie.close
     (tie.spec
     load-then-check-requires

@@ -32,8 +32,8 @@ returns-2 c =
     let z = c.before.before.before.before.before.before in
     (c.onward.ensures.0 _ ∙ compared_other _ _ _ _ _ (sym c.before.before.holds-like.ensures ∙ c.before.if1.false), c.onward.ensures.1)
 
-pub compared-spec : {M : Type 1} → statement M
-compared-spec =
+pub compared_spec : {M : Type 1} → statement M
+compared_spec =
     tie.close
     (tie.spec
     mul-size

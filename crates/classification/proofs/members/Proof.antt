@@ -77,8 +77,8 @@ returns c =
       omega (arith, v.2, count_elements (c.before.loop.i - 1) p),
     )
 
-pub members-spec : {M : Type 1} → statement M
-members-spec =
+pub members_spec : {M : Type 1} → statement M
+members_spec =
     tie.close
     (tie.spec
     invariant-loop

@@ -23,7 +23,7 @@ returns c =
       (drop-set-lt (z.count + 1) z.orders z.count s.args.order (omega arith), drop-set-lt (z.count + 1) z.numbers z.count s.args.number (omega arith)),
     )
 
-pub noted-spec : {M : Type 1} → statement M
-noted-spec =
+pub noted_spec : {M : Type 1} → statement M
+noted_spec =
     tie.close
     (tie.spec (λ c. search rules) (λ c. search rules) (λ c. search rules) (λ c. search rules) (λ c. search rules) returns)

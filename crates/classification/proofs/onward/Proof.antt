@@ -43,5 +43,5 @@ returns-2 c =
     let h = t.if1.false in
     ((λ cells. c.noted.ensures.0 cells ∙ onward_own (notes_in s) z.n _ z.j p1 t.before.next-class.ensures (omega arith)), c.noted.ensures.1)
 
-pub onward-spec : {M : Type 1} → statement M
-onward-spec = tie.close (tie.spec next-class-requires returns noted-requires returns-2)
+pub onward_spec : {M : Type 1} → statement M
+onward_spec = tie.close (tie.spec next-class-requires returns noted-requires returns-2)

@@ -1,8 +1,8 @@
 -- `put_notes` writes a record for each file. The invariant: the records before that of file k are written, and the others are left. Assumes nothing.
 use Prim.Native.Nat.{◌+◌, ◌-◌, ◌≤◌}
 use native.Mathlib.Omega.{arith}
-use Rattle.csv.specs.Records.{rows_text}
-use Rattle.csv.proofs.Writing.{Writing, write_length}
+use Rattle.rfc4180.specs.Records.{rows_text}
+use Rattle.rfc4180.proofs.Writing.{Writing, write_length}
 use Rattle.progress.specs.Output.{note_records}
 use Rattle.progress.specs.Held.{notes_from}
 use Rattle.classification.proofs.Text.{notes_left, notes_begun, notes_room, notes_next, notes_done}
@@ -57,8 +57,8 @@ same_length c = write_length c.before.loop.invariant.0
 returns : tie.Need-returns invariant-loop decreases-loop
 returns c = let h = c.loop-test.false in notes_done _ _ _ h c.before.loop.invariant.0
 
-pub put-notes-spec : {M : Type 1} → statement M
-put-notes-spec =
+pub put-notes_spec : {M : Type 1} → statement M
+put-notes_spec =
     tie.close
     (tie.spec
     invariant-loop

@@ -1,8 +1,8 @@
 -- `put_totals` writes the totals. The invariant: the totals before that of file a are written, and the others are left. Assumes nothing.
 use Prim.Native.Nat.{◌+◌, ◌-◌, ◌≤◌}
 use native.Mathlib.Omega.{arith}
-use Rattle.csv.specs.Records.{rows_text}
-use Rattle.csv.proofs.Writing.{Writing, write_length}
+use Rattle.rfc4180.specs.Records.{rows_text}
+use Rattle.rfc4180.proofs.Writing.{Writing, write_length}
 use Rattle.progress.specs.Output.{total_records}
 use Rattle.progress.specs.Held.{notes_from}
 use Rattle.classification.proofs.Text.{totals_left, totals_begun, totals_room, totals_next, totals_done}
@@ -44,8 +44,8 @@ same_length c = write_length c.before.loop.invariant.0
 returns : tie.Need-returns invariant-loop decreases-loop
 returns c = let h = c.loop-test.false in totals_done _ _ _ h c.before.loop.invariant.0
 
-pub put-totals-spec : {M : Type 1} → statement M
-put-totals-spec =
+pub put-totals_spec : {M : Type 1} → statement M
+put-totals_spec =
     tie.close
     (tie.spec
     invariant-loop

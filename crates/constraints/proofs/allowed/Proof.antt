@@ -9,5 +9,5 @@ returns c = rw (eq-eqb c.before.args.constraint 0 c.if1.true)
 returns-2 : tie.Need-returns-2
 returns-2 c = rw (ne_eqb c.before.args.constraint 0 c.if1.false)
 
-pub allowed-spec : {M : Type 1} → statement M
-allowed-spec = tie.close (tie.spec returns returns-2)
+pub allowed_spec : {M : Type 1} → statement M
+allowed_spec = tie.close (tie.spec returns returns-2)

@@ -66,6 +66,6 @@ returns-2 c =
     let e = c.Near-fits.ensures ∙ sym (ap (λ (b : Bool). b && near z) (sym g.ensures ∙ not-false g.result c.before.if1.false)) in
     (e, λ h. refuses z (sym e ∙ h))
 
-pub may-pass-spec : {M : Type 1} → statement M
-may-pass-spec =
+pub may-pass_spec : {M : Type 1} → statement M
+may-pass_spec =
     tie.close (tie.spec add-settled settled-requires returns near-fits-requires returns-2)

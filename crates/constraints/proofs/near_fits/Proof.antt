@@ -39,5 +39,5 @@ returns c =
     let r = z.requires.1.0.room in
     c.pair-fits.ensures ∙ sym (near_is _ _ _ z.args.len k.if1.newest (next_length z.args.image.now z.args.len z.args.x (omega arith)) (is_newest k).0)
 
-pub near-fits-spec : {M : Type 1} → statement M
-near-fits-spec = tie.close (tie.spec add-pair-fits pair-fits-requires returns)
+pub near-fits_spec : {M : Type 1} → statement M
+near-fits_spec = tie.close (tie.spec add-pair-fits pair-fits-requires returns)

@@ -12,8 +12,8 @@ returns c = let z = c.before.before.before in ap (λ (b : Bool). set z.args.cons
 returns-2 : tie.Need-returns-2
 returns-2 c = let z = c.before.before.before in ap (λ (b : Bool). set z.args.constraints.now z.args.place (cond b z.args.y 255)) (sym (sym c.before.allowed.ensures ∙ c.if1.false))
 
-pub note-spec : {M : Type 1} → statement M
-note-spec =
+pub note_spec : {M : Type 1} → statement M
+note_spec =
     tie.close
     (tie.spec
     (λ c. search rules)

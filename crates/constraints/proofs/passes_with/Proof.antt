@@ -47,6 +47,6 @@ returns-2 c =
     (take a.len a.image.now) a.len (trial_length a.n a.image.now a.used.now a.len a.x trial) z.requires.1.0.1 a.x a.forced.now a.owner.now z.requires.1.1.0
     source.order.1 z.requires.1.1.1 (omega arith) z.requires.1.0.2 (sym g.ensures ∙ not-false g.result c.before.if1.false))
 
-pub passes-with-spec : {M : Type 1} → statement M
-passes-with-spec =
+pub passes-with_spec : {M : Type 1} → statement M
+passes-with_spec =
     tie.close (tie.spec add-settled settled-requires returns new-fits-requires returns-2)

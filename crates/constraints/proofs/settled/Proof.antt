@@ -11,8 +11,8 @@ returns c = rw (sym c.before.allowed.ensures ∙ not-true c.before.allowed.resul
 returns-2 : tie.Need-returns-2
 returns-2 c = c.allowed2.ensures ∙ rw (sym c.before.before.before.allowed.ensures ∙ not-false c.before.before.before.allowed.result c.before.before.if1.false)
 
-pub settled-spec : {M : Type 1} → statement M
-settled-spec =
+pub settled_spec : {M : Type 1} → statement M
+settled_spec =
     tie.close
     (tie.spec
     (λ c. search rules)

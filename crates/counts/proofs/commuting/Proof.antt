@@ -79,8 +79,8 @@ returns c =
     let a = c.before.before.before.args in
     l.invariant.1 ∙ ap (λ (k : ℕ). count (commute (product a.n a.cells.now) a.a) (elements k)) (let z : l.b - 1 ≡ a.n = omega arith in z)
 
-pub commuting-spec : {M : Type 1} → statement M
-commuting-spec =
+pub commuting_spec : {M : Type 1} → statement M
+commuting_spec =
     tie.close
     (tie.spec
     invariant-loop

@@ -122,8 +122,8 @@ returns c =
       commuting = fill_end (commuting a.n table) a.n l.a l.commute l.invariant.3 l.invariant.0 end;
     }
 
-pub line-counts-spec : {M : Type 1} → statement M
-line-counts-spec =
+pub line-counts_spec : {M : Type 1} → statement M
+line-counts_spec =
     tie.close
     (tie.spec
     invariant-loop

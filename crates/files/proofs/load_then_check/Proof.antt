@@ -6,7 +6,7 @@ use native.Mathlib.Omega.{arith}
 use borrow.Author.Rules.{rules}
 use lib.ListN.{length, length-take}
 use Rattle.semigroups.specs.Calls.{Answer, refused, gives}
-use Rattle.csv.specs.Calls.{load_answer}
+use Rattle.rfc4180.specs.Calls.{load_answer}
 use Rattle.products.proofs.Products.{square_small}
 use Rattle.answers.specs.Answers.{verdict_refusal, numbered_says}
 use Rattle.files.proofs.Files.{judged_text, judged_table, loaded_order_law, loaded_room}
@@ -95,8 +95,8 @@ returns-3 c =
       loading.load.ensures.1,
     )
 
-pub load-then-check-spec : {M : Type 1} → statement M
-load-then-check-spec =
+pub load-then-check_spec : {M : Type 1} → statement M
+load-then-check_spec =
     tie.close
     (tie.spec
     load-requires

@@ -94,8 +94,8 @@ returns-5 c =
     let e = entries-told a.before in
     sym (triple_decides _ _ _ (cells_fill (cells_told e)) (inside e) (generates a.before) ∙ sym a.associative_through.ensures ∙ ap verdict_refusal c.enum-told4.given.1)
 
-pub check-spec : {M : Type 1} → statement M
-check-spec =
+pub check_spec : {M : Type 1} → statement M
+check_spec =
     tie.close
     (tie.spec
     check-cells-requires

@@ -101,8 +101,8 @@ returns c =
     let closed = product_element _ _ p.0.size p.0.in_range in
     (v.1.marked ∙ growing_marks _ _ _ closed p.1 _ _ v.2 (omega arith), v.1.counted ∙ growing_count _ _ _ closed p.1 _ _ v.2 (omega arith) v.1.no_repeats)
 
-pub generate-spec : {M : Type 1} → statement M
-generate-spec =
+pub generate_spec : {M : Type 1} → statement M
+generate_spec =
     tie.close
     (tie.spec
     invariant-loop

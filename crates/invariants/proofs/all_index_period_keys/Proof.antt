@@ -115,8 +115,8 @@ returns c =
       period = fill_end (marks.period a.n table) a.n l.a l.period l.invariant.2 l.invariant.0 end;
     }
 
-pub all-index-period-keys-spec : {M : Type 1} → statement M
-all-index-period-keys-spec =
+pub all-index-period-keys_spec : {M : Type 1} → statement M
+all-index-period-keys_spec =
     tie.close
     (tie.spec
     invariant-loop

@@ -145,8 +145,8 @@ returns c =
     let s = start e in
     walk_settled s.args.n (table e) s.args.a (closed e) s.pre.1 e.loop.met e.loop.walk e.loop.power e.loop.k e.loop.inv c.loop-test.false
 
-pub index-period-of-spec : {M : Type 1} → statement M
-index-period-of-spec =
+pub index-period-of_spec : {M : Type 1} → statement M
+index-period-of_spec =
     tie.close
     (tie.spec
     invariant-loop

@@ -40,8 +40,8 @@ returns-2 c =
     says_given (element_refusal a.n cells a.a) (profile a.n (product a.n cells) a.a) _
     (sym v.before.before.check-element.ensures ∙ ap element_verdict_refusal v.enum_told.given.1) c.profile_of_law.ensures
 
-pub profile-spec : {M : Type 1} → statement M
-profile-spec =
+pub profile_spec : {M : Type 1} → statement M
+profile_spec =
     tie.close
     (tie.spec
     check-element-requires

@@ -43,8 +43,8 @@ returns-2 c =
     (work_allowed a.next a.m a.source.now a.n a.target.now a.pairs.now a.map.now a.scratch.now _ s.pre.0.0 s.pre.0.1 k.mark-among.ensures.1)
     (unlimited_says (marked_work a.next a.m a.source.now a.n a.target.now a.map.now _) r is) map k.mark-among.ensures.1
 
-pub find-among-spec : {M : Type 1} → statement M
-find-among-spec =
+pub find-among_spec : {M : Type 1} → statement M
+find-among_spec =
     tie.close
     (tie.spec
     (λ c κs. search rules)

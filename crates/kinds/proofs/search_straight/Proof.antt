@@ -46,8 +46,8 @@ returns-2 c =
     let map = c.before.before.put-found.ensures ∙ written a.next a.m a.source.now a.n a.target.now a.map.now _ s.pre.0.0.filled a.limit f.find-marked.result f.find-marked.ensures in
     as_searched (plain_kind a.onto) a.next a.limit (lent k) f.find-marked.result _ w f.find-marked.ensures map filled
 
-pub search-straight-spec : {M : Type 1} → statement M
-search-straight-spec =
+pub search-straight_spec : {M : Type 1} → statement M
+search-straight_spec =
     tie.close
     (tie.spec
     (λ c κs. search rules)

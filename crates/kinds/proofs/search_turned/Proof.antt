@@ -67,8 +67,8 @@ returns c =
       t.turn.ensures,
     )
 
-pub search-turned-spec : {M : Type 1} → statement M
-search-turned-spec =
+pub search-turned_spec : {M : Type 1} → statement M
+search-turned_spec =
     tie.close
     (tie.spec
     mul-size

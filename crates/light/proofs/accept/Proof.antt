@@ -47,8 +47,8 @@ returns-2 c =
     let s = e.before.before.before in
     answer_middles _ (product s.args.n s.args.cells.now) e.before.choose.ensures true (not-false _ e.if1.false) _ c.associative_through.ensures
 
-pub accept-spec : {M : Type 1} → statement M
-accept-spec =
+pub accept_spec : {M : Type 1} → statement M
+accept_spec =
     tie.close
     (tie.spec
     choose-requires

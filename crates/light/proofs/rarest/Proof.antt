@@ -77,8 +77,8 @@ returns c =
     let v = c.before.loop.invariant in
     rarest_end _ _ _ _ _ v.2 v.1 c.loop-test.false
 
-pub rarest-spec : {M : Type 1} → statement M
-rarest-spec =
+pub rarest_spec : {M : Type 1} → statement M
+rarest_spec =
     tie.close
     (tie.spec
     invariant-loop

@@ -134,8 +134,8 @@ returns c =
     let v = c.before.loop2.invariant in
     reached _ _ v.1 v.2 c.loop2-test.false
 
-pub reach-spec : {M : Type 1} → statement M
-reach-spec =
+pub reach_spec : {M : Type 1} → statement M
+reach_spec =
     tie.close
     (tie.spec
     invariant-loop

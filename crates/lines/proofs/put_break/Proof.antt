@@ -13,6 +13,6 @@ slice-write-out-2 c = rw length-set (omega arith)
 returns : tie.Need-returns
 returns c = (refl, rw add-one)
 
-pub put-break-spec : {M : Type 1} → statement M
-put-break-spec =
+pub put-break_spec : {M : Type 1} → statement M
+put-break_spec =
     tie.close (tie.spec (λ c. search rules) (λ c. search rules) slice-write-out-2 (λ c. search rules) (λ c. search rules) returns)

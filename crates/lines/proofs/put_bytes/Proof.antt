@@ -3,7 +3,7 @@
 use Prim.Native.Nat.{◌+◌, ◌-◌, ◌≤◌}
 use native.Mathlib.Omega.{arith}
 use lib.ListN.{length, drop}
-use Rattle.csv.proofs.Writing.{Writing, write_length}
+use Rattle.rfc4180.proofs.Writing.{Writing, write_length}
 use Rattle.lines.proofs.Lines.{write_begun, copied, copied_all}
 use Rattle.lines.proofs.put_bytes.Statement.{statement}
 use Rattle.lines.proofs.put_bytes.Tie as tie
@@ -44,8 +44,8 @@ same_length c = write_length c.before.loop.invariant.0
 returns : tie.Need-returns invariant-loop decreases-loop
 returns c = copied_all _ c.loop-test.false c.before.loop.invariant.0
 
-pub put-bytes-spec : {M : Type 1} → statement M
-put-bytes-spec =
+pub put-bytes_spec : {M : Type 1} → statement M
+put-bytes_spec =
     tie.close
     (tie.spec
     invariant-loop

@@ -13,6 +13,6 @@ same_length c = c.before.before.put-number.auto.0 ∙ simp length-set
 returns : tie.Need-returns
 returns c = (let e = c.before.before.put-number.ensures.0 in omega arith, c.before.before.put-number.ensures.1 ∙ rw add-one)
 
-pub put-field-spec : {M : Type 1} → statement M
-put-field-spec =
+pub put-field_spec : {M : Type 1} → statement M
+put-field_spec =
     tie.close (tie.spec (λ c. search rules) (λ c. search rules) (λ c κs. search rules) same_length returns)

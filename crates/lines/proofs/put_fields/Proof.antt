@@ -31,7 +31,7 @@ returns c =
     let bytes = c.before.before.before.before.before.before.before.before.before.before.put-bytes.ensures in
     fields_written _ _ _ _ _ bytes.0 bytes.1 first.0 first.1 second.0 second.1
 
-pub put-fields-spec : {M : Type 1} → statement M
-put-fields-spec =
+pub put-fields_spec : {M : Type 1} → statement M
+put-fields_spec =
     tie.close
     (tie.spec put-bytes-requires put-field-requires put-field-requires-2 same_length returns)

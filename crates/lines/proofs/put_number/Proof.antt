@@ -4,8 +4,8 @@ use mathlib.Core.Path.{ap}
 use native.Mathlib.Omega.{arith}
 use lib.ListN.{length, length-set}
 use borrow.Author.Rules.{rules}
-use Rattle.csv.proofs.Decimals.{numeral_one, numeral_two, numeral_three}
-use Rattle.csv.proofs.Writing.{put_one, put_two, put_three}
+use Rattle.rfc4180.proofs.Decimals.{numeral_one, numeral_two, numeral_three}
+use Rattle.rfc4180.proofs.Writing.{put_one, put_two, put_three}
 use Rattle.lines.proofs.put_number.Statement.{statement}
 use Rattle.lines.proofs.put_number.Tie as tie
 
@@ -111,8 +111,8 @@ same-length-3 c = search rules
 returns-3 : tie.Need-returns-3
 returns-3 c = put_three _ _ _ c.if2.false c.before.before.requires.0
 
-pub put-number-spec : {M : Type 1} → statement M
-put-number-spec =
+pub put-number_spec : {M : Type 1} → statement M
+put-number_spec =
     tie.close
     (tie.spec
     add-out

@@ -1,7 +1,7 @@
 -- `put_record` writes the fields and the line break. Assumes nothing.
 use mathlib.Core.List.{◌∷◌, []}
 use native.Mathlib.Omega.{arith}
-use Rattle.csv.specs.Decimals.{numeral}
+use Rattle.rfc4180.specs.Decimals.{numeral}
 use Rattle.lines.proofs.Records.{line_more, line_written}
 use borrow.Author.Rules.{rules}
 use Rattle.lines.proofs.put_record.Statement.{statement}
@@ -25,5 +25,5 @@ returns c =
     let fields = c.before.before.before.before.before.before.put-fields.ensures in
     line_written _ _ _ fields.0 fields.1 line-end.0 line-end.1
 
-pub put-record-spec : {M : Type 1} → statement M
-put-record-spec = tie.close (tie.spec put-fields-requires put-break-requires same_length returns)
+pub put-record_spec : {M : Type 1} → statement M
+put-record_spec = tie.close (tie.spec put-fields-requires put-break-requires same_length returns)

@@ -38,8 +38,8 @@ returns-3 c =
     let t = h.before in
     c.examine.ensures ∙ sym (call_checked _ _ _ _ _ (sym t.before.before.check-pair.ensures ∙ ap pair_refusal t.enum_told.given.1) h.if1.false)
 
-pub check-spec : {M : Type 1} → statement M
-check-spec =
+pub check_spec : {M : Type 1} → statement M
+check_spec =
     tie.close
     (tie.spec
     check-pair-requires

@@ -18,5 +18,5 @@ returns-2 c =
     let v = c.before.examine in
     other_fails a.m (product a.m a.source.now) a.n (product a.n a.target.now) a.map.now c.before.before.before.before.before.requires.1.1 v.result c.match.keys2 v.ensures
 
-pub embeds-spec : {M : Type 1} → statement M
-embeds-spec = tie.close (tie.spec (λ c κs. search rules) (λ c. search rules) returns returns-2)
+pub embeds_spec : {M : Type 1} → statement M
+embeds_spec = tie.close (tie.spec (λ c κs. search rules) (λ c. search rules) returns returns-2)

@@ -81,8 +81,8 @@ returns-4 c =
     let t = w.before in
     ap {B = Answer Checked} gives (sym (says_product _ _ _ _ _ (start t).requires.1.1 (no_outside t) (no_equal t _ _ _) _ (sym w.wrong-product.ensures ∙ ap pair_option c.enum-told3.given.1)))
 
-pub examine-spec : {M : Type 1} → statement M
-examine-spec =
+pub examine_spec : {M : Type 1} → statement M
+examine_spec =
     tie.close
     (tie.spec
     outside-requires

@@ -14,5 +14,5 @@ returns : tie.Need-returns
 unfolding at
 returns c = refl
 
-pub image-spec : {M : Type 1} → statement M
-image-spec = tie.close (tie.spec (λ c. search rules) (λ c. search rules) cast-result returns)
+pub image_spec : {M : Type 1} → statement M
+image_spec = tie.close (tie.spec (λ c. search rules) (λ c. search rules) cast-result returns)

@@ -60,8 +60,8 @@ returns c =
     let a = k.before.args in
     mask_end a.size a.pairs.now a.scratch.now k.before.requires.1 k.loop.invariant c.loop-test.false
 
-pub keep-pairs-spec : {M : Type 1} → statement M
-keep-pairs-spec =
+pub keep-pairs_spec : {M : Type 1} → statement M
+keep-pairs_spec =
     tie.close
     (tie.spec
     invariant-loop

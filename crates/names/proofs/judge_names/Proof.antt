@@ -8,7 +8,7 @@ use native.Mathlib.Omega.{arith}
 use lib.ListN.{length, get_or, take, drop}
 use borrow.Author.Tests.{not-true, not-false}
 use Rattle.sheets.specs.Names.{is_name, name_text}
-use Rattle.csv.proofs.Decimals.{digits_few}
+use Rattle.rfc4180.proofs.Decimals.{digits_few}
 use Rattle.sheets.proofs.Numbers.{name_is}
 use Rattle.sheets.proofs.Memory.{JudgingNames, judge_names_first, judge_outside, judge_no_name, judge_names_next, judge_names_done, name_text_short}
 use Rattle.names.proofs.judge_names.Statement.{statement}
@@ -193,5 +193,5 @@ returns-3 c =
     let few = c.before.loop.invariant.few in
     (done.0, omega arith, done.1)
 
-pub judge-names-spec : {M : Type 1} → statement M
-judge-names-spec = tie.close (tie.spec invariant-loop decreases-loop loop-holds shared-slice-read-size cast-size sub-if1 add-t13 returns add-end sub-is-name part-is-name-start part-is-name-end is-name-requires add-t19 returns-2 add-digit-count digit-count-requires sub-name-length part-name-length-start part-name-length-end name-length-requires add_total add-total-2 add-total-3 add-k loop-less loop-again returns-3)
+pub judge-names_spec : {M : Type 1} → statement M
+judge-names_spec = tie.close (tie.spec invariant-loop decreases-loop loop-holds shared-slice-read-size cast-size sub-if1 add-t13 returns add-end sub-is-name part-is-name-start part-is-name-end is-name-requires add-t19 returns-2 add-digit-count digit-count-requires sub-name-length part-name-length-start part-name-length-end name-length-requires add_total add-total-2 add-total-3 add-k loop-less loop-again returns-3)

@@ -140,5 +140,5 @@ sub-t16 c = (c.before.loop.invariant c.before.before.before.requires).low
 returns-3 : tie.Need-returns-3 invariant-loop decreases-loop
 returns-3 c = λ p. judge_done (c.before.loop.invariant p) c.loop-test.false
 
-pub judge-records-spec : {M : Type 1} → statement M
-judge-records-spec = tie.close (tie.spec invariant-loop decreases-loop loop-holds read-field-requires is-number-requires returns add-read-field read-field-requires-2 is-name-requires returns-2 add_total add-k add_at loop-less loop-again sub-t16 returns-3)
+pub judge-records_spec : {M : Type 1} → statement M
+judge-records_spec = tie.close (tie.spec invariant-loop decreases-loop loop-holds read-field-requires is-number-requires returns add-read-field read-field-requires-2 is-name-requires returns-2 add_total add-k add_at loop-less loop-again sub-t16 returns-3)

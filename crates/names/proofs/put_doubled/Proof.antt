@@ -8,7 +8,7 @@ use native.Mathlib.Numerals.{add-one}
 use lib.ListN.{length, drop, length-set}
 use Rattle.sheets.specs.Names.{doubled}
 use Rattle.sheets.proofs.Memory.{doubled_pair, doubled_single, doubled_end}
-use Rattle.csv.proofs.Writing.{Writing, write_first, write_length, write_room, write_next, write_last}
+use Rattle.rfc4180.proofs.Writing.{Writing, write_first, write_length, write_room, write_next, write_last}
 use Rattle.names.proofs.put_doubled.Statement.{statement}
 use Rattle.names.proofs.put_doubled.Tie as tie
 
@@ -104,5 +104,5 @@ returns c =
     let w = write_last c.before.loop.invariant.1 (doubled_end _ _ c.loop-test.false) in
     (w.1, w.0)
 
-pub put-doubled-spec : {M : Type 1} → statement M
-put-doubled-spec = tie.close (tie.spec invariant-loop decreases-loop loop-holds shared-slice-read-b slice-write-text add-text slice-write-text-2 add_at add-i loop-less loop-again slice-write-text-3 add-at-2 add-i-2 loop-less-2 loop-again-2 same_length returns)
+pub put-doubled_spec : {M : Type 1} → statement M
+put-doubled_spec = tie.close (tie.spec invariant-loop decreases-loop loop-holds shared-slice-read-b slice-write-text add-text slice-write-text-2 add_at add-i loop-less loop-again slice-write-text-3 add-at-2 add-i-2 loop-less-2 loop-again-2 same_length returns)

@@ -5,7 +5,7 @@ use mathlib.Core.List.{List}
 use Prim.Native.Nat.{ℕ, ◌+◌, ◌-◌, ◌≤◌}
 use native.Mathlib.Omega.{arith}
 use lib.ListN.{length, get_or, take, drop, length-set}
-use Rattle.csv.specs.Decimals.{numeral}
+use Rattle.rfc4180.specs.Decimals.{numeral}
 use Rattle.sheets.specs.Names.{name_text}
 use Rattle.sheets.proofs.Memory.{PuttingNames, put_first, put_length, put_inside, put_room, put_next, put_done}
 use Rattle.names.proofs.put_names.Statement.{statement}
@@ -160,5 +160,5 @@ same_length c = put_length _ _ c.before.loop.invariant
 returns : tie.Need-returns invariant-loop decreases-loop
 returns c = put_done _ _ c.before.loop.invariant c.loop-test.false c.before.before.before.before.before.requires.1
 
-pub put-names-spec : {M : Type 1} → statement M
-put-names-spec = tie.close (tie.spec invariant-loop decreases-loop loop-holds shared-slice-read-end cast-end add-end add-put-number put-number-requires slice-write-text add-put-name sub-put-name part-put-name-start part-put-name-end put-name-requires put-break-requires add-k loop-less loop-again same_length returns)
+pub put-names_spec : {M : Type 1} → statement M
+put-names_spec = tie.close (tie.spec invariant-loop decreases-loop loop-holds shared-slice-read-end cast-end add-end add-put-number put-number-requires slice-write-text add-put-name sub-put-name part-put-name-start part-put-name-end put-name-requires put-break-requires add-k loop-less loop-again same_length returns)

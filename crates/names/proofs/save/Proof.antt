@@ -51,5 +51,5 @@ returns-5 c =
     let told = subst (JudgesNames _ _) c.before.before.before.before.before.before.judged2.given.1 j.judge-names.ensures in
     saves_text _ _ _ _ (j.before.before.if1.false, j.before.if2.false) (told.0, told.2) c.before.before.before.before.if3.false _ c.before.before.put-names.ensures
 
-pub save-spec : {M : Type 1} → statement M
-save-spec = tie.close (tie.spec returns returns-2 judge-names-requires enum-known-judged enum-known-judged-2 returns-3 put-names-requires returns-4 same_length returns-5)
+pub save_spec : {M : Type 1} → statement M
+save_spec = tie.close (tie.spec returns returns-2 judge-names-requires enum-known-judged enum-known-judged-2 returns-3 put-names-requires returns-4 same_length returns-5)

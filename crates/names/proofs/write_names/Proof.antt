@@ -158,5 +158,5 @@ returns c =
       (λ p. (fill_done (c.before.loop.invariant p) c.loop-test.false (s.requires.1 p).names (s.requires.1 p).lengths).1),
     )
 
-pub write-names-spec : {M : Type 1} → statement M
-write-names-spec = tie.close (tie.spec invariant-loop decreases-loop loop-holds read-field-requires add-read-field read-field-requires-2 array-share-prefix-bytes slice-aggregate-put-bytes put-bytes-requires cast-lengths slice-write-lengths add-k add_at loop-less loop-again same_length same-length-2 returns)
+pub write-names_spec : {M : Type 1} → statement M
+write-names_spec = tie.close (tie.spec invariant-loop decreases-loop loop-holds read-field-requires add-read-field read-field-requires-2 array-share-prefix-bytes slice-aggregate-put-bytes put-bytes-requires cast-lengths slice-write-lengths add-k add_at loop-less loop-again same_length same-length-2 returns)

@@ -186,8 +186,8 @@ extend_returns_5 t c =
     let l = c.before.before.loop in
     c.nothing3.ensures ∙ ends (product a.m a.source.now) a.m (product a.n a.target.now) a.n a.scratch.now a.after.now (shares_later a.group.now) a.tight a.t9 z.requires.1.1 c.before.before.before.before.if2.false l.x c.before.loop-test.false l.invariant.3
 
-pub +extend-spec : {M : Type 1} → statement M
-+extend-spec = close μ-extend λ t. extend-lts.spec (calls t)
+pub +extend_spec : {M : Type 1} → statement M
++extend_spec = close μ-extend λ t. extend-lts.spec (calls t)
     (extend_at t)
     extend.Post
     extend_Inv_loop

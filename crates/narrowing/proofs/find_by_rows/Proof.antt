@@ -79,5 +79,5 @@ returns-2 c =
     c.extend.ensures
     ∙ ap found_in (all_found (product a.m a.source.now) a.m (product a.n a.target.now) a.n a.scratch.now a.after.now g.groups.result a.next k.«start».result (len_none k) (closed k) g.groups.ensures)
 
-pub find-by-rows-spec : {M : Type 1} → statement M
-find-by-rows-spec = tie.close (tie.spec start-requires is-roomy-requires nothing-requires returns groups-requires extend-requires returns-2)
+pub find-by-rows_spec : {M : Type 1} → statement M
+find-by-rows_spec = tie.close (tie.spec start-requires is-roomy-requires nothing-requires returns groups-requires extend-requires returns-2)

@@ -71,8 +71,8 @@ returns c =
     (λ f F among i hi. sym (same k i (at f i) hi (F.homomorphism.within i hi)) ∙ among i hi) (λ f F among i hi. same k i (at f i) hi (F.homomorphism.within i hi) ∙ among i hi)
     (bounded a.next a.after.now) (filled_closed a.m a.source.now z.pre.0.0))
 
-pub find-in-rows-spec : {M : Type 1} → statement M
-find-in-rows-spec =
+pub find-in-rows_spec : {M : Type 1} → statement M
+find-in-rows_spec =
     tie.close
     (tie.spec
     slice-aggregate-write-marks

@@ -117,8 +117,8 @@ returns-3 c =
     let a = (start k).args in
     c.find-in-rows.ensures ∙ ap found_in (search_alike (m k) (s k) (n k) (t k) (left k) (candidate k) (none_added k) (λ f F among. (none_lost k f F among).1) (bounded a.next a.after.now) (closed k))
 
-pub find-narrowed-spec : {M : Type 1} → statement M
-find-narrowed-spec =
+pub find-narrowed_spec : {M : Type 1} → statement M
+find-narrowed_spec =
     tie.close
     (tie.spec
     new-requires

@@ -11,5 +11,5 @@ returns : tie.Need-returns
 unfolding outcome_of images_in
 returns c = c.no-map.ensures
 
-pub nothing-spec : {M : Type 1} → statement M
-nothing-spec = tie.close (tie.spec no-map-requires returns)
+pub nothing_spec : {M : Type 1} → statement M
+nothing_spec = tie.close (tie.spec no-map-requires returns)

@@ -3,8 +3,8 @@
 use Prim.Native.Nat.{◌≤◌, ◌+◌, ◌-◌}
 use native.Mathlib.Omega.{arith}
 use lib.ListN.{length}
-use Rattle.csv.specs.Records.{rows_text}
-use Rattle.csv.proofs.Writing.{Writing, write_length, write_room, write_last}
+use Rattle.rfc4180.specs.Records.{rows_text}
+use Rattle.rfc4180.proofs.Writing.{Writing, write_length, write_room, write_last}
 use Rattle.output.specs.Records.{pair_records}
 use Rattle.output.proofs.Records.{pairs_left, pairs_begun, pairs_short, pairs_more, pairs_end, pair_room}
 use Rattle.output.proofs.put_pairs.Statement.{statement}
@@ -57,8 +57,8 @@ returns c =
     let all = write_last c.before.loop.invariant.0 (pairs_end _ _ _ c.loop-test.false) in
     (all.1, all.0)
 
-pub put-pairs-spec : {M : Type 1} → statement M
-put-pairs-spec =
+pub put-pairs_spec : {M : Type 1} → statement M
+put-pairs_spec =
     tie.close
     (tie.spec
     invariant-loop

@@ -153,8 +153,8 @@ returns-3 c =
     let z = start_of first in
     printed z.args.out.now (prints_answer z.args.source.now z.args.target.now (source_passes first) (target_passes second) (source_holds first) (target_holds second)) c.put-answer.ensures.0 c.put-answer.ensures.1
 
-pub recue-spec : {M : Type 1} → statement M
-recue-spec =
+pub recue_spec : {M : Type 1} → statement M
+recue_spec =
     tie.close
     (tie.spec
     slice-aggregate-load-then-check

@@ -12,8 +12,8 @@ array-share-prefix-out c = output_within _ _ _ c.recue.ensures.0 c.recue.ensures
 slice-aggregate-write-all : tie.Need-slice-aggregate-write-all
 slice-aggregate-write-all c = sym (length-take-le _ _ (output_within _ _ _ c.before.recue.ensures.0 c.before.recue.ensures.1))
 
-pub show-spec : {M : Type 1} → statement M
-show-spec =
+pub show_spec : {M : Type 1} → statement M
+show_spec =
     tie.close
     (tie.spec
     (λ c κs. search rules)

@@ -140,8 +140,8 @@ returns-6 c =
     let w = q.before.before.before.before.before in
     given (ready w.before.before.before.before) w.write-elements.ensures q.write-part.ensures
 
-pub subsemigroup-spec : {M : Type 1} → statement M
-subsemigroup-spec =
+pub subsemigroup_spec : {M : Type 1} → statement M
+subsemigroup_spec =
     tie.close
     (tie.spec
     check-requires

@@ -71,8 +71,8 @@ returns : tie.Need-returns invariant-loop decreases-loop
 returns c =
     elements_end _ _ _ c.before.loop.invariant c.loop-test.false
 
-pub write-elements-spec : {M : Type 1} → statement M
-write-elements-spec =
+pub write-elements_spec : {M : Type 1} → statement M
+write-elements_spec =
     tie.close
     (tie.spec
     invariant-loop

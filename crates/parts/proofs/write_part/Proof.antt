@@ -137,8 +137,8 @@ returns c =
     let p = c.before.before.before.before.before.before.requires in
     grid_end _ _ _ _ _ _ _ c.before.loop.invariant c.loop-test.false ∙ part_written _ _ _ _ p.1.0 p.1.1.0 _
 
-pub write-part-spec : {M : Type 1} → statement M
-write-part-spec =
+pub write-part_spec : {M : Type 1} → statement M
+write-part_spec =
     tie.close
     (tie.spec
     invariant-loop2

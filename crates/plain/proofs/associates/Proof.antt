@@ -79,8 +79,8 @@ returns c =
     ap₂ eqb (c.before.product3.ensures.0 ∙ ap (λ (q : ℕ). s q (get_or b.args.triple.now 2 0)) c.before.before.before.product.ensures.0)
     (c.product4.ensures.0 ∙ ap (λ (q : ℕ). s (get_or b.args.triple.now 0 0) q) c.before.before.product2.ensures.0)
 
-pub associates-spec : {M : Type 1} → statement M
-associates-spec =
+pub associates_spec : {M : Type 1} → statement M
+associates_spec =
     tie.close
     (tie.spec
     element-copy-out-i

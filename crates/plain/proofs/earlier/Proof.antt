@@ -44,8 +44,8 @@ loop-again c =
 returns-2 : tie.Need-returns-2 invariant-loop decreases-loop
 returns-2 c = sym (c.before.loop.invariant ∙ order_end _ _ c.before.before.requires _ c.loop-test.false)
 
-pub earlier-spec : {M : Type 1} → statement M
-earlier-spec =
+pub earlier_spec : {M : Type 1} → statement M
+earlier_spec =
     tie.close
     (tie.spec
     invariant-loop

@@ -82,8 +82,8 @@ returns-2 c =
     let total = h.before.number-of-lists.ensures in
     sym (every_pair _ _ _ _ _ b.requires.1.1 (h.loop.invariant.1 ∙ search_end _ _ _ _ (omega arith)))
 
-pub is-embedding-spec : {M : Type 1} → statement M
-is-embedding-spec =
+pub is-embedding_spec : {M : Type 1} → statement M
+is-embedding_spec =
     tie.close
     (tie.spec
     invariant-loop

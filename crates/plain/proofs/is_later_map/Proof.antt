@@ -54,8 +54,8 @@ returns c =
     let test : List ℕ → Bool = λ f. is_map (plain_kind a.isomorphisms) a.m (product a.m a.source.now) a.n (product a.n a.target.now) f in
     ap₂ ◌&&◌ (c.before.before.is_map_law.ensures ∙ ap test (read d)) (c.earlier.ensures ∙ ap (earlier a.after.now) (read d))
 
-pub is-later-map-spec : {M : Type 1} → statement M
-is-later-map-spec =
+pub is-later-map_spec : {M : Type 1} → statement M
+is-later-map_spec =
     tie.close
     (tie.spec
     list-number-requires

@@ -72,8 +72,8 @@ returns-5 c =
     let r = w.before in
     c.judge-triples.ensures ∙ sym (ap {B = Said} said_of (cells_pass _ _ (right_size _ _ r.before.before.if1.false r.before.if2.false r.if3.false _ (no_place _ _ _ w.wrong_cell.ensures h.if4.false))))
 
-pub judge-spec : {M : Type 1} → statement M
-judge-spec =
+pub judge_spec : {M : Type 1} → statement M
+judge_spec =
     tie.close
     (tie.spec
     failed-requires

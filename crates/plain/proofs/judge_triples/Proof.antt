@@ -100,8 +100,8 @@ returns-2 c =
     let total = h.before.number-of-lists.ensures in
     c.failed.ensures ∙ sym (h.loop.invariant.1 ∙ triples_end _ _ _ (omega arith))
 
-pub judge-triples-spec : {M : Type 1} → statement M
-judge-triples-spec =
+pub judge-triples_spec : {M : Type 1} → statement M
+judge-triples_spec =
     tie.close
     (tie.spec
     invariant-loop

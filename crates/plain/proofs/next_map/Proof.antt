@@ -85,8 +85,8 @@ returns-2 c =
     let end = h.loop.invariant.1 ∙ search_end _ _ _ _ (omega arith) in
     (ap is_some (sym end), h.loop.invariant.0 ∙ ap (λ (o : Option (List ℕ)). get_or o (start_of h).args.map.now) (sym end))
 
-pub next-map-spec : {M : Type 1} → statement M
-next-map-spec =
+pub next-map_spec : {M : Type 1} → statement M
+next-map_spec =
     tie.close
     (tie.spec
     invariant-loop

@@ -80,8 +80,8 @@ returns c =
     let p = c.before.requires in
     (found c.before ∙ product_found _ _ p.0 _ _ p.1.0 p.1.1, found_in c.before)
 
-pub product-spec : {M : Type 1} → statement M
-product-spec =
+pub product_spec : {M : Type 1} → statement M
+product_spec =
     tie.close
     (tie.spec
     mul-result

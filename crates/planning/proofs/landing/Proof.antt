@@ -41,8 +41,8 @@ add-result c = let d = c.before.before.requires.0 in let b = mod-lt c.before.loo
 returns : tie.Need-returns invariant-loop decreases-loop
 returns c = let p = c.before.before.requires.1 in left_image _ _ p.0 _ _ _ p.1 (c.before.loop.invariant p.0) c.loop-test.false
 
-pub landing-spec : {M : Type 1} → statement M
-landing-spec =
+pub landing_spec : {M : Type 1} → statement M
+landing_spec =
     tie.close
     (tie.spec
     invariant-loop

@@ -74,8 +74,8 @@ same-length-4 c = ap length c.before.loop.invariant.unwritten
 returns-2 : tie.Need-returns-2 invariant-loop decreases-loop
 returns-2 c = try_end _ _ _ _ _ _ _ c.before.loop.invariant c.loop-test.false
 
-pub place-spec : {M : Type 1} → statement M
-place-spec =
+pub place_spec : {M : Type 1} → statement M
+place_spec =
     tie.close
     (tie.spec
     invariant-loop

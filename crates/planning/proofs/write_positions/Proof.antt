@@ -116,8 +116,8 @@ same_length c = row_length _ _ _ _ _ _ _ c.before.loop.invariant (room c.before.
 returns : tie.Need-returns invariant-loop2 decreases-loop2 invariant-loop decreases-loop
 returns c = grid_end _ _ _ _ _ _ _ c.before.loop.invariant c.loop-test.false ∙ landings_written _ _ _ _
 
-pub write-positions-spec : {M : Type 1} → statement M
-write-positions-spec =
+pub write-positions_spec : {M : Type 1} → statement M
+write-positions_spec =
     tie.close
     (tie.spec
     invariant-loop2

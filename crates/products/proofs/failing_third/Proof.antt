@@ -89,8 +89,8 @@ returns-5 c =
     let l = c.before.before in
     sym (l.loop.invariant.2 ∙ third_end (table l.before.before.before) _ _ _ _ (omega arith))
 
-pub failing-third-spec : {M : Type 1} → statement M
-failing-third-spec =
+pub failing-third_spec : {M : Type 1} → statement M
+failing-third_spec =
     tie.close
     (tie.spec
     invariant-loop

@@ -25,5 +25,5 @@ returns c =
     let f = w.1 in
     rw (e, f)
 
-pub fails-spec : {M : Type 1} → statement M
-fails-spec = tie.close (tie.spec times-requires times-requires-2 times-requires-3 returns)
+pub fails_spec : {M : Type 1} → statement M
+fails_spec = tie.close (tie.spec times-requires times-requires-2 times-requires-3 returns)

@@ -21,5 +21,5 @@ returns c =
     let cells = s.args.cells.now in
     c.tally.ensures ∙ per_element_same n (λ a. occurrences a 1 (length cells) cells) (frequency n (product n cells)) (λ a h. table_counted n cells s.requires.size a)
 
-pub frequencies-spec : {M : Type 1} → statement M
-frequencies-spec = tie.close (tie.spec tally-requires returns)
+pub frequencies_spec : {M : Type 1} → statement M
+frequencies_spec = tie.close (tie.spec tally-requires returns)

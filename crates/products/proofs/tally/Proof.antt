@@ -103,8 +103,8 @@ returns c =
     let a = c.before.before.args in
     l.invariant.1 ∙ ap (λ (j : ℕ). per_element a.n (λ x. occurrences x a.step j a.cells.now)) (let z : l.i ≡ a.k = omega arith in z)
 
-pub tally-spec : {M : Type 1} → statement M
-tally-spec =
+pub tally_spec : {M : Type 1} → statement M
+tally_spec =
     tie.close
     (tie.spec
     invariant-loop

@@ -44,8 +44,8 @@ returns c =
     let p = c.before.requires in
     (product_found _ _ p.0 _ _ p.1.0 p.1.1, found_element _ _ p.0 _ _ p.1.0 p.1.1)
 
-pub times-spec : {M : Type 1} → statement M
-times-spec =
+pub times_spec : {M : Type 1} → statement M
+times_spec =
     tie.close
     (tie.spec
     sub-result

@@ -45,8 +45,8 @@ returns-4 c =
     let v = i.before.same-row2 in
     rw (eq-eqb a.looks a.last.looks k.before.before.before.if1.false, sym w.ensures ∙ not-false w.result k.if2.false, sym v.ensures ∙ not-false v.result i.if3.false) c.is_inside_law.ensures
 
-pub decides-spec : {M : Type 1} → statement M
-decides-spec =
+pub decides_spec : {M : Type 1} → statement M
+decides_spec =
     tie.close
     (tie.spec
     returns

@@ -20,5 +20,5 @@ returns-2 c =
     let a = c.before.args in
     (sym (ap {B = ℕ} (λ (b : Bool). cond b a.weight 0) (ne_eqb a.a a.b c.if1.false)), omega arith)
 
-pub digit-spec : {M : Type 1} → statement M
-digit-spec = tie.close (tie.spec returns returns-2)
+pub digit_spec : {M : Type 1} → statement M
+digit_spec = tie.close (tie.spec returns returns-2)

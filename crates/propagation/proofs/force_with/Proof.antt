@@ -112,8 +112,8 @@ returns-3 c =
       ),
     )
 
-pub force-with-spec : {M : Type 1} → statement M
-force-with-spec =
+pub force-with_spec : {M : Type 1} → statement M
+force-with_spec =
     tie.close
     (tie.spec
     row-of-requires

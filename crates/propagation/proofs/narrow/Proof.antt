@@ -147,8 +147,8 @@ returns-2 c =
       ),
     )
 
-pub narrow-spec : {M : Type 1} → statement M
-narrow-spec =
+pub narrow_spec : {M : Type 1} → statement M
+narrow_spec =
     tie.close
     (tie.spec
     invariant-loop

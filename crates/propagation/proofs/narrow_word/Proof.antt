@@ -124,8 +124,8 @@ returns-2 c =
     let a = s.args in
     c.before.loop.invariant.2 ∙ done a.old a.from (stays (product a.n a.target.now) a.x a.looks a.left a.right) c.before.loop.k c.before.loop.rest c.before.loop.invariant.1 c.loop-test.false a.count c.before.loop.invariant.0
 
-pub narrow-word-spec : {M : Type 1} → statement M
-narrow-word-spec =
+pub narrow-word_spec : {M : Type 1} → statement M
+narrow-word_spec =
     tie.close
     (tie.spec
     invariant-loop

@@ -50,8 +50,8 @@ returns c =
     let six = c.digit6.ensures.0 in
     ap₂ ◌+◌ (ap₂ ◌+◌ (ap₂ ◌+◌ one two) (ap₂ ◌+◌ three four)) (ap₂ ◌+◌ five six)
 
-pub pattern-spec : {M : Type 1} → statement M
-pattern-spec =
+pub pattern_spec : {M : Type 1} → statement M
+pattern_spec =
     tie.close
     (tie.spec
     digit-requires

@@ -119,8 +119,8 @@ returns-2 c =
       ),
     )
 
-pub propagate-spec : {M : Type 1} → statement M
-propagate-spec =
+pub propagate_spec : {M : Type 1} → statement M
+propagate_spec =
     tie.close
     (tie.spec
     invariant-loop

@@ -156,8 +156,8 @@ returns-4 c =
       ),
     )
 
-pub propagate-from-spec : {M : Type 1} → statement M
-propagate-from-spec =
+pub propagate-from_spec : {M : Type 1} → statement M
+propagate-from_spec =
     tie.close
     (tie.spec
     row-of-requires

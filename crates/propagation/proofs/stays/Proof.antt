@@ -54,8 +54,8 @@ returns-3 c =
     (ap (in_row a.left) (sym xy) ∙ sym w.ensures ∙ not-false w.result c.before.before.before.before.if1.false)
     (ap (in_row a.right) (sym yx) ∙ sym v.ensures ∙ not-false v.result c.before.if2.false)
 
-pub stays-spec : {M : Type 1} → statement M
-stays-spec =
+pub stays_spec : {M : Type 1} → statement M
+stays_spec =
     tie.close
     (tie.spec
     times-requires

@@ -41,7 +41,7 @@ returns-2 c =
       none = λ e z l. let zero = eqb-true v 0 (not-false _ e) in let q = w.ensures.found l.image l.element (row ∙ l.row) in let h = l.element in omega arith;
     }
 
-pub waits-spec : {M : Type 1} → statement M
-waits-spec =
+pub waits_spec : {M : Type 1} → statement M
+waits_spec =
     tie.close
     (tie.spec sub-if1 element-copy-out-if1 returns row-of-requires lone-requires returns-2)

@@ -22,5 +22,5 @@ returns-2 c =
     let opened = told _ z.args.fd false (to_z-of_z z.ranges.fd) c.before.before.before.before.before.if1.false in
     (opened, (search rules, (search rules, λ e. absurd (false≢true (sym (opened ∙ e))))))
 
-pub read-file-spec : {M : Type 1} → statement M
-read-file-spec = tie.close (tie.spec returns (λ c κs. search rules) (λ c κs. search rules) (λ c. search rules) returns-2)
+pub read-file_spec : {M : Type 1} → statement M
+read-file_spec = tie.close (tie.spec returns (λ c κs. search rules) (λ c κs. search rules) (λ c. search rules) returns-2)

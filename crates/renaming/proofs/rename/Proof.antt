@@ -19,8 +19,8 @@ returns c =
     let f = c.before.before.before.before.before.products_last_law in
     c.before.before.write-part.ensures ∙ renamed_written z.args.n z.args.cells.now z.requires.0 f.result f.ensures z.args.renamed.now
 
-pub rename-spec : {M : Type 1} → statement M
-rename-spec =
+pub rename_spec : {M : Type 1} → statement M
+rename_spec =
     tie.close
     (tie.spec
     (λ c κs. search rules)

@@ -5,10 +5,10 @@ use mathlib.Core.List.{List}
 use Prim.Native.Nat.{ℕ, ◌+◌, ◌-◌, ◌≤◌}
 use native.Mathlib.Omega.{arith}
 use lib.ListN.{length}
-use Rattle.csv.specs.Records.{line_text}
-use Rattle.csv.specs.Tables.{row_fields}
-use Rattle.csv.proofs.Writing.{Writing, write_first, write_length, write_room}
-use Rattle.csv.proofs.Saving.{fields_left, row_begun, row_more, row_done, room_first, room_next, room_last}
+use Rattle.rfc4180.specs.Records.{line_text}
+use Rattle.rfc4180.specs.Tables.{row_fields}
+use Rattle.rfc4180.proofs.Writing.{Writing, write_first, write_length, write_room}
+use Rattle.rfc4180.proofs.Saving.{fields_left, row_begun, row_more, row_done, room_first, room_next, room_last}
 use Rattle.saving.proofs.put_row.Statement.{statement}
 use Rattle.saving.proofs.put_row.Tie as tie
 
@@ -105,8 +105,8 @@ returns c =
     let put = c.before.before.put-break.ensures in
     row_done _ _ _ _ l.loop-test.false (begun l.before.before) l.before.loop.invariant.0 put.1 put.0
 
-pub put-row-spec : {M : Type 1} → statement M
-put-row-spec =
+pub put-row_spec : {M : Type 1} → statement M
+put-row_spec =
     tie.close
     (tie.spec
     invariant-loop

@@ -2,9 +2,9 @@
 -- Assumes nothing.
 use Prim.Native.Nat.{◌+◌, ◌-◌, ◌≤◌}
 use native.Mathlib.Omega.{arith}
-use Rattle.csv.specs.Tables.{table_text}
-use Rattle.csv.proofs.Writing.{Writing, write_length, write_room}
-use Rattle.csv.proofs.Saving.{rows_left, rows_begun, rows_more, rows_done, rows_room}
+use Rattle.rfc4180.specs.Tables.{table_text}
+use Rattle.rfc4180.proofs.Writing.{Writing, write_length, write_room}
+use Rattle.rfc4180.proofs.Saving.{rows_left, rows_begun, rows_more, rows_done, rows_room}
 use Rattle.saving.proofs.put_rows.Statement.{statement}
 use Rattle.saving.proofs.put_rows.Tie as tie
 
@@ -47,8 +47,8 @@ returns c =
     let s = c.before.before.before.before in
     rows_done _ _ _ c.loop-test.false s.requires.1 c.before.loop.invariant.0
 
-pub put-rows-spec : {M : Type 1} → statement M
-put-rows-spec =
+pub put-rows_spec : {M : Type 1} → statement M
+put-rows_spec =
     tie.close
     (tie.spec
     invariant-loop

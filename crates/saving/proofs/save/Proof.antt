@@ -8,7 +8,7 @@ use Rattle.semigroups.specs.InnerQuestions.{cells_refusal}
 use Rattle.semigroups.proofs.Tables.{filled}
 use Rattle.answers.specs.Answers.{verdict_refusal}
 use Rattle.semigroups.specs.Calls.{Answer, refused, gives}
-use Rattle.csv.proofs.Saving.{bad_table, bad_room, save_given}
+use Rattle.rfc4180.proofs.Saving.{bad_table, bad_room, save_given}
 use Rattle.saving.proofs.save.Statement.{statement}
 use Rattle.saving.proofs.save.Tie as tie
 
@@ -61,8 +61,8 @@ returns-3 c =
     let given = save_given _ _ _ (table_passes x) room in
     (ap {B = Answer ℕ} gives c.before.before.put-rows.ensures.0 ∙ given.0, c.before.before.put-rows.ensures.1 ∙ given.1)
 
-pub save-spec : {M : Type 1} → statement M
-save-spec =
+pub save_spec : {M : Type 1} → statement M
+save_spec =
     tie.close
     (tie.spec
     check-cells-requires

@@ -5,9 +5,9 @@ use Prim.Native.Nat.{◌+◌, ◌-◌, ◌*◌, ◌≤◌}
 use native.Mathlib.Omega.{arith}
 use lib.ListN.{length, get_or}
 use Rattle.products.proofs.Products.{square_small}
-use Rattle.csv.specs.Tables.{table_text}
-use Rattle.csv.proofs.Decimals.{digits_few}
-use Rattle.csv.proofs.Tables.{widths_from, widths_first, widths_step, widths_end}
+use Rattle.rfc4180.specs.Tables.{table_text}
+use Rattle.rfc4180.proofs.Decimals.{digits_few}
+use Rattle.rfc4180.proofs.Tables.{widths_from, widths_first, widths_step, widths_end}
 use Rattle.saving.proofs.text_length.Statement.{statement}
 use Rattle.saving.proofs.text_length.Tie as tie
 
@@ -65,8 +65,8 @@ returns c =
     let i = l.loop.invariant.0 in
     omega (arith, widths_end s.args.cells.now l.loop.place c.loop-test.false)
 
-pub text-length-spec : {M : Type 1} → statement M
-text-length-spec =
+pub text-length_spec : {M : Type 1} → statement M
+text-length_spec =
     tie.close
     (tie.spec
     invariant-loop

@@ -59,5 +59,5 @@ returns-3 c =
     let l = c.before.before in
     sym (scan_open _ _ _ l.before.loop.invariant l.loop-test.false (sym c.before.may-end.ensures ∙ c.if2.false))
 
-pub scan-spec : {M : Type 1} → statement M
-scan-spec = tie.close (tie.spec invariant-loop decreases-loop loop-holds shared-slice-read-step step-requires is-dead-requires returns add-i loop-less loop-again may-end-requires returns-2 returns-3)
+pub scan_spec : {M : Type 1} → statement M
+scan_spec = tie.close (tie.spec invariant-loop decreases-loop loop-holds shared-slice-read-step step-requires is-dead-requires returns add-i loop-less loop-again may-end-requires returns-2 returns-3)

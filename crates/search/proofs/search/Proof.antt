@@ -58,8 +58,8 @@ returns-3 c =
     let s = p.before.before.before.before.before.before.before in
     passing (kind_of s.args.kind) (lent s) _ (passed p) f.find.result _ c.if1.false f.find.ensures
 
-pub search-spec : {M : Type 1} → statement M
-search-spec =
+pub search_spec : {M : Type 1} → statement M
+search_spec =
     tie.close
     (tie.spec
     ask-requires

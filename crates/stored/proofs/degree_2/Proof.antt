@@ -12,5 +12,5 @@ returns : tie.Need-returns
 unfolding range elements at sum count earlier lists grid after transformations transformation_order transformation number_of transformation_product transformation_cells flat_map
 returns c = refl
 
-pub degree-2-spec : {M : Type 1} → statement M
-degree-2-spec = tie.close (tie.spec returns)
+pub degree_2_spec : {M : Type 1} → statement M
+degree_2_spec = tie.close (tie.spec returns)

@@ -112,8 +112,8 @@ returns-2 c =
     let w = compared _ _ _ _ _ _ _ _ _ h.before.before.times.ensures.0 c.before.before.before.times2.ensures.0 c.before.before.times3.ensures.0 c.before.times4.ensures.0 in
     sym (ap refusal (v.2 ∙ triple_hit _ _ _ _ _ h.loop2-test.true (failing _ _ _ _ (λ e. c.if1.true (w.0 ∙ e ∙ sym w.1)))))
 
-pub associative-spec : {M : Type 1} → statement M
-associative-spec =
+pub associative_spec : {M : Type 1} → statement M
+associative_spec =
     tie.close
     (tie.spec
     invariant-loop2

@@ -24,5 +24,5 @@ associative-requires c κs = search rules
 returns-2 : tie.Need-returns-2
 returns-2 c = search rules
 
-pub associativity-spec : {M : Type 1} → statement M
-associativity-spec = tie.close (tie.spec accept-requires returns associative-requires returns-2)
+pub associativity_spec : {M : Type 1} → statement M
+associativity_spec = tie.close (tie.spec accept-requires returns associative-requires returns-2)

@@ -29,8 +29,8 @@ returns-2 c =
     let v = c.before in
     c.associativity.ensures ∙ sym (cells_pass _ _ (sym v.before.before.check-cells.ensures ∙ ap verdict_refusal v.enum_told.given.1))
 
-pub check-spec : {M : Type 1} → statement M
-check-spec =
+pub check_spec : {M : Type 1} → statement M
+check_spec =
     tie.close
     (tie.spec
     check-cells-requires

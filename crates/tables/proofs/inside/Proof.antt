@@ -50,8 +50,8 @@ cast-result c = omega (arith, c.before.before.loop.invariant.1)
 returns-2 : tie.Need-returns-2 invariant-loop decreases-loop
 returns-2 c = sym (bounded_last _ _ c.before.before.loop.invariant.0 c.before.loop-test.false ∙ rw (le-leb 1 c.before.before.loop.least c.if1.false))
 
-pub inside-spec : {M : Type 1} → statement M
-inside-spec =
+pub inside_spec : {M : Type 1} → statement M
+inside_spec =
     tie.close
     (tie.spec
     invariant-loop

@@ -17,5 +17,5 @@ first-outside-requires c κs = search rules
 returns-2 : tie.Need-returns-2
 returns-2 c = search rules
 
-pub outside-spec : {M : Type 1} → statement M
-outside-spec = tie.close (tie.spec inside-requires returns first-outside-requires returns-2)
+pub outside_spec : {M : Type 1} → statement M
+outside_spec = tie.close (tie.spec inside-requires returns first-outside-requires returns-2)

@@ -3,8 +3,8 @@
 use Prim.Native.Nat.{◌+◌, ◌-◌}
 use native.Mathlib.Omega.{arith}
 use lib.ListN.{length}
-use Rattle.csv.proofs.Reading.{turn_forward}
-use Rattle.csv.proofs.Judging.{Counting, count_first, count_turn, count_more, count_last}
+use Rattle.rfc4180.proofs.Reading.{turn_forward}
+use Rattle.rfc4180.proofs.Judging.{Counting, count_first, count_turn, count_more, count_last}
 use Rattle.text.proofs.columns.Statement.{statement}
 use Rattle.text.proofs.columns.Tie as tie
 

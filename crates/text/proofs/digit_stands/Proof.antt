@@ -5,8 +5,8 @@ use lib.ListN.{get_or}
 use borrow.Author.Rules.{rules}
 use borrow.Author.Tests.{le-leb}
 use Prim.Native.Nat.{ℕ, ◌≤◌}
-use Rattle.csv.specs.Decimals.{is_digit}
-use Rattle.csv.proofs.Fields.{below_digit}
+use Rattle.rfc4180.specs.Decimals.{is_digit}
+use Rattle.rfc4180.proofs.Fields.{below_digit}
 use Rattle.text.proofs.Digits.{past_digits}
 use Rattle.text.proofs.digit_stands.Statement.{statement}
 use Rattle.text.proofs.digit_stands.Tie as tie
@@ -28,5 +28,5 @@ returns-2 c = sym (below_digit (get_or c.before.before.before.args.text.now c.be
 returns-3 : tie.Need-returns-3
 returns-3 c = not_below (get_or c.before.before.before.args.text.now c.before.before.before.args.at 0) c.if2.false
 
-pub digit-stands-spec : {M : Type 1} → statement M
-digit-stands-spec = tie.close (tie.spec returns shared-slice-read-b returns-2 returns-3)
+pub digit-stands_spec : {M : Type 1} → statement M
+digit-stands_spec = tie.close (tie.spec returns shared-slice-read-b returns-2 returns-3)

@@ -2,7 +2,7 @@
 use native.Mathlib.Omega.{arith}
 use lib.ListN.{get_or}
 use borrow.Author.Rules.{rules}
-use Rattle.csv.proofs.Rows.{digit_range}
+use Rattle.rfc4180.proofs.Rows.{digit_range}
 use Rattle.text.proofs.Digits.{digit_inside}
 use Rattle.text.proofs.digit_value.Statement.{statement}
 use Rattle.text.proofs.digit_value.Tie as tie
@@ -19,5 +19,5 @@ cast-result c = omega (arith, (digit_range (get_or c.before.args.text.now c.befo
 returns : tie.Need-returns
 returns c = search rules
 
-pub digit-value-spec : {M : Type 1} → statement M
-digit-value-spec = tie.close (tie.spec shared-slice-read-result sub-result cast-result returns)
+pub digit-value_spec : {M : Type 1} → statement M
+digit-value_spec = tie.close (tie.spec shared-slice-read-result sub-result cast-result returns)

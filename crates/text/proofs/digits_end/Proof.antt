@@ -3,8 +3,8 @@ use mathlib.Core.Path.{◌≡◌, ap}
 use Prim.Native.Nat.{◌+◌, ◌-◌, ◌≤◌}
 use native.Mathlib.Omega.{arith}
 use lib.ListN.{length, drop}
-use Rattle.csv.specs.InnerCursor.{digits}
-use Rattle.csv.proofs.Fields.{is_digit_law, below_digit, above_digit, digits_past, digits_none, digits_more}
+use Rattle.rfc4180.specs.InnerCursor.{digits}
+use Rattle.rfc4180.proofs.Fields.{is_digit_law, below_digit, above_digit, digits_past, digits_none, digits_more}
 use Rattle.text.proofs.digits_end.Statement.{statement}
 use Rattle.text.proofs.digits_end.Tie as tie
 
@@ -49,8 +49,8 @@ returns-3 c =
     let t = c.before.before.args.text.now in
     omega (arith, ap length (digits_past t c.before.loop.i c.loop-test.false))
 
-pub digits-end-spec : {M : Type 1} → statement M
-digits-end-spec =
+pub digits-end_spec : {M : Type 1} → statement M
+digits-end_spec =
     tie.close
     (tie.spec
     invariant-loop

@@ -7,7 +7,7 @@ use native.Mathlib.Omega.{arith}
 use lib.ListN.{get_or}
 use borrow.Author.Rules.{rules}
 use borrow.Author.Tests.{not-true, not-false}
-use Rattle.csv.specs.Decimals.{is_digit}
+use Rattle.rfc4180.specs.Decimals.{is_digit}
 use Rattle.text.proofs.Digits.{digits_from, none_from, digit_inside, one_more}
 use Rattle.text.proofs.field_end.Statement.{statement}
 use Rattle.text.proofs.field_end.Tie as tie
@@ -83,8 +83,8 @@ returns-4 c =
     let s = x.before.before.before.before.before.before.before in
     omega (arith, c.digits-end.ensures, after_second x.before.before, one_more (text_of s) (s.args.at + 2) (s.args.at + 3) (omega arith) (third x))
 
-pub field-end-spec : {M : Type 1} → statement M
-field-end-spec =
+pub field-end_spec : {M : Type 1} → statement M
+field-end_spec =
     tie.close
     (tie.spec
     digit-stands-requires

@@ -5,12 +5,12 @@ use mathlib.Core.Bool.{true}
 use Prim.Native.Nat.{◌+◌, ◌-◌, ◌≤◌}
 use native.Mathlib.Omega.{arith}
 use lib.ListN.{length, drop}
-use Rattle.csv.specs.InnerCursor.{digits}
-use Rattle.csv.specs.Tables.{cells_of}
-use Rattle.csv.specs.PassingLaws.{Number}
-use Rattle.csv.proofs.Fields.{field_passed}
-use Rattle.csv.proofs.Reading.{turn_forward}
-use Rattle.csv.proofs.Filling.{Filling, here, fill_first, fill_done, fill_length, fill_field, fill_room, fill_next}
+use Rattle.rfc4180.specs.InnerCursor.{digits}
+use Rattle.rfc4180.specs.Tables.{cells_of}
+use Rattle.rfc4180.specs.PassingLaws.{Number}
+use Rattle.rfc4180.proofs.Fields.{field_passed}
+use Rattle.rfc4180.proofs.Reading.{turn_forward}
+use Rattle.rfc4180.proofs.Filling.{Filling, here, fill_first, fill_done, fill_length, fill_field, fill_room, fill_next}
 use Rattle.text.proofs.fill.Statement.{statement}
 use Rattle.text.proofs.fill.Tie as tie
 

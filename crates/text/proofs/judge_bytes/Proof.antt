@@ -5,8 +5,8 @@ use mathlib.Core.Bool.{false}
 use Prim.Native.Nat.{◌-◌}
 use native.Mathlib.Omega.{arith}
 use lib.ListN.{length}
-use Rattle.csv.specs.Questions.{first_other}
-use Rattle.csv.proofs.Scan.{other_from, begun, begin, begin_clear, pass, fail, finish, digit, comma, clear, pass_pair, clear_pair, lone_last, lone_inside, low, high, other_refused, none_refused}
+use Rattle.rfc4180.specs.Questions.{first_other}
+use Rattle.rfc4180.proofs.Scan.{other_from, begun, begin, begin_clear, pass, fail, finish, digit, comma, clear, pass_pair, clear_pair, lone_last, lone_inside, low, high, other_refused, none_refused}
 use Rattle.text.proofs.judge_bytes.Statement.{statement}
 use Rattle.text.proofs.judge_bytes.Tie as tie
 
@@ -96,8 +96,8 @@ returns-4 c =
 returns-5 : tie.Need-returns-5 invariant-loop decreases-loop
 returns-5 c = none_refused _ (c.before.loop.invariant.1 ∙ finish _ _ c.loop-test.false)
 
-pub judge-bytes-spec : {M : Type 1} → statement M
-judge-bytes-spec =
+pub judge-bytes_spec : {M : Type 1} → statement M
+judge-bytes_spec =
     tie.close
     (tie.spec
     invariant-loop

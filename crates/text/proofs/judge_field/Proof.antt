@@ -6,8 +6,8 @@ use Prim.Native.Nat.{ℕ, ◌≤◌}
 use native.Mathlib.Omega.{arith}
 use lib.ListN.{length, get_or, drop}
 use borrow.Author.Rules.{rules}
-use Rattle.csv.specs.InnerCursor.{digits}
-use Rattle.csv.proofs.Fields.{digit_here, digits_first, field_empty, field_long, field_zero, field_large, field_passes}
+use Rattle.rfc4180.specs.InnerCursor.{digits}
+use Rattle.rfc4180.proofs.Fields.{digit_here, digits_first, field_empty, field_long, field_zero, field_large, field_passes}
 use Rattle.text.proofs.judge_field.Statement.{statement}
 use Rattle.text.proofs.judge_field.Tie as tie
 
@@ -72,8 +72,8 @@ returns-5 c =
     let whole = (start x).requires.1 in
     field_passes (field x) (leading c.before.before.before) (one x) (omega arith) (rw c.before.read_number.ensures at c.if4.false)
 
-pub judge-field-spec : {M : Type 1} → statement M
-judge-field-spec =
+pub judge-field_spec : {M : Type 1} → statement M
+judge-field_spec =
     tie.close
     (tie.spec
     sub-if1

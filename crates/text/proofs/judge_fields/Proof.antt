@@ -10,13 +10,13 @@ use native.Mathlib.Omega.{arith}
 use lib.ListN.{length, drop}
 use borrow.Author.Rules.{rules}
 use borrow.Author.Tests.{not-true, not-false}
-use Rattle.csv.specs.InnerCursor.{digits, comma_follows}
-use Rattle.csv.specs.InnerQuestions.{field_refusal}
+use Rattle.rfc4180.specs.InnerCursor.{digits, comma_follows}
+use Rattle.rfc4180.specs.InnerQuestions.{field_refusal}
 use Rattle.text.specs.declared.Field.{Field}
 use Rattle.text.specs.InnerFields.{field_at}
 use Rattle.text.specs.Answers.{judged_refusal}
-use Rattle.csv.proofs.Reading.{turn_forward}
-use Rattle.csv.proofs.Judging.{Judging, here, judge_first, judge_refused, judge_comma, judge_break, judge_uneven, says_field, end_uneven, end_many, end_square}
+use Rattle.rfc4180.proofs.Reading.{turn_forward}
+use Rattle.rfc4180.proofs.Judging.{Judging, here, judge_first, judge_refused, judge_comma, judge_break, judge_uneven, says_field, end_uneven, end_many, end_square}
 use Rattle.text.proofs.judge_fields.Statement.{statement}
 use Rattle.text.proofs.judge_fields.Tie as tie
 
@@ -118,8 +118,8 @@ returns-3 c = end_many c.before.before.before.loop.invariant c.before.before.loo
 returns-4 : tie.Need-returns-4 invariant-loop decreases-loop
 returns-4 c = end_square c.before.before.before.loop.invariant c.before.before.loop-test.false c.before.if3.false c.if4.false
 
-pub judge-fields-spec : {M : Type 1} → statement M
-judge-fields-spec =
+pub judge-fields_spec : {M : Type 1} → statement M
+judge-fields_spec =
     tie.close
     (tie.spec
     invariant-loop

@@ -9,9 +9,9 @@ use native.Mathlib.Omega.{arith}
 use borrow.Author.Rules.{rules}
 use Rattle.products.proofs.Products.{square_small}
 use Rattle.semigroups.specs.Calls.{Answer, gives}
-use Rattle.csv.specs.InnerQuestions.{bytes_refusal, grid_refusal}
+use Rattle.rfc4180.specs.InnerQuestions.{bytes_refusal, grid_refusal}
 use Rattle.text.specs.Answers.{judged_refusal}
-use Rattle.csv.proofs.Loading.{too_short, too_long, bad_byte, bad_grid, bad_order, bad_room, loads, load_refused, load_given, grid_passed, cells_length}
+use Rattle.rfc4180.proofs.Loading.{too_short, too_long, bad_byte, bad_grid, bad_order, bad_room, loads, load_refused, load_given, grid_passed, cells_length}
 use Rattle.text.proofs.load.Statement.{statement}
 use Rattle.text.proofs.load.Tie as tie
 

@@ -4,7 +4,7 @@ use mathlib.Core.Bool.{Bool}
 use mathlib.Core.List.{List}
 use Prim.Native.Nat.{ℕ}
 use native.Mathlib.Omega.{arith}
-use Rattle.csv.proofs.Fields.{Goes, end_inside, nothing_follows, comma_follows_law, break_follows}
+use Rattle.rfc4180.proofs.Fields.{Goes, end_inside, nothing_follows, comma_follows_law, break_follows}
 use Rattle.text.specs.declared.Field.{Field}
 use Rattle.text.specs.InnerFields.{field_at}
 use borrow.Author.Rules.{rules}
@@ -42,8 +42,8 @@ add-t10 c = search rules
 returns-3 : tie.Need-returns-3
 returns-3 c = goes (break_follows _ _ c.before.before.before.field-end.ensures c.if2.false)
 
-pub next-field-spec : {M : Type 1} → statement M
-next-field-spec =
+pub next-field_spec : {M : Type 1} → statement M
+next-field_spec =
     tie.close
     (tie.spec
     field-end-requires

@@ -4,7 +4,7 @@ use mathlib.Core.List.{List}
 use Prim.Native.Nat.{ℕ, ◌+◌, ◌≤◌}
 use native.Mathlib.Omega.{arith}
 use borrow.Author.Rules.{rules}
-use Rattle.csv.proofs.Fields.{digit_here}
+use Rattle.rfc4180.proofs.Fields.{digit_here}
 use Rattle.text.proofs.Digits.{digits_from, digit_small, number_of_one, number_of_two, number_of_three, second_left, third_left}
 use Rattle.text.proofs.read_number.Statement.{statement}
 use Rattle.text.proofs.read_number.Tie as tie
@@ -101,8 +101,8 @@ returns-3 c =
     number_of_three (text_of s) s.args.at (some s) x.before.before.before.digit_value.ensures x.before.digit-value2.ensures (two x.before.before)
     c.digit-value3.ensures (three x)
 
-pub read-number-spec : {M : Type 1} → statement M
-read-number-spec =
+pub read-number_spec : {M : Type 1} → statement M
+read-number_spec =
     tie.close
     (tie.spec
     digit-value-requires

@@ -60,8 +60,8 @@ returns c =
     let a = c.before.before.args in
     l.invariant.1 ∙ ap (words a.number a.side) (take_all l.i a.values.now (omega arith))
 
-pub words-spec : {M : Type 1} → statement M
-words-spec =
+pub words_spec : {M : Type 1} → statement M
+words_spec =
     tie.close
     (tie.spec
     invariant-loop

@@ -8,5 +8,5 @@ use Rattle.answers.proofs.Fault.refusal.Tie as tie
 returns : tie.Need-returns
 returns c = c.refusal.ensures ∙ ap refusal_numbers c.before.no.ensures
 
-pub refusal-spec : {M : Type 1} → statement M
-refusal-spec = tie.close (tie.spec (λ c κs. search rules) (λ c κs. search rules) returns)
+pub refusal_spec : {M : Type 1} → statement M
+refusal_spec = tie.close (tie.spec (λ c κs. search rules) (λ c κs. search rules) returns)

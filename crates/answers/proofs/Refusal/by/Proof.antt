@@ -6,5 +6,5 @@ use Rattle.answers.proofs.Refusal.by.Tie as tie
 returns : tie.Need-returns
 returns c = refl
 
-pub by-spec : {M : Type 1} → statement M
-by-spec = tie.close (tie.spec returns)
+pub by_spec : {M : Type 1} → statement M
+by_spec = tie.close (tie.spec returns)

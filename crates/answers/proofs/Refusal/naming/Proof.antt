@@ -10,5 +10,5 @@ number-requires c κs = search rules
 returns : tie.Need-returns
 returns c = rw c.number.ensures
 
-pub naming-spec : {M : Type 1} → statement M
-naming-spec = tie.close (tie.spec number-requires returns)
+pub naming_spec : {M : Type 1} → statement M
+naming_spec = tie.close (tie.spec number-requires returns)

@@ -6,5 +6,5 @@ use Rattle.cases.proofs.limits.degree.Tie as tie
 returns : tie.Need-returns
 returns c = cc
 
-pub degree-spec : {M : Type 1} → statement M
-degree-spec = tie.close (tie.spec (λ c. search rules) (λ c κs. search rules) (λ c. search rules) (λ c. search rules) (λ c κs. search rules) returns)
+pub degree_spec : {M : Type 1} → statement M
+degree_spec = tie.close (tie.spec (λ c. search rules) (λ c κs. search rules) (λ c. search rules) (λ c. search rules) (λ c κs. search rules) returns)

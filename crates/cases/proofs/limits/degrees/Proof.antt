@@ -31,5 +31,5 @@ all_agree = refl
 returns : tie.Need-returns
 returns c = cc all_agree
 
-pub degrees-spec : {M : Type 1} → statement M
-degrees-spec = tie.close (tie.spec (λ c κs. search rules) (λ c κs. search rules) (λ c κs. search rules) (λ c κs. search rules) (λ c κs. search rules) returns)
+pub degrees_spec : {M : Type 1} → statement M
+degrees_spec = tie.close (tie.spec (λ c κs. search rules) (λ c κs. search rules) (λ c κs. search rules) (λ c κs. search rules) (λ c κs. search rules) returns)

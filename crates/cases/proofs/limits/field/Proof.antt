@@ -6,5 +6,5 @@ use Rattle.cases.proofs.limits.field.Tie as tie
 returns : tie.Need-returns
 returns c = cc
 
-pub field-spec : {M : Type 1} → statement M
-field-spec = tie.close (tie.spec (λ c. search rules) (λ c κs. search rules) (λ c. search rules) (λ c. search rules) (λ c κs. search rules) returns)
+pub field_spec : {M : Type 1} → statement M
+field_spec = tie.close (tie.spec (λ c. search rules) (λ c κs. search rules) (λ c. search rules) (λ c. search rules) (λ c κs. search rules) returns)

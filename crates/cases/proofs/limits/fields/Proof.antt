@@ -5,12 +5,12 @@ use mathlib.Core.Option.{or_else}
 use Prim.Native.Nat.{ℕ}
 use Rattle.semigroups.specs.Lists.{range, at, all, find, first_of}
 use Rattle.semigroups.specs.Tables.{is_element}
-use Rattle.csv.specs.Decimals.{is_digit, value, value_from}
-use Rattle.csv.specs.Records.{is_break, onto, records, fields, rows}
-use Rattle.csv.specs.Tables.{fields_of, order_of, cells_of}
-use Rattle.csv.specs.Questions.{break_at, in_break, is_allowed, first_other, is_square, fields_questions, load_refusal}
-use Rattle.csv.specs.InnerQuestions.{bytes_refusal, fields_refusal, field_refusal}
-use Rattle.csv.specs.Calls.{load_answer, cells_after}
+use Rattle.rfc4180.specs.Decimals.{is_digit, value, value_from}
+use Rattle.rfc4180.specs.Records.{is_break, onto, records, fields, rows}
+use Rattle.rfc4180.specs.Tables.{fields_of, order_of, cells_of}
+use Rattle.rfc4180.specs.Questions.{break_at, in_break, is_allowed, first_other, is_square, fields_questions, load_refusal}
+use Rattle.rfc4180.specs.InnerQuestions.{bytes_refusal, fields_refusal, field_refusal}
+use Rattle.rfc4180.specs.Calls.{load_answer, cells_after}
 use Rattle.judging.specs.InnerSaid.{same_said}
 use Rattle.semigroups.specs.Copies.{same_list}
 use Rattle.judging.specs.declared.tally.Tally.{Tally}
@@ -33,8 +33,8 @@ all_agree = refl
 returns : tie.Need-returns
 returns c = cc all_agree
 
-pub fields-spec : {M : Type 1} → statement M
-fields-spec =
+pub fields_spec : {M : Type 1} → statement M
+fields_spec =
     tie.close
     (tie.spec (λ c. search rules) (λ c κs. search rules) (λ c κs. search rules) (λ c. search rules) (λ c κs. search rules)
     (λ c. search rules) (λ c κs. search rules) (λ c. search rules) (λ c κs. search rules) returns)

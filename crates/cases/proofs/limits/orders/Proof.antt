@@ -36,8 +36,8 @@ returns c =
     let one : most.judged.result ≡ agreed 1 base = most.judged.ensures ∙ ap (λ (t : Tally). counted (counted t (same_said (said_of (table_refusal 120 ones)) most.before.before.failed.result)) true) most.before.start.ensures ∙ ap (λ (b : Bool). counted (counted empty b) true) accepted in
     two_more base 1 _ true one (too_large (replicate 14641 1) _ c.before.failed2.ensures) refl c.judged2.ensures
 
-pub orders-spec : {M : Type 1} → statement M
-orders-spec =
+pub orders_spec : {M : Type 1} → statement M
+orders_spec =
     tie.close
     (tie.spec
     (λ c. search rules)

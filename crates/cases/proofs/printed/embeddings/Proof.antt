@@ -15,8 +15,8 @@ returns c =
     let e4 = c.before.before.before.told.ensures ∙ case_8 _ ∙ ap (agreed 2) e3 in
     c.told2.ensures ∙ case_13 _ ∙ ap (agreed 2) e4
 
-pub embeddings-spec : {M : Type 1} → statement M
-embeddings-spec =
+pub embeddings_spec : {M : Type 1} → statement M
+embeddings_spec =
     tie.close
     (tie.spec (λ c κs. search rules) (λ c κs. search rules) (λ c κs. search rules) (λ c κs. search rules) (λ c. search rules)
     (λ c. search rules) (λ c κs. search rules) (λ c. search rules) (λ c. search rules) (λ c κs. search rules) returns)

@@ -12,8 +12,8 @@ returns c =
     let e2 = c.before.null3-onto-null3.ensures ∙ ap (agreed 6) e1 in
     c.mat5-onto-mat5.ensures ∙ ap (agreed 4) e2
 
-pub isomorphisms-spec : {M : Type 1} → statement M
-isomorphisms-spec =
+pub isomorphisms_spec : {M : Type 1} → statement M
+isomorphisms_spec =
     tie.close
     (tie.spec
     (λ c κs. search rules)

@@ -40,8 +40,8 @@ returns c =
     let map = same_left _ _ _ _ c.before.same_bytes.ensures (ap (λ (l : List ℕ). l ++ drop a.m a.before) called.1.0) in
     c.counted2.ensures ∙ ap₂ counted one map
 
-pub told-spec : {M : Type 1} → statement M
-told-spec =
+pub told_spec : {M : Type 1} → statement M
+told_spec =
     tie.close
     (tie.spec
     (λ c. search rules)

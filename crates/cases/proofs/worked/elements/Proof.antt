@@ -27,8 +27,8 @@ both_agree = refl
 returns : tie.Need-returns
 returns c = cc both_agree
 
-pub elements-spec : {M : Type 1} → statement M
-elements-spec =
+pub elements_spec : {M : Type 1} → statement M
+elements_spec =
     tie.close
     (tie.spec
     (λ c. search rules)

@@ -74,8 +74,8 @@ returns c =
     let e7 = calls_more empty 25 3 _ walks.7 e6 c.before.before.before.walk8.ensures in
     calls_more empty 28 2 _ walks.8 e7 c.walk9.ensures
 
-pub maps-spec : {M : Type 1} → statement M
-maps-spec =
+pub maps_spec : {M : Type 1} → statement M
+maps_spec =
     tie.close
     (tie.spec
     (λ c. search rules)

@@ -32,8 +32,8 @@ all_agree = refl
 returns : tie.Need-returns
 returns c = cc all_agree
 
-pub tables-spec : {M : Type 1} → statement M
-tables-spec =
+pub tables_spec : {M : Type 1} → statement M
+tables_spec =
     tie.close
     (tie.spec
     (λ c. search rules)

@@ -79,8 +79,8 @@ returns c =
     let e : l.loop.k ≡ z.m ^ (z.m * z.m) = omega arith in
     l.loop.invariant.0 ∙ ap (λ (x : ℕ). agreed (calls_from z.m z.n x) empty) e
 
-pub all-maps-spec : {M : Type 1} → statement M
-all-maps-spec =
+pub all-maps_spec : {M : Type 1} → statement M
+all-maps_spec =
     tie.close
     (tie.spec
     invariant-loop

@@ -76,8 +76,8 @@ returns c =
     let e : l.loop.k ≡ z.n ^ (z.n * z.n) = omega arith in
     l.loop.invariant.0 ∙ ap (λ (x : ℕ). agreed (calls_to z.source.now z.m z.n x) z.tally) e
 
-pub maps-to-spec : {M : Type 1} → statement M
-maps-to-spec =
+pub maps-to_spec : {M : Type 1} → statement M
+maps-to_spec =
     tie.close
     (tie.spec
     invariant-loop

@@ -84,8 +84,8 @@ returns-2 c =
     let searched = c.before.before in
     (sym (says searched ∙ ap (λ (b : Bool). cond b 100 0) c.if2.false), left searched)
 
-pub expected-spec : {M : Type 1} → statement M
-expected-spec =
+pub expected_spec : {M : Type 1} → statement M
+expected_spec =
     tie.close
     (tie.spec
     array-share-prefix-after

@@ -80,8 +80,8 @@ loop-again c =
     let w = c.before.before.before in
     (walk_goes _ _ _ _ _ _ (at-loop w).loop.invariant.0 w.counted2.ensures w.before.step2.ensures.0 _ (one_less w c.before.if1.false), w.before.step2.ensures.1.1.1)
 
-pub walk-spec : {M : Type 1} → statement M
-walk-spec =
+pub walk_spec : {M : Type 1} → statement M
+walk_spec =
     tie.close
     (tie.spec
     invariant-loop

@@ -12,8 +12,8 @@ returns-2 c = rw c.before.enum_told.given.1 c.by.ensures
 returns-3 : tie.Need-returns-3
 returns-3 c = rw c.before.enum-told2.given.1 c.by2.ensures
 
-pub refusal-spec : {M : Type 1} → statement M
-refusal-spec =
+pub refusal_spec : {M : Type 1} → statement M
+refusal_spec =
     tie.close
     (tie.spec
     (λ c. search rules)

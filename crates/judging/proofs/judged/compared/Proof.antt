@@ -14,8 +14,8 @@ returns c =
     let same = c.before.same-said.ensures ∙ same_said_itself _ _ agree in
     c.counted.ensures ∙ ap (counted said.before.before.before.args.tally) same
 
-pub compared-spec : {M : Type 1} → statement M
-compared-spec =
+pub compared_spec : {M : Type 1} → statement M
+compared_spec =
     tie.close
     (tie.spec
     (λ c κs. search rules)

@@ -18,8 +18,8 @@ returns c =
     let same = c.before.before.same-said.ensures ∙ ap (λ (x : Said). same_said x a.said) says in
     c.compared.ensures ∙ ap (λ (t : Tally). counted t true) (c.before.counted.ensures ∙ ap (counted a.tally) same)
 
-pub judged-spec : {M : Type 1} → statement M
-judged-spec =
+pub judged_spec : {M : Type 1} → statement M
+judged_spec =
     tie.close
     (tie.spec
     (λ c κs. search rules)

@@ -16,5 +16,5 @@ returns-2 : tie.Need-returns-2
 unfolding up
 returns-2 c = rw (ne_eqb _ _ c.if1.false)
 
-pub up-spec : {M : Type 1} → statement M
-up-spec = tie.close (tie.spec returns add-result returns-2)
+pub up_spec : {M : Type 1} → statement M
+up_spec = tie.close (tie.spec returns add-result returns-2)

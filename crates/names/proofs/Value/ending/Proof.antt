@@ -7,5 +7,5 @@ use Rattle.names.proofs.Value.ending.Tie as tie
 returns : tie.Need-returns
 returns c = refl
 
-pub ending-spec : {M : Type 1} → statement M
-ending-spec = tie.close (tie.spec returns)
+pub ending_spec : {M : Type 1} → statement M
+ending_spec = tie.close (tie.spec returns)

@@ -10,5 +10,5 @@ returns c = extended_full _ _ c.if1.true
 returns-2 : tie.Need-returns-2
 returns-2 c = extended_more _ _ c.if1.false
 
-pub with-spec : {M : Type 1} → statement M
-with-spec = tie.close (tie.spec returns (λ c. search rules) (λ c. search rules) returns-2)
+pub with_spec : {M : Type 1} → statement M
+with_spec = tie.close (tie.spec returns (λ c. search rules) (λ c. search rules) returns-2)

@@ -12,5 +12,5 @@ returns c =
     let h = c.requires.1 in
     (more_placing a.n p.image p.used p.len c.requires.0 a.x h.0 h.1 h.2 h.3, ((more_prefix a.n p.image p.used p.len c.requires.0 a.x h.0 h.1 h.2 h.3, more_before a.n p.image p.used p.len c.requires.0 a.x h.0 h.1 h.2 h.3, refl), refl))
 
-pub place-spec : {M : Type 1} → statement M
-place-spec = tie.close (tie.spec (λ c. search rules) (λ c. search rules) (λ c. search rules) (λ c. search rules) returns)
+pub place_spec : {M : Type 1} → statement M
+place_spec = tie.close (tie.spec (λ c. search rules) (λ c. search rules) (λ c. search rules) (λ c. search rules) returns)

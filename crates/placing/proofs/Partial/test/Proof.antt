@@ -37,5 +37,5 @@ returns c =
     let p = a.t1 in
     (c.passes-with.ensures ∙ ap (passes (product a.m a.source.now) (product a.n a.target.now)) (newest_prefix a.n p.image p.used p.len z.requires.1.0.0 z.requires.1.0.1.0), refl)
 
-pub test-spec : {M : Type 1} → statement M
-test-spec = tie.close (tie.spec sub-before element-copy-out-x cast-x passes-with-requires returns)
+pub test_spec : {M : Type 1} → statement M
+test_spec = tie.close (tie.spec sub-before element-copy-out-x cast-x passes-with-requires returns)

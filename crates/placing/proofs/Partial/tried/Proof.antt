@@ -46,5 +46,5 @@ returns c =
       (subst (λ (p : Partial). Placing a.n p.image p.used p.len) same w.ensures.0, (subst (λ (p : Partial). (prefix p ≡ prefix a.self ++ a.x ∷ []) × (take a.self.len p.image ≡ prefix a.self) × (p.len ≡ a.self.len + 1)) same more, subst (λ (p : Partial). p.image ≡ set a.self.image a.self.len a.x) same w.ensures.1.1)),
     )
 
-pub tried-spec : {M : Type 1} → statement M
-tried-spec = tie.close (tie.spec place-requires test-requires returns)
+pub tried_spec : {M : Type 1} → statement M
+tried_spec = tie.close (tie.spec place-requires test-requires returns)

@@ -16,8 +16,8 @@ returns-3 c = λ cells. wanted_again _ cells c.before.task.given.1
 returns-4 : tie.Need-returns-4
 returns-4 c = λ cells. wanted_none _ cells c.enum-told2.given.1
 
-pub wanted-spec : {M : Type 1} → statement M
-wanted-spec =
+pub wanted_spec : {M : Type 1} → statement M
+wanted_spec =
     tie.close
     (tie.spec
     (λ c. search rules)
