@@ -7,7 +7,7 @@ ghost use Rattle.semigroups.specs.InnerQuestions.{no};
 ghost use Rattle.answers.specs.Answers.{no_refusal, fault_refusal, side_number, refusal_numbers, numbers_naming};
 
 // Why a table is refused: which of questions 1 to 4 fails; for 3 the first cell that is not 1 to n, counted from 1; for 4 the first failing triple.
-#[derive(Drop)]
+#[derive(Clone, Copy)]
 pub enum Fault {
     Order,
     Size,
@@ -16,21 +16,21 @@ pub enum Fault {
 }
 
 // The answer to the questions about a table.
-#[derive(Drop)]
+#[derive(Clone, Copy)]
 pub enum Verdict {
     Accepted,
     Refused(Fault),
 }
 
 // One of the two tables.
-#[derive(Drop)]
+#[derive(Clone, Copy)]
 pub enum Side {
     Source,
     Target,
 }
 
 // A refusal as numbers: the question; the side that it names, 1 for source or 2 for target, or 0; and the values said with it, then zeros.
-#[derive(Drop)]
+#[derive(Clone, Copy)]
 pub struct Refusal {
     pub number: usize,
     pub side: usize,
@@ -40,7 +40,7 @@ pub struct Refusal {
 }
 
 // A "no" to a question: its number alone; its number and one value; or, for question 4, the triple alone.
-#[derive(Drop)]
+#[derive(Clone, Copy)]
 pub enum No {
     Bare(usize),
     With(usize, usize),
@@ -48,21 +48,21 @@ pub enum No {
 }
 
 // The answer of a call that gives a number, which is an order, a length or a count; or the earliest "no".
-#[derive(Drop)]
+#[derive(Clone, Copy)]
 pub enum Numbered {
     Number(usize),
     Refused(No),
 }
 
 // The answer to the questions about two tables.
-#[derive(Drop)]
+#[derive(Clone, Copy)]
 pub enum PairVerdict {
     Accepted,
     Refused(Side, Fault),
 }
 
 // The place of something, counted from 1; or none.
-#[derive(Drop)]
+#[derive(Clone, Copy)]
 pub enum Place {
     At(usize),
     Nothing,

@@ -21,7 +21,7 @@ pub const FIRST_TRIALS: u32 = 8000;
 
 // The result of a search: whether its limit stopped it; how many trials are left, 0 if it was stopped; whether it found a map; and the map's images followed by
 // zeros, or only zeros. A search without a limit is never stopped and does not count trials: `left` is 0.
-#[derive(Drop)]
+#[derive(Clone, Copy)]
 pub struct Outcome {
     pub stopped: bool,
     pub left: u32,
@@ -30,7 +30,7 @@ pub struct Outcome {
 }
 
 // The result of paying for one more trial: whether it is within the limit, and how many trials are left after it.
-#[derive(Drop)]
+#[derive(Clone, Copy)]
 struct Paid {
     enough: bool,
     left: u32,

@@ -91,7 +91,7 @@ pub fn profile_keys(cells: &[u8], n: usize) -> [u64; ORDER]
 // ---- filling
 
 // A source element i and a target element j. After the last pair, i is above the source's order.
-#[derive(Drop)]
+#[derive(Clone, Copy)]
 struct Pair {
     i: usize,
     j: usize,

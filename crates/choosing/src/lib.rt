@@ -70,7 +70,7 @@ fn rank<'a>(rows: &'a [u64; WORDS], costs: &'a [u16; 120], c: usize) -> usize
 }
 
 // An element and its rank. Element 0 stands for none; its rank is not looked at.
-#[derive(Drop)]
+#[derive(Clone, Copy)]
 struct Ranked {
     element: usize,
     rank: usize,

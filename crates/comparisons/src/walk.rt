@@ -24,7 +24,7 @@ fn kind_of(isomorphisms: bool) -> Kind
 }
 
 // What a call answers according to the second search, and the array whose first m bytes are the map buffer, as the call leaves it.
-#[derive(Drop)]
+#[derive(Clone, Copy)]
 struct Outcome {
     number: usize,
     buffer: [u8; 5],
@@ -70,7 +70,7 @@ fn expected(
 }
 
 // The result of a compared call: whether both agree, whether the library found a map, and the map buffer after the call.
-#[derive(Drop)]
+#[derive(Clone, Copy)]
 struct Compared {
     same: bool,
     found: bool,

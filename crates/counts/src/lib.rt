@@ -72,7 +72,7 @@ pub fn commuting(cells: &[u8], n: usize, a: usize) -> usize
 // ---- all elements
 
 // The counts of element a over its row and its column stand at place a - 1; places after the last element hold 0.
-#[derive(Drop)]
+#[derive(Clone, Copy)]
 struct LineCounts {
     row: [u16; ORDER],
     column: [u16; ORDER],
@@ -102,7 +102,7 @@ fn line_counts(cells: &[u8], n: usize) -> LineCounts
 }
 
 // Each count of element a stands at place a - 1; places after the last element hold 0.
-#[derive(Drop)]
+#[derive(Clone, Copy)]
 pub struct ElementCounts {
     pub frequency: [u16; ORDER],
     pub diagonal: [u16; ORDER],

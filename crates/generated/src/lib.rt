@@ -52,7 +52,7 @@ fn multiply(
 }
 
 // The elements that a list generates: place x is 1 where x is one of them, else 0; and how many there are.
-#[derive(Drop)]
+#[derive(Clone, Copy)]
 pub struct Generated {
     pub marks: [u8; PLACES],
     pub count: usize,
@@ -85,7 +85,7 @@ pub fn generate(cells: &[u8], n: usize, list: &[u8]) -> Generated
 // ---- the shorter check
 
 // Why a table with a list of generators is refused: the fault of the table, or question 50 or 51.
-#[derive(Drop)]
+#[derive(Clone, Copy)]
 pub enum GeneratorsFault {
     Table(Fault),
     Entry,
@@ -106,7 +106,7 @@ impl GeneratorsFault {
 }
 
 // The answer of the shorter check.
-#[derive(Drop)]
+#[derive(Clone, Copy)]
 pub enum GeneratorsVerdict {
     Accepted,
     Refused(GeneratorsFault),

@@ -20,7 +20,7 @@ use tables::{No, Verdict};
 // ---- the questions
 
 // The answer to the questions about an element.
-#[derive(Drop)]
+#[derive(Clone, Copy)]
 pub enum ElementVerdict {
     Accepted,
     Refused(No),
@@ -46,7 +46,7 @@ pub fn check_element(cells: &[u8], n: usize, a: usize) -> ElementVerdict
 // ---- index, period and idempotent power
 
 // The index and the period of an element, and its idempotent power (RULES 4.4).
-#[derive(Drop)]
+#[derive(Clone, Copy)]
 pub struct IndexPeriod {
     pub index: usize,
     pub period: usize,
@@ -54,7 +54,7 @@ pub struct IndexPeriod {
 }
 
 // What a call for the index-period answers.
-#[derive(Drop)]
+#[derive(Clone, Copy)]
 pub enum IndexPeriodAnswer {
     Value(IndexPeriod),
     Refused(No),
@@ -102,7 +102,7 @@ pub fn index_period(cells: &[u8], n: usize, a: usize) -> IndexPeriodAnswer
 
 // The keys by which candidates for embeddings are compared: the index and the period of element a stand at place a - 1; places after the last element hold 0.
 // The idempotent power is not compared.
-#[derive(Drop)]
+#[derive(Clone, Copy)]
 pub struct IndexPeriodKeys {
     pub index: [u16; ORDER],
     pub period: [u16; ORDER],
@@ -128,7 +128,7 @@ pub fn all_index_period_keys(cells: &[u8], n: usize) -> IndexPeriodKeys
 // ---- the profile
 
 // The index-period and the counts of a profile (definition 4.1; RULES 4.5).
-#[derive(Drop)]
+#[derive(Clone, Copy)]
 pub struct ElementProfile {
     pub powers: IndexPeriod,
     pub frequency: usize,
@@ -139,7 +139,7 @@ pub struct ElementProfile {
 }
 
 // What a call for the profile answers.
-#[derive(Drop)]
+#[derive(Clone, Copy)]
 pub enum ProfileAnswer {
     Value(ElementProfile),
     Refused(No),

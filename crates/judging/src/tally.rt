@@ -6,7 +6,7 @@ ghost use Rattle.judging.specs.InnerTally.{empty, up, counted, decimal, tally_li
 
 use lines::put_bytes;
 
-#[derive(Drop)]
+#[derive(Clone, Copy)]
 pub struct Tally {
     pub agreeing: u64,
     pub differing: u64,

@@ -22,7 +22,7 @@ use backtrack::Outcome;
 use tables::limits::CELLS;
 
 // The kinds of maps.
-#[derive(Drop)]
+#[derive(Clone, Copy)]
 pub enum Kind {
     Embeddings,
     Isomorphisms,
@@ -30,7 +30,7 @@ pub enum Kind {
 }
 
 // How many trials a search may take. A trial is one candidate, unused so far, tested as the image of the next element.
-#[derive(Drop)]
+#[derive(Clone, Copy)]
 pub enum Limit {
     Unlimited,
     Trials(u32),

@@ -115,7 +115,7 @@ fn rarest(counts: &[u16; ORDER], marks: &[u8; PLACES], n: usize) -> usize
 }
 
 // The generators chosen, which are the first `count` entries, and whether every element is a product of them.
-#[derive(Drop)]
+#[derive(Clone, Copy)]
 struct Generators {
     list: [u8; 30],
     count: usize,

@@ -17,7 +17,7 @@ use tables::limits::ORDER;
 use tables::{Fault, PairVerdict, Place, Side};
 
 // What the map check answers.
-#[derive(Drop)]
+#[derive(Clone, Copy)]
 pub enum MapAnswer {
     // One of questions 1 to 4 about a table fails.
     Refused(Side, Fault),
@@ -34,7 +34,7 @@ pub enum MapAnswer {
 }
 
 // A pair of elements, or none.
-#[derive(Drop)]
+#[derive(Clone, Copy)]
 enum Pair {
     At(usize, usize),
     Nothing,

@@ -24,7 +24,7 @@ use tables::{No, Numbered};
 // ---- fields
 
 // The value of a field: its first 41 bytes, so that a value of more than 40 is noticed; and the place after the field.
-#[derive(Drop)]
+#[derive(Clone, Copy)]
 struct Value {
     bytes: [u8; 41],
     size: usize,
@@ -226,7 +226,7 @@ fn is_name(bytes: &[u8]) -> bool
 
 // The answer to the questions about the records or the names: how many names there are, and how many bytes they have (`judge_records`) or how long their text
 // is (`judge_names`); or the first question that fails.
-#[derive(Drop)]
+#[derive(Clone, Copy)]
 enum Judged {
     Passed(usize, usize),
     Failed(No),

@@ -21,7 +21,7 @@ fn show(source: &[u8], target: &[u8]) -> usize
 }
 
 // How long two outputs are.
-#[derive(Drop)]
+#[derive(Clone, Copy)]
 struct Lengths {
     first: usize,
     second: usize,

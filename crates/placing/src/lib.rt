@@ -14,7 +14,7 @@ use products::limits::{ORDER, PLACES};
 
 // The map placed so far. The image of element i is image[i - 1]; used[y] is 1 where y is an image. The constraints, `forced` and `owner`, are no part of it:
 // each call of the search lends its own to the calls inside it, so that they are copied once and not with every map that is placed, tested and passed on.
-#[derive(Drop)]
+#[derive(Clone, Copy)]
 pub struct Partial {
     pub image: [u8; ORDER],
     pub used: [u8; PLACES],
@@ -22,7 +22,7 @@ pub struct Partial {
 }
 
 // The result of a test: whether the list placed passes, and the map, handed back.
-#[derive(Drop)]
+#[derive(Clone, Copy)]
 pub struct Tested {
     pub ok: bool,
     pub partial: Partial,

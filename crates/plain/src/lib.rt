@@ -89,7 +89,7 @@ fn earlier(a: &[u8], b: &[u8]) -> bool
 // ---- tables
 
 // The answer to the questions about a table: the number of the failed question, or 0, and the cell or the triple.
-#[derive(Drop)]
+#[derive(Clone, Copy)]
 pub struct Said {
     pub number: usize,
     pub first: usize,

@@ -91,7 +91,7 @@ fn fits(cells: &[u8], m: usize, degree: usize, image: &mut [u8]) -> bool
 }
 
 // What a call for the least degree answers.
-#[derive(Drop)]
+#[derive(Clone, Copy)]
 pub enum DegreeAnswer {
     // The degree; the landing positions are written.
     Degree(usize),

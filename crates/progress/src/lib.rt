@@ -9,7 +9,7 @@ ghost use Rattle.progress.specs.Held.{progress_of, file_name};
 
 // What comes next. `Read`: a new file is read. `Compare(n, j)`: file j is read again, to be compared with the new file's table, which has order n. `Stop`: no
 // more files are read.
-#[derive(Drop)]
+#[derive(Clone, Copy)]
 pub enum Task {
     Read,
     Compare(usize, usize),
@@ -18,7 +18,7 @@ pub enum Task {
 
 // What was noted of the first `count` files, and what comes next. For file k, place k - 1 of `orders` holds its order, and of `numbers` the lowest file of its
 // class; for a refused file they hold 0 and the number of the question.
-#[derive(Drop)]
+#[derive(Clone, Copy)]
 pub struct Classifier {
     pub count: usize,
     pub orders: [u8; 50],

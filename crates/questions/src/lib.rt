@@ -11,7 +11,7 @@ ghost use Rattle.calls.specs.Among.{among_refusal};
 use tables::{Fault, PairVerdict, Refusal, Side};
 
 // The earliest failed question: one of the four about a table, with the side of that table; 5; 6; or 70, which only a search among given pairs asks.
-#[derive(Drop)]
+#[derive(Clone, Copy)]
 pub enum SearchFault {
     Table(Side, Fault),
     MapLength,
@@ -34,7 +34,7 @@ impl SearchFault {
 }
 
 // Whether every question passed, or the earliest that failed.
-#[derive(Drop)]
+#[derive(Clone, Copy)]
 pub enum Questions {
     Passed,
     Failed(SearchFault),

@@ -8,7 +8,7 @@ ghost use Rattle.rfc4180.specs.Questions.{longest_text};
 ghost use Rattle.reading.specs.Opened.{is_open};
 
 // The result of reading a file: whether it could be opened, and how many bytes were read.
-#[derive(Drop)]
+#[derive(Clone, Copy)]
 pub struct Reading {
     pub opened: bool,
     pub length: usize,

@@ -47,7 +47,7 @@ fn is_quotable(b: u8) -> bool
 // ---- the states
 
 // The two fields of a record.
-#[derive(Drop)]
+#[derive(Clone, Copy)]
 enum Part {
     Number,
     Name,
@@ -55,7 +55,7 @@ enum Part {
 
 // Where the reading stands: at the start of a field; after a byte of a field with no quote marks; between quote marks; after a quote mark that closes the
 // field or is the first of two; after CR; after CR LF; nowhere, because no sheet begins with what was read.
-#[derive(Drop)]
+#[derive(Clone, Copy)]
 enum State {
     Opening(Part),
     Bare(Part),
@@ -195,7 +195,7 @@ fn is_dead(state: State) -> bool
 }
 
 // The answer to question 40: that the text is one or more records of two fields, or the offending place.
-#[derive(Drop)]
+#[derive(Clone, Copy)]
 pub enum Form {
     Sheet,
     Offends(usize),

@@ -21,7 +21,7 @@ use kinds::{Kind, Limit};
 use questions::{Questions, SearchFault};
 
 // What a search answers.
-#[derive(Drop)]
+#[derive(Clone, Copy)]
 pub enum SearchAnswer {
     Found,
     Nothing,
@@ -29,7 +29,7 @@ pub enum SearchAnswer {
 }
 
 // What a search with a limit answers: found or none, with the number of trials; or stopped, because it needs more trials than the limit.
-#[derive(Drop)]
+#[derive(Clone, Copy)]
 pub enum LimitedAnswer {
     Found(u32),
     Nothing(u32),

@@ -36,11 +36,13 @@ holds_mark (b ∷ s) e = go (holds_mark s) (or_holds (eqb b 44 || eqb b 34) (nee
 
 comma_needs : (s : List ℕ) → Memᴰ 44 s → needs_quotes s ≡ true
 unfolding needs_quotes
+comma_needs [] x' = elim x' [ ]
 comma_needs (b ∷ s) (Memᴰ.head e) = rw (eq-eqb b 44 (sym e))
 comma_needs (b ∷ s) (Memᴰ.tail m) = rw (comma_needs s m) (or-true (eqb b 44 || eqb b 34))
 
 quote_needs : (s : List ℕ) → Memᴰ 34 s → needs_quotes s ≡ true
 unfolding needs_quotes
+quote_needs [] x' = elim x' [ ]
 quote_needs (b ∷ s) (Memᴰ.head e) = rw (eq-eqb b 34 (sym e), or-true (eqb b 44))
 quote_needs (b ∷ s) (Memᴰ.tail m) = rw (quote_needs s m) (or-true (eqb b 44 || eqb b 34))
 

@@ -20,7 +20,7 @@ use answers::{No, Numbered};
 use products::limits::{ORDER, TEXT};
 
 // The answer to some of the questions about a text: that they pass, or the first that fails.
-#[derive(Drop)]
+#[derive(Clone, Copy)]
 enum Judged {
     Passed,
     Failed(No),
@@ -157,7 +157,7 @@ fn judge_field(text: &[u8], at: usize, end: usize) -> Judged
 
 // A field of the text: the place after it; the place after the comma or line break that follows it, where the next field begins if there is one; whether a
 // comma follows it; and whether there is a next field.
-#[derive(Drop)]
+#[derive(Clone, Copy)]
 struct Field {
     end: usize,
     next: usize,

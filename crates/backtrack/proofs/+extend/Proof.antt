@@ -79,17 +79,17 @@ turn : (t : ℕ) (k : Opened t) → let z = start t k in
     Turn (s t z) z.args.m (r t z) z.args.n z.args.scratch.now z.args.after.now z.args.tight z.args.limit z.args.known.now z.args.held.now (map t z) k.before.before.before.before.before.if2.low k.before.before.before.before.loop.left k.before.before.before.before.loop.x k.«open».result
 turn t k =
     let z = start t k in
-    let source = z.pre.1.0.0 in
-    let test = k.before.before.before.loop-test.taken in
+    let source = z.requires.1.0.0 in
+    let test = k.before.before.before.loop-test.true in
     let l = k.before.before.before.before.loop in
     record {
-      ready = z.pre.1.1;
+      ready = z.requires.1.1;
       closed = product_element z.args.m z.args.source.now source.size source.in_range;
-      orders = (source.order.1, z.pre.1.0.1.order.1);
+      orders = (source.order.1, z.requires.1.0.1.order.1);
       room = k.before.before.before.before.before.before.before.before.before.before.before.before.before.if1.left;
-      bound = l.inv.2;
-      element = (l.inv.0, omega arith);
-      so_far = l.inv.3;
+      bound = l.invariant.2;
+      element = (l.invariant.0, omega arith);
+      so_far = l.invariant.3;
       opened = k.«open».ensures;
     }
 
@@ -133,7 +133,7 @@ extend_cast_low t c = omega (arith, c.shared-slice-known5.given (map t c.before.
 extend_loop_holds : (t : ℕ) → extend-lts.Need-loop-init (calls t) (extend_at t) extend.Post extend_Inv_loop extend_μ_loop
 extend_loop_holds t c =
     let z = c.before.before.before.before.before.before.before.before.before.before.before.before.before in
-    (omega arith, omega arith, ⊎_elim (λ w. w.2 ∙ rw w.0.taken) (λ w. w.1 ∙ rw w.0.left) c.if2.branch, ap (within z.args.limit) (begins (s t z) z.args.m (r t z) z.args.n z.args.scratch.now z.args.after.now z.args.tight z.args.known.now z.args.held.now (map t z) z.requires.1.1 c.before.before.before.before.before.before.before.before.if1.false))
+    (omega arith, omega arith, ⊎_elim (λ w. w.2 ∙ rw w.0.true) (λ w. w.1 ∙ rw w.0.left) c.if2.branch, ap (within z.args.limit) (begins (s t z) z.args.m (r t z) z.args.n z.args.scratch.now z.args.after.now z.args.tight z.args.known.now z.args.held.now (map t z) z.requires.1.1 c.before.before.before.before.before.before.before.before.if1.false))
 
 extend_add_open : (t : ℕ) → extend-lts.Need-overflow-add-open (calls t) (extend_at t) extend.Post extend_Inv_loop extend_μ_loop
 extend_add_open t c = let m = c.before.before.before.before.before.before.before.before.before.before.before.before.before.before.before.before.before.requires.1.0.0.order in let e = c.before.before.before.before.before.before.before.before.before.before.before.before.if1.false in omega arith
@@ -164,7 +164,7 @@ extend_may_pass_requires t c κs =
     let z = start t k in
     let p = map t z in
     let T = turn t k in
-    (z.pre.1.0, ((as_trial z.args.n p.image p.used p.len T.ready.placing k.before.before.before.before.loop.x T.element (omega arith), T.room, unused T c.before.before.before.before.before.before.before.before.if3.true), (k.before.before.before.before.before.before.note-newest.ensures, T.ready.passed)))
+    (z.requires.1.0, ((as_trial z.args.n p.image p.used p.len T.ready.placing k.before.before.before.before.loop.x T.element (omega arith), T.room, unused T c.before.before.before.before.before.before.before.before.if3.true), (k.before.before.before.before.before.before.note-newest.ensures, T.ready.passed)))
 
 extend_tried_requires : (t : ℕ) → extend-lts.Need-tried-requires (calls t) (extend_at t) extend.Post extend_Inv_loop extend_μ_loop
 extend_tried_requires t c κs =
@@ -184,7 +184,7 @@ extend_extend_requires t c κs =
     let room = T.room in
     let v = told t w in
     let one = v.one_more in
-    (subst (λ (j : ℕ). z.args.m - w.tried.result.partial.len < j) z.pre.0 (omega arith), (z.pre.1.0, onward T o y.result.left p w.tried.result.partial w.tried.result.ok v c.before.before.if6.true _ _ k.before.before.before.before.before.before.note-newest.ensures))
+    (subst (λ (j : ℕ). z.args.m - w.tried.result.partial.len < j) z.requires.0 (omega arith), (z.requires.1.0, onward T o y.result.left p w.tried.result.partial w.tried.result.ok v c.before.before.if6.true _ _ k.before.before.before.before.before.before.note-newest.ensures))
 
 extend_returns_3 : (t : ℕ) → extend-lts.Need-returns-3 (calls t) (extend_at t) extend.Post extend_Inv_loop extend_μ_loop
 extend_returns_3 t c =
@@ -224,12 +224,12 @@ extend_loop_again t c =
           let e = w.13.ensures in
           let v : Verdict _ _ _ _ _ w.13.result.partial w.13.result.ok = record { placing = e.1.0; longer = e.1.1.0.0; before = e.1.1.0.1; one_more = e.1.1.0.2; says = e.0 } in
           let r = w.17 in
-          fail T w.0.taken w.1.result.left (paid w.1.result.enough w.1.result.left _ w.1.ensures.0 w.3.left) w.13.result.partial w.13.result.ok v w.14.taken (ap (λ (q : Outcome). q.stopped) (sym r.ensures) ∙ w.18.left) (ap (λ (q : Outcome). q.ok) (sym r.ensures) ∙ w.19.left)
+          fail T w.0.true w.1.result.left (paid w.1.result.enough w.1.result.left _ w.1.ensures.0 w.3.left) w.13.result.partial w.13.result.ok v w.14.true (ap (λ (q : Outcome). q.stopped) (sym r.ensures) ∙ w.18.left) (ap (λ (q : Outcome). q.ok) (sym r.ensures) ∙ w.19.left)
           ∙ rw (w.20, ap (λ (q : Outcome). q.left) r.ensures))
           (⊎_elim
-          (λ w. refuse T w.0.taken w.1.result.left (paid w.1.result.enough w.1.result.left _ w.1.ensures.0 w.3.left) (sym w.13.ensures.0 ∙ w.14.left) ∙ rw w.15)
+          (λ w. refuse T w.0.true w.1.result.left (paid w.1.result.enough w.1.result.left _ w.1.ensures.0 w.3.left) (sym w.13.ensures.0 ∙ w.14.left) ∙ rw w.15)
           (⊎_elim
-          (λ w. refuse T w.0.taken w.1.result.left (paid w.1.result.enough w.1.result.left _ w.1.ensures.0 w.3.left) (w.9.ensures.1 w.10.left) ∙ rw w.11)
+          (λ w. refuse T w.0.true w.1.result.left (paid w.1.result.enough w.1.result.left _ w.1.ensures.0 w.3.left) (w.9.ensures.1 w.10.left) ∙ rw w.11)
           (λ w. skip T w.0.left ∙ rw w.1)))
           c.if3.branch,
     )

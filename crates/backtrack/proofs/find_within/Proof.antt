@@ -31,5 +31,5 @@ returns c =
     c.extend.ensures
     ∙ ap (λ w. outcome_of (within a.limit w)) (ap₂ (counted s t (marked a.n a.scratch.now) (bounded a.next a.after.now) a.n) (let e : a.m - p.len ≡ a.m = omega arith in e) (ap (λ (k : ℕ). take k p.image) len))
 
-pub find-within_spec : {M : Type 1} → statement M
-find-within_spec = tie.close (tie.spec (λ c κs. search rules) (λ c κs. search rules) extend-requires returns)
+pub find_within_spec : {M : Type 1} → statement M
+find_within_spec = tie.close (tie.spec (λ c κs. search rules) (λ c κs. search rules) extend-requires returns)

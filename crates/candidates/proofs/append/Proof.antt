@@ -26,13 +26,13 @@ module _ (t : tie.In-loop invariant-loop decreases-loop) where
   longer = appended start.args.values start.args.keys.now start.args.numbers.now
 
   element : Element start.args.n t.before.loop.a
-  element = (t.before.loop.inv.0.0, t.loop-test.taken)
+  element = (t.before.loop.invariant.0.0, t.loop-test.true)
 
   limit : Element 120 t.before.loop.a
-  limit = let e = element in let l = start.pre.0 in omega arith
+  limit = let e = element in let l = start.requires.0 in omega arith
 
   fits : longer t.before.loop.a < 18446744073709551616
-  fits = start.pre.1 t.before.loop.a element
+  fits = start.requires.1 t.before.loop.a element
 
 loop-holds : tie.Need-loop-init invariant-loop decreases-loop
 loop-holds c = (omega arith, fill_start (appended c.args.values c.args.keys.now c.args.numbers.now))

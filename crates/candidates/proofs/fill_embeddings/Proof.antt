@@ -12,8 +12,8 @@ returns c =
     let start = sources.before.before.before.before in
     c.before.before.fill-equal.ensures ∙ embedding_marks start.args.scratch.now start.requires.0.0 start.requires.0.1 sources.index_period_keys.ensures targets.index-period-keys2.ensures
 
-pub fill-embeddings_spec : {M : Type 1} → statement M
-fill-embeddings_spec =
+pub fill_embeddings_spec : {M : Type 1} → statement M
+fill_embeddings_spec =
     tie.close
     (tie.spec
     (λ c κs. search rules)

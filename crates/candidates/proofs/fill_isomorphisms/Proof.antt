@@ -12,7 +12,7 @@ returns c =
     let start = sources.before.before.before.before in
     c.before.before.fill-equal.ensures ∙ isomorphism_marks start.args.scratch.now start.requires.0.0 start.requires.0.1 sources.profile_keys.ensures targets.profile-keys2.ensures
 
-pub fill-isomorphisms_spec : {M : Type 1} → statement M
-fill-isomorphisms_spec =
+pub fill_isomorphisms_spec : {M : Type 1} → statement M
+fill_isomorphisms_spec =
     tie.close
     (tie.spec (λ c κs. search rules) (λ c κs. search rules) (λ c κs. search rules) (λ c. search rules) returns)

@@ -24,11 +24,11 @@ module _ (c : tie.After-all-index-period-keys) where
 
   append_index : Appends n (λ a. 0 * 256 + index n (product n cells) a) 256 256 (replicate 120 0) c.all-index-period-keys.result.index
   append_index =
-      append_part n (λ a. 0) 1 (replicate 120 0) (no_keys n start.pre.order.1) 256 (index n (product n cells)) _ c.all-index-period-keys.ensures.index (index_fits n cells start.pre) (omega arith)
+      append_part n (λ a. 0) 1 (replicate 120 0) (no_keys n start.requires.order.1) 256 (index n (product n cells)) _ c.all-index-period-keys.ensures.index (index_fits n cells start.requires) (omega arith)
 
   append_period : (keys : List ℕ) → AllKeys n (λ a. 0 * 256 + index n (product n cells) a) 256 keys
       → Appends n (λ a. (0 * 256 + index n (product n cells) a) * 256 + period n (product n cells) a) 65536 256 keys c.all-index-period-keys.result.period
-  append_period keys k = append_part n _ 256 keys k 256 (period n (product n cells)) _ c.all-index-period-keys.ensures.period (period_fits n cells start.pre) (omega arith)
+  append_period keys k = append_part n _ 256 keys k 256 (period n (product n cells)) _ c.all-index-period-keys.ensures.period (period_fits n cells start.requires) (omega arith)
 
 all-index-period-keys-requires : tie.Need-all-index-period-keys-requires
 all-index-period-keys-requires c κs = search rules
@@ -49,6 +49,6 @@ returns c =
     let p = i.before.before.before.before in
     ((append_period p i.append.result ((append_index p).1 i.append.result i.append.ensures)).1 c.append2.result c.append2.ensures).each
 
-pub index-period-keys_spec : {M : Type 1} → statement M
-index-period-keys_spec =
+pub index_period_keys_spec : {M : Type 1} → statement M
+index_period_keys_spec =
     tie.close (tie.spec all-index-period-keys-requires append-requires append-requires-2 returns)

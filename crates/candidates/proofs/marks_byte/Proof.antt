@@ -88,8 +88,8 @@ cast-result c = let small = gather_byte _ _ _ _ c.before.loop.invariant c.loop-t
 returns : tie.Need-returns invariant-loop decreases-loop
 returns c = gather_end _ _ _ _ c.before.loop.invariant c.loop-test.false
 
-pub marks-byte_spec : {M : Type 1} → statement M
-marks-byte_spec =
+pub marks_byte_spec : {M : Type 1} → statement M
+marks_byte_spec =
     tie.close
     (tie.spec
     invariant-loop

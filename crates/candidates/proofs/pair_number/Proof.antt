@@ -21,5 +21,5 @@ add-result c = let p = c.requires in omega (arith, pair_small c.args.n c.args.i 
 returns : tie.Need-returns
 returns c = refl
 
-pub pair-number_spec : {M : Type 1} → statement M
-pair-number_spec = tie.close (tie.spec sub-result mul-result sub-result-2 add-result returns)
+pub pair_number_spec : {M : Type 1} → statement M
+pair_number_spec = tie.close (tie.spec sub-result mul-result sub-result-2 add-result returns)

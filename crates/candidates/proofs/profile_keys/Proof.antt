@@ -23,7 +23,7 @@ module _ (c : tie.After-index-period-keys) where
   cells = start.args.cells.now
 
   table : Filled n cells
-  table = start.pre
+  table = start.requires
 
   abbrev counts : ElementCounts
   counts = c.before.all-counts.result
@@ -111,8 +111,8 @@ returns z =
     let c = y.before.before.before.before.before.before.before.before.before.before.before.before.before.before.before.before in
     ((commutings c y.append4.result (with_column y)).1 z.append5.result z.append5.ensures).each
 
-pub profile-keys_spec : {M : Type 1} → statement M
-profile-keys_spec =
+pub profile_keys_spec : {M : Type 1} → statement M
+profile_keys_spec =
     tie.close
     (tie.spec
     all-counts-requires

@@ -20,5 +20,5 @@ returns : tie.Need-returns
 unfolding scratch_size
 returns c = refl
 
-pub scratch-size_spec : {M : Type 1} → statement M
-scratch-size_spec = tie.close (tie.spec mul-result add-result returns)
+pub scratch_size_spec : {M : Type 1} → statement M
+scratch_size_spec = tie.close (tie.spec mul-result add-result returns)

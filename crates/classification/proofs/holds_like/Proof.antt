@@ -64,8 +64,8 @@ isomorphic-requires c κs = let v = c.before.before.before in ((own_holds v).tab
 returns-3 : tie.Need-returns-3
 returns-3 c = let v = c.before.before.before.before in c.isomorphic.ensures ∙ holds_is _ (replicate 14400 0) refl _ _ _ (own_given v) (own_holds v)
 
-pub holds-like_spec : {M : Type 1} → statement M
-holds-like_spec =
+pub holds_like_spec : {M : Type 1} → statement M
+holds_like_spec =
     tie.close
     (tie.spec
     slice-aggregate-load-then-check

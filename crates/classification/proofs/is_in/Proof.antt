@@ -10,5 +10,5 @@ returns c = search rules
 returns-2 : tie.Need-returns-2
 returns-2 c = in_class_law _ _ c.if1.false _
 
-pub is-in_spec : {M : Type 1} → statement M
-is-in_spec = tie.close (tie.spec returns returns-2)
+pub is_in_spec : {M : Type 1} → statement M
+is_in_spec = tie.close (tie.spec returns returns-2)

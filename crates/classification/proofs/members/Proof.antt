@@ -63,7 +63,7 @@ loop-again c =
     let z = t.before.before.args in
     let p = member z.orders.now z.numbers.now z.a in
     let said = sym c.before.is-in.ensures in
-    (omega arith, omega arith, ⊎_elim (λ w. omega (arith, v.2, count_element_hit p t.before.loop.i v.0 (said ∙ w.0.taken))) (λ w. omega (arith, v.2, count_element_miss p t.before.loop.i v.0 (said ∙ w.0.left))) c.if1.branch)
+    (omega arith, omega arith, ⊎_elim (λ w. omega (arith, v.2, count_element_hit p t.before.loop.i v.0 (said ∙ w.0.true))) (λ w. omega (arith, v.2, count_element_miss p t.before.loop.i v.0 (said ∙ w.0.left))) c.if1.branch)
 
 returns : tie.Need-returns invariant-loop decreases-loop
 returns c =

@@ -13,5 +13,5 @@ returns-2 c = names_other _ _ c.before.if1.false _ _ c.if2.true
 returns-3 : tie.Need-returns-3
 returns-3 c = names_same _ _ c.before.if1.false _ _ c.if2.false
 
-pub names-order_spec : {M : Type 1} → statement M
-names-order_spec = tie.close (tie.spec returns returns-2 returns-3)
+pub names_order_spec : {M : Type 1} → statement M
+names_order_spec = tie.close (tie.spec returns returns-2 returns-3)

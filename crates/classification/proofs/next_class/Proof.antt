@@ -82,8 +82,8 @@ returns-2 c =
     let l = length_from c.before.before.args.orders.now c.before.before.args.numbers.now c.before.before.args.count in
     next_end _ _ _ _ v.0 (omega arith)
 
-pub next-class_spec : {M : Type 1} → statement M
-next-class_spec =
+pub next_class_spec : {M : Type 1} → statement M
+next_class_spec =
     tie.close
     (tie.spec
     invariant-loop

@@ -35,8 +35,8 @@ returns c =
     let z = c.before.before.before.before.before.before.before.before.before.before.before.before.before.before.args in
     class_written _ _ z.k z.order z.lowest fields.0 fields.1 field.0 field.1 line-end.0 line-end.1
 
-pub put-class_spec : {M : Type 1} → statement M
-put-class_spec =
+pub put_class_spec : {M : Type 1} → statement M
+put_class_spec =
     tie.close
     (tie.spec
     slice-aggregate-put-fields

@@ -48,8 +48,8 @@ returns-2 c =
     let l = c.before.before.put-class.ensures in
     note_put s.args.k s.args.at (sym (is_class s.args.order s.args.number c.before.before.before.before.if1.false)) s.args.out.now l.0 l.1
 
-pub put-note_spec : {M : Type 1} → statement M
-put-note_spec =
+pub put_note_spec : {M : Type 1} → statement M
+put_note_spec =
     tie.close
     (tie.spec
     slice-aggregate-put-record

@@ -57,8 +57,8 @@ same_length c = write_length c.before.loop.invariant.0
 returns : tie.Need-returns invariant-loop decreases-loop
 returns c = let h = c.loop-test.false in notes_done _ _ _ h c.before.loop.invariant.0
 
-pub put-notes_spec : {M : Type 1} → statement M
-put-notes_spec =
+pub put_notes_spec : {M : Type 1} → statement M
+put_notes_spec =
     tie.close
     (tie.spec
     invariant-loop

@@ -62,8 +62,8 @@ returns-2 c =
     let p = s.requires.0 in
     total_kept z.orders.now z.numbers.now z.count z.a (p.1, p.2) z.out.now z.at (total_none z.orders.now z.numbers.now z.count z.a (p.1, p.2) (sym c.before.is-in.ensures ∙ c.if1.false))
 
-pub put-total_spec : {M : Type 1} → statement M
-put-total_spec =
+pub put_total_spec : {M : Type 1} → statement M
+put_total_spec =
     tie.close
     (tie.spec
     sub-is-in

@@ -44,8 +44,8 @@ same_length c = write_length c.before.loop.invariant.0
 returns : tie.Need-returns invariant-loop decreases-loop
 returns c = let h = c.loop-test.false in totals_done _ _ _ h c.before.loop.invariant.0
 
-pub put-totals_spec : {M : Type 1} → statement M
-put-totals_spec =
+pub put_totals_spec : {M : Type 1} → statement M
+put_totals_spec =
     tie.close
     (tie.spec
     invariant-loop

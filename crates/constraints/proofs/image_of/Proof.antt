@@ -33,6 +33,6 @@ returns-2 c =
     let e = c.if1.false in
     image_next a.image.now a.len a.x (omega arith) a.a (omega arith)
 
-pub image-of_spec : {M : Type 1} → statement M
-image-of_spec =
+pub image_of_spec : {M : Type 1} → statement M
+image_of_spec =
     tie.close (tie.spec sub-result element-copy-out-result cast-result returns returns-2)

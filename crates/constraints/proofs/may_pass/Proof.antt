@@ -35,13 +35,13 @@ module _ (z : tie.Start) where
 
   refuses : (allowed && near) ≡ false → passes s t (f ++ z.args.x ∷ []) ≡ false
   refuses =
-      let source = z.pre.0.0 in
-      let trial = z.pre.1.0.0 in
+      let source = z.requires.0.0 in
+      let trial = z.requires.1.0.0 in
       let x = trial.element in
-      let n = z.pre.0.1.order in
+      let n = z.requires.0.1.order in
       look_refuses z.args.m s t (product_element z.args.m z.args.source.now source.size source.in_range) f z.args.len
-      (trial_length z.args.n z.args.image.now z.args.used.now z.args.len z.args.x trial) z.pre.1.0.1 z.args.x z.args.forced.now z.args.owner.now z.pre.1.1.0
-      source.order.1 z.pre.1.1.1 (omega arith) z.pre.1.0.2
+      (trial_length z.args.n z.args.image.now z.args.used.now z.args.len z.args.x trial) z.requires.1.0.1 z.args.x z.args.forced.now z.args.owner.now z.requires.1.1.0
+      source.order.1 z.requires.1.1.1 (omega arith) z.requires.1.0.2
 
 add-settled : tie.Need-overflow-add-settled
 add-settled c = search rules
@@ -66,6 +66,6 @@ returns-2 c =
     let e = c.Near-fits.ensures ∙ sym (ap (λ (b : Bool). b && near z) (sym g.ensures ∙ not-false g.result c.before.if1.false)) in
     (e, λ h. refuses z (sym e ∙ h))
 
-pub may-pass_spec : {M : Type 1} → statement M
-may-pass_spec =
+pub may_pass_spec : {M : Type 1} → statement M
+may_pass_spec =
     tie.close (tie.spec add-settled settled-requires returns near-fits-requires returns-2)

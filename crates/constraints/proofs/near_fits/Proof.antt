@@ -21,7 +21,7 @@ module _ (k : tie.Joined1) where
   is_newest : (max 1 z.args.len ≡ newest) × Element (z.args.len + 1) newest
   is_newest =
       ⊎_elim
-      (λ w. (ap (max 1) w.0.taken ∙ sym w.1, omega (arith, w.0.taken, w.1)))
+      (λ w. (ap (max 1) w.0.true ∙ sym w.1, omega (arith, w.0.true, w.1)))
       (λ w. (max-eq_right (omega (arith, w.0.left)) ∙ sym w.1, omega (arith, w.0.left, w.1)))
       k.if1.came
 
@@ -39,5 +39,5 @@ returns c =
     let r = z.requires.1.0.room in
     c.pair-fits.ensures ∙ sym (near_is _ _ _ z.args.len k.if1.newest (next_length z.args.image.now z.args.len z.args.x (omega arith)) (is_newest k).0)
 
-pub near-fits_spec : {M : Type 1} → statement M
-near-fits_spec = tie.close (tie.spec add-pair-fits pair-fits-requires returns)
+pub near_fits_spec : {M : Type 1} → statement M
+near_fits_spec = tie.close (tie.spec add-pair-fits pair-fits-requires returns)

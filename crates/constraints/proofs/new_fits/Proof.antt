@@ -99,8 +99,8 @@ returns-3 c =
     let pair = pair_of a.source.now a.m a.target.now a.n a.image.now a.len a.x in
     sym (l.invariant.2 ∙ all_end (cross pair (a.len + 1)) (a.len + 1) l.j c.loop-test.false)
 
-pub new-fits_spec : {M : Type 1} → statement M
-new-fits_spec =
+pub new_fits_spec : {M : Type 1} → statement M
+new_fits_spec =
     tie.close
     (tie.spec
     invariant-loop

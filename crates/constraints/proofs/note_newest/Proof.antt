@@ -67,8 +67,8 @@ returns c =
     let e = c.loop-test.false in
     turns_done _ _ _ c.before.before.before.before.args.len l.j (omega arith) l.forced l.owner l.invariant.2
 
-pub note-newest_spec : {M : Type 1} → statement M
-note-newest_spec =
+pub note_newest_spec : {M : Type 1} → statement M
+note_newest_spec =
     tie.close
     (tie.spec
     invariant-loop

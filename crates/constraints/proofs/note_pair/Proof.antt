@@ -48,8 +48,8 @@ returns c =
     let images = c.before.before.before.before.times2.ensures.0 in
     (c.before.before.note.ensures ∙ ap₂ (asked_at z.args.forced.now) product images, c.note2.ensures ∙ ap₂ (asked_at z.args.owner.now) images product)
 
-pub note-pair_spec : {M : Type 1} → statement M
-note-pair_spec =
+pub note_pair_spec : {M : Type 1} → statement M
+note_pair_spec =
     tie.close
     (tie.spec
     times-requires

@@ -91,8 +91,8 @@ returns-3 c =
     let small : v.result ≤ 120 = omega arith in
     fits_outside a.n a.image.now a.used.now a.len a.x z.requires.1.0.0 (product a.m a.source.now) t a.a a.b p.result v.result p.ensures.0 (v.ensures.0 ∙ ap₂ t y.ensures u.ensures) small c.before.before.if1.false c.before.if2.false
 
-pub pair-fits_spec : {M : Type 1} → statement M
-pair-fits_spec =
+pub pair_fits_spec : {M : Type 1} → statement M
+pair_fits_spec =
     tie.close
     (tie.spec
     times-requires

@@ -5,7 +5,7 @@ use borrow.Author.Rules.{rules}
 use borrow.Author.Tests.{not-true, not-false}
 use lib.ListN.{take}
 use Rattle.semigroups.specs.Tables.{product}
-use Rattle.semigroups.proofs.Tables.{product-element}
+use Rattle.semigroups.proofs.Tables.{product_element}
 use Rattle.constraints.proofs.Placing.{trial_length}
 use Rattle.constraints.proofs.Noting.{constraints_refuse, constraints_allow}
 use Rattle.constraints.proofs.passes_with.Statement.{statement}
@@ -26,7 +26,7 @@ returns c =
     let x = trial.element in
     let n = z.requires.0.1.order in
     let g = c.before.settled in
-    sym (constraints_refuse a.m (product a.m a.source.now) (product a.n a.target.now) (product-element a.m a.source.now source.size source.in-range)
+    sym (constraints_refuse a.m (product a.m a.source.now) (product a.n a.target.now) (product_element a.m a.source.now source.size source.in-range)
     (take a.len a.image.now) a.len (trial_length a.n a.image.now a.used.now a.len a.x trial) z.requires.1.0.1 a.x a.forced.now a.owner.now z.requires.1.1.0
     source.order.1 z.requires.1.1.1 (omega arith) z.requires.1.0.2 (sym g.ensures ∙ not-true g.result c.if1.true))
 
@@ -43,10 +43,10 @@ returns-2 c =
     let n = z.requires.0.1.order in
     let g = c.before.before.settled in
     c.new-fits.ensures
-    ∙ sym (constraints_allow a.m (product a.m a.source.now) (product a.n a.target.now) (product-element a.m a.source.now source.size source.in-range)
+    ∙ sym (constraints_allow a.m (product a.m a.source.now) (product a.n a.target.now) (product_element a.m a.source.now source.size source.in-range)
     (take a.len a.image.now) a.len (trial_length a.n a.image.now a.used.now a.len a.x trial) z.requires.1.0.1 a.x a.forced.now a.owner.now z.requires.1.1.0
     source.order.1 z.requires.1.1.1 (omega arith) z.requires.1.0.2 (sym g.ensures ∙ not-false g.result c.before.if1.false))
 
-pub passes-with_spec : {M : Type 1} → statement M
-passes-with_spec =
+pub passes_with_spec : {M : Type 1} → statement M
+passes_with_spec =
     tie.close (tie.spec add-settled settled-requires returns new-fits-requires returns-2)

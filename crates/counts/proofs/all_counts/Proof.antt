@@ -32,7 +32,7 @@ returns c =
       commuting = l.line-counts.ensures.commuting;
     }
 
-pub all-counts_spec : {M : Type 1} → statement M
-all-counts_spec =
+pub all_counts_spec : {M : Type 1} → statement M
+all_counts_spec =
     tie.close
     (tie.spec (λ c κs. search rules) (λ c κs. search rules) (λ c. search rules) tally-requires returns)

@@ -33,6 +33,6 @@ returns c =
     c.count.ensures ∙ ap (λ (l : List ℕ). occurrences s.args.a s.args.n s.args.n l) (part_to_end s.args.cells.now (s.args.a - 1))
     ∙ column_counted s.args.n s.args.cells.now s.args.a
 
-pub column-frequency_spec : {M : Type 1} → statement M
-column-frequency_spec =
+pub column_frequency_spec : {M : Type 1} → statement M
+column_frequency_spec =
     tie.close (tie.spec sub_at sub-count part-count-start part-count-end count-requires returns)

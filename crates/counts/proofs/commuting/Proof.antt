@@ -34,10 +34,10 @@ module _ (t : tie.In-loop invariant-loop decreases-loop) where
   test = commute (product start.args.n start.args.cells.now) start.args.a
 
   element : Element start.args.n t.before.loop.b
-  element = (t.before.loop.inv.0.0, t.loop-test.taken)
+  element = (t.before.loop.invariant.0.0, t.loop-test.true)
 
   limit : start.args.n ≤ 120
-  limit = start.pre.0.order.1
+  limit = start.requires.0.order.1
 
 loop-holds : tie.Need-loop-init invariant-loop decreases-loop
 loop-holds c = let a = c.before.args in (omega arith, sym (count_elements_none (commute (product a.n a.cells.now) a.a)))
@@ -69,7 +69,7 @@ loop-again c =
     let e = element t in
     let row = first.times.ensures.0 in
     let column = second.times2.ensures.0 in
-    ⊎_elim (λ w. omega (arith, count_element_hit (test t) l.b e.0 (eq-eqb _ _ (sym row ∙ w.0.taken ∙ column))))
+    ⊎_elim (λ w. omega (arith, count_element_hit (test t) l.b e.0 (eq-eqb _ _ (sym row ∙ w.0.true ∙ column))))
     (λ w. omega (arith, count_element_miss (test t) l.b e.0 (ne_eqb _ _ (λ q. w.0.left (row ∙ q ∙ sym column))))) c.if1.branch
 
 returns : tie.Need-returns invariant-loop decreases-loop

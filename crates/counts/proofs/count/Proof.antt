@@ -40,7 +40,7 @@ loop-again c =
     let t = c.before.before in
     let l = t.before.loop in
     let a = t.before.before.args in
-    ⊎_elim (λ w. omega (arith, occurs a.a a.step a.cells.now l.i w.0.taken))
+    ⊎_elim (λ w. omega (arith, occurs a.a a.step a.cells.now l.i w.0.true))
     (λ w. omega (arith, occurs_not a.a a.step a.cells.now l.i w.0.left)) c.if1.branch
 
 returns : tie.Need-returns invariant-loop decreases-loop

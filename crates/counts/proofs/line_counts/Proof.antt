@@ -25,10 +25,10 @@ module _ (t : tie.In-loop invariant-loop decreases-loop) where
   start = t.before.before.before
 
   limit : start.args.n ≤ 120
-  limit = start.pre.order.1
+  limit = start.requires.order.1
 
   element : Element start.args.n t.before.loop.a
-  element = (t.before.loop.inv.0.0, t.loop-test.taken)
+  element = (t.before.loop.invariant.0.0, t.loop-test.true)
 
 loop-holds : tie.Need-loop-init invariant-loop decreases-loop
 loop-holds c =
@@ -122,8 +122,8 @@ returns c =
       commuting = fill_end (commuting a.n table) a.n l.a l.commute l.invariant.3 l.invariant.0 end;
     }
 
-pub line-counts_spec : {M : Type 1} → statement M
-line-counts_spec =
+pub line_counts_spec : {M : Type 1} → statement M
+line_counts_spec =
     tie.close
     (tie.spec
     invariant-loop

@@ -38,7 +38,7 @@ returns c =
     c.count.ensures ∙ ap (λ (l : List ℕ). occurrences s.args.a 1 s.args.n l) (part_to_end s.args.cells.now at)
     ∙ row_counted s.args.n s.args.cells.now s.args.a
 
-pub row-frequency_spec : {M : Type 1} → statement M
-row-frequency_spec =
+pub row_frequency_spec : {M : Type 1} → statement M
+row_frequency_spec =
     tie.close
     (tie.spec sub_at mul_at sub-count part-count-start part-count-end count-requires returns)

@@ -7,5 +7,5 @@ use Rattle.exports.proofs.tickdrizzle_check_table.Tie as tie
 returns : tie.Need-returns
 returns c = rw c.before.check.ensures at c.verdict-words.ensures
 
-pub tickdrizzle-check-table_spec : {M : Type 1} → statement M
-tickdrizzle-check-table_spec = tie.close (tie.spec (λ c κs. search rules) (λ c κs. search rules) returns)
+pub tickdrizzle_check_table_spec : {M : Type 1} → statement M
+tickdrizzle_check_table_spec = tie.close (tie.spec (λ c κs. search rules) (λ c κs. search rules) returns)

@@ -9,5 +9,5 @@ returns c =
     let called = c.before.before.before.copies.ensures in
     (rw called.0 at c.copies-words.ensures, called.1)
 
-pub tickdrizzle-copies_spec : {M : Type 1} → statement M
-tickdrizzle-copies_spec = tie.close (tie.spec (λ c κs. search rules) (λ c κs. search rules) (λ c. search rules) returns)
+pub tickdrizzle_copies_spec : {M : Type 1} → statement M
+tickdrizzle_copies_spec = tie.close (tie.spec (λ c κs. search rules) (λ c κs. search rules) (λ c. search rules) returns)

@@ -7,6 +7,6 @@ use Rattle.exports.proofs.tickdrizzle_index_period.Tie as tie
 returns : tie.Need-returns
 returns c = rw c.before.index_period_law.ensures at c.index-period-words.ensures
 
-pub tickdrizzle-index-period_spec : {M : Type 1} → statement M
-tickdrizzle-index-period_spec =
+pub tickdrizzle_index_period_spec : {M : Type 1} → statement M
+tickdrizzle_index_period_spec =
     tie.close (tie.spec (λ c κs. search rules) (λ c κs. search rules) returns)

@@ -9,6 +9,6 @@ returns c =
     let called = c.before.before.before.least_degree_law.ensures in
     (rw called.0 at c.degree-words.ensures, called.1)
 
-pub tickdrizzle-least-degree_spec : {M : Type 1} → statement M
-tickdrizzle-least-degree_spec =
+pub tickdrizzle_least_degree_spec : {M : Type 1} → statement M
+tickdrizzle_least_degree_spec =
     tie.close (tie.spec (λ c κs. search rules) (λ c κs. search rules) (λ c. search rules) returns)

@@ -9,6 +9,6 @@ returns c =
     let called = c.before.before.before.load.ensures in
     (rw called.0 at c.numbered-words.ensures, called.1)
 
-pub tickdrizzle-load_spec : {M : Type 1} → statement M
-tickdrizzle-load_spec =
+pub tickdrizzle_load_spec : {M : Type 1} → statement M
+tickdrizzle_load_spec =
     tie.close (tie.spec (λ c κs. search rules) (λ c κs. search rules) (λ c. search rules) returns)

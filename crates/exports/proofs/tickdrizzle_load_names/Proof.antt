@@ -9,7 +9,7 @@ returns c =
     let called = c.before.before.before.before.before.load.ensures in
     ((λ w. rw (called.0 w) at c.numbered-words.ensures), called.1)
 
-pub tickdrizzle-load-names_spec : {M : Type 1} → statement M
-tickdrizzle-load-names_spec =
+pub tickdrizzle_load_names_spec : {M : Type 1} → statement M
+tickdrizzle_load_names_spec =
     tie.close
     (tie.spec (λ c κs. search rules) (λ c κs. search rules) (λ c. search rules) (λ c. search rules) returns)

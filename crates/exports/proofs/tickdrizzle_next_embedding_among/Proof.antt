@@ -9,7 +9,7 @@ use Rattle.exports.proofs.tickdrizzle_next_embedding_among.Tie as tie
 returns : tie.Need-returns
 returns c = words_left sought_values _ c.search-words.ensures c.before.before.before.before.before.next-among.ensures
 
-pub tickdrizzle-next-embedding-among_spec : {M : Type 1} → statement M
-tickdrizzle-next-embedding-among_spec =
+pub tickdrizzle_next_embedding_among_spec : {M : Type 1} → statement M
+tickdrizzle_next_embedding_among_spec =
     tie.close
     (tie.spec (λ c κs. search rules) (λ c κs. search rules) (λ c. search rules) (λ c. search rules) returns)

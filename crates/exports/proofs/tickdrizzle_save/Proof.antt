@@ -9,5 +9,5 @@ returns c =
     let called = c.before.before.before.save.ensures in
     (rw called.0 at c.numbered-words.ensures, called.1)
 
-pub tickdrizzle-save_spec : {M : Type 1} → statement M
-tickdrizzle-save_spec = tie.close (tie.spec (λ c κs. search rules) (λ c κs. search rules) (λ c. search rules) returns)
+pub tickdrizzle_save_spec : {M : Type 1} → statement M
+tickdrizzle_save_spec = tie.close (tie.spec (λ c κs. search rules) (λ c κs. search rules) (λ c. search rules) returns)

@@ -9,7 +9,7 @@ returns c =
     let called = c.before.before.before.before.before.subsemigroup.ensures in
     (rw called.0 at c.numbered-words.ensures, called.1)
 
-pub tickdrizzle-subsemigroup_spec : {M : Type 1} → statement M
-tickdrizzle-subsemigroup_spec =
+pub tickdrizzle_subsemigroup_spec : {M : Type 1} → statement M
+tickdrizzle_subsemigroup_spec =
     tie.close
     (tie.spec (λ c κs. search rules) (λ c κs. search rules) (λ c. search rules) (λ c. search rules) returns)

@@ -95,8 +95,8 @@ returns-3 c =
       loading.load.ensures.1,
     )
 
-pub load-then-check_spec : {M : Type 1} → statement M
-load-then-check_spec =
+pub load_then_check_spec : {M : Type 1} → statement M
+load_then_check_spec =
     tie.close
     (tie.spec
     load-requires

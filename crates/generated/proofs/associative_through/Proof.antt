@@ -133,8 +133,8 @@ returns-2 c =
     let k = third_some (table s) _ i j _ e in
     sym (ap refusal (l.loop.invariant.2 ∙ pair_hit _ _ _ _ _ t k.0 (λ x h. no_failing_through (table s) list i j x (third_before (table s) _ i j _ e x h)) (failing_through (table s) list i j _ m k.1)))
 
-pub associative-through_spec : {M : Type 1} → statement M
-associative-through_spec =
+pub associative_through_spec : {M : Type 1} → statement M
+associative_through_spec =
     tie.close
     (tie.spec
     invariant-loop

@@ -33,13 +33,13 @@ module _ (c : tie.After-index-period-of invariant-loop decreases-loop) where
   table = product start.args.n start.args.cells.now
 
   limit : start.args.n ≤ 120
-  limit = start.pre.order.1
+  limit = start.requires.order.1
 
   element : Element start.args.n head.loop.a
-  element = (head.loop.inv.0.0, c.before.loop-test.true)
+  element = (head.loop.invariant.0.0, c.before.loop-test.true)
 
   closed : Closed start.args.n table
-  closed = product_element start.args.n start.args.cells.now start.pre.size start.pre.in_range
+  closed = product_element start.args.n start.args.cells.now start.requires.size start.requires.in_range
 
   index_is : c.index-period-of.result.index ≡ marks.index start.args.n table head.loop.a
   unfolding settled
@@ -100,8 +100,8 @@ loop-again c =
     let e = element b in
     let most = limit b in (
       omega arith,
-      fill_step (marks.index n (table b)) l.a _ l.index l.inv.1 (omega arith) (index_is b),
-      fill_step (marks.period n (table b)) l.a _ l.period l.inv.2 (omega arith) (period_is b),
+      fill_step (marks.index n (table b)) l.a _ l.index l.invariant.1 (omega arith) (index_is b),
+      fill_step (marks.period n (table b)) l.a _ l.period l.invariant.2 (omega arith) (period_is b),
     )
 
 returns : tie.Need-returns invariant-loop decreases-loop
@@ -115,8 +115,8 @@ returns c =
       period = fill_end (marks.period a.n table) a.n l.a l.period l.invariant.2 l.invariant.0 end;
     }
 
-pub all-index-period-keys_spec : {M : Type 1} → statement M
-all-index-period-keys_spec =
+pub all_index_period_keys_spec : {M : Type 1} → statement M
+all_index_period_keys_spec =
     tie.close
     (tie.spec
     invariant-loop

@@ -22,7 +22,7 @@ returns-3 c = let t = c.before.before in sym (element_high _ _ _ (sym t.before.b
 returns-4 : tie.Need-returns-4
 returns-4 c = let t = c.before.before in sym (element_passes _ _ _ (sym t.before.before.check.ensures ∙ ap verdict_refusal t.enum_told.given.1) c.before.if1.false c.if2.false)
 
-pub check-element_spec : {M : Type 1} → statement M
-check-element_spec =
+pub check_element_spec : {M : Type 1} → statement M
+check_element_spec =
     tie.close
     (tie.spec (λ c κs. search rules) (λ c. search rules) (λ c κs. search rules) returns (λ c. search rules) returns-2 returns-3 returns-4)

@@ -43,8 +43,8 @@ returns-2 c =
     let q = asked a.n cells a.a none in
     says_given (element_refusal a.n cells a.a) (index_period a.n (product a.n cells) a.a) _ none (c.index-period-of.ensures ∙ settled_idempotent a.n cells a.a q.0 q.2 q.1)
 
-pub index-period_spec : {M : Type 1} → statement M
-index-period_spec =
+pub index_period_spec : {M : Type 1} → statement M
+index_period_spec =
     tie.close
     (tie.spec
     check-element-requires

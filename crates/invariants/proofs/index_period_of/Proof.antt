@@ -28,17 +28,17 @@ module _ (c : tie.At-loop invariant-loop decreases-loop) where
   table = product start.args.n start.args.cells.now
 
   closed : Closed start.args.n table
-  closed = product_element start.args.n start.args.cells.now start.pre.0.size start.pre.0.in_range
+  closed = product_element start.args.n start.args.cells.now start.requires.0.size start.requires.0.in_range
 
   limit : start.args.n ≤ 120
-  limit = start.pre.0.order.1
+  limit = start.requires.0.order.1
 
   -- A power is a place in `met`.
   place : c.loop.power < 121
   place = let e = c.loop.invariant.element in let l = limit in omega arith
 
   short : get_or c.loop.met c.loop.power 0 ≡ 0 → c.loop.k ≤ start.args.n
-  short = walk_short start.args.n table start.args.a closed start.pre.1 c.loop.met c.loop.walk c.loop.power c.loop.k c.loop.invariant
+  short = walk_short start.args.n table start.args.a closed start.requires.1 c.loop.met c.loop.walk c.loop.power c.loop.k c.loop.invariant
 
 -- The exponent k is at most 120.
 module _ (t : tie.In-loop invariant-loop decreases-loop) where
@@ -62,17 +62,17 @@ module _ (c : tie.After-loop invariant-loop decreases-loop) where
   within : (1 ≤ p) × (p < k) × Element (k - 1) settles
   within =
       let s = start end in
-      exponent_within s.args.n (table end) s.args.a (closed end) s.pre.1 end.loop.met end.loop.walk end.loop.power k end.loop.inv c.loop-test.false
+      exponent_within s.args.n (table end) s.args.a (closed end) s.requires.1 end.loop.met end.loop.walk end.loop.power k end.loop.invariant c.loop-test.false
 
   small : k ≤ 121
-  small = let e = end.loop.inv.to_end in let l = limit end in omega arith
+  small = let e = end.loop.invariant.to_end in let l = limit end in omega arith
 
   idempotent_byte : get_or end.loop.walk (settles - 1) 0 ≤ 120
   idempotent_byte =
       let s = start end in
       let l = limit end in
-      let e = exponent_read s.args.n (table end) s.args.a (closed end) s.pre.1 end.loop.met end.loop.walk end.loop.power k end.loop.inv c.loop-test.false in
-      omega (arith, power_element (table end) s.args.a s.args.n (closed end) s.pre.1 settles)
+      let e = exponent_read s.args.n (table end) s.args.a (closed end) s.requires.1 end.loop.met end.loop.walk end.loop.power k end.loop.invariant c.loop-test.false in
+      omega (arith, power_element (table end) s.args.a s.args.n (closed end) s.requires.1 settles)
 
 loop-holds : tie.Need-loop-init invariant-loop decreases-loop
 loop-holds c = let a = c.before.args in walk_start a.n (product a.n a.cells.now) a.a c.before.requires.1
@@ -109,7 +109,7 @@ loop-again c =
     let t = c.before in
     let h = t.before in
     let s = start h in
-    walk_step s.args.n (table h) s.args.a (closed h) s.pre.1 h.loop.met h.loop.walk h.loop.power h.loop.k h.loop.invariant (limit h) t.loop-test.true
+    walk_step s.args.n (table h) s.args.a (closed h) s.requires.1 h.loop.met h.loop.walk h.loop.power h.loop.k h.loop.invariant (limit h) t.loop-test.true
     c.times.result c.times.ensures.0
 
 array-read-index : tie.Need-array-read-index invariant-loop decreases-loop
@@ -143,10 +143,10 @@ returns : tie.Need-returns invariant-loop decreases-loop
 returns c =
     let e = end c in
     let s = start e in
-    walk_settled s.args.n (table e) s.args.a (closed e) s.pre.1 e.loop.met e.loop.walk e.loop.power e.loop.k e.loop.inv c.loop-test.false
+    walk_settled s.args.n (table e) s.args.a (closed e) s.requires.1 e.loop.met e.loop.walk e.loop.power e.loop.k e.loop.invariant c.loop-test.false
 
-pub index-period-of_spec : {M : Type 1} → statement M
-index-period-of_spec =
+pub index_period_of_spec : {M : Type 1} → statement M
+index_period_of_spec =
     tie.close
     (tie.spec
     invariant-loop

@@ -25,8 +25,8 @@ returns c =
     let e6 = c.commuting.ensures in
     cc
 
-pub profile-of_spec : {M : Type 1} → statement M
-profile-of_spec =
+pub profile_of_spec : {M : Type 1} → statement M
+profile_of_spec =
     tie.close
     (tie.spec
     (λ c κs. search rules)

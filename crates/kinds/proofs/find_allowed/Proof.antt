@@ -11,5 +11,5 @@ returns c = let a = c.before.before.before.before.before.before.args in c.find.e
 returns-2 : tie.Need-returns-2
 returns-2 c = let a = c.before.before.before.before.before.before.args in c.find-narrowed.ensures ∙ marked_unlimited a.next a.m a.source.now a.n a.target.now a.after.now a.scratch.now
 
-pub find-allowed_spec : {M : Type 1} → statement M
-find-allowed_spec = tie.close (tie.spec (λ c κs. search rules) returns (λ c κs. search rules) returns-2)
+pub find_allowed_spec : {M : Type 1} → statement M
+find_allowed_spec = tie.close (tie.spec (λ c κs. search rules) returns (λ c κs. search rules) returns-2)

@@ -38,13 +38,13 @@ returns-2 c =
     let a = s.args in
     let r = f.find-allowed.result in
     let is = f.find-allowed.ensures in
-    let map = c.before.before.put-found.ensures ∙ written a.next a.m a.source.now a.n a.target.now a.map.now _ s.pre.0.0.filled Unlimited r is in
+    let map = c.before.before.put-found.ensures ∙ written a.next a.m a.source.now a.n a.target.now a.map.now _ s.requires.0.0.filled Unlimited r is in
     as_answered_among (bounded a.next a.map.now) a.pairs.now (lent k) r.ok _
-    (work_allowed a.next a.m a.source.now a.n a.target.now a.pairs.now a.map.now a.scratch.now _ s.pre.0.0 s.pre.0.1 k.mark-among.ensures.1)
+    (work_allowed a.next a.m a.source.now a.n a.target.now a.pairs.now a.map.now a.scratch.now _ s.requires.0.0 s.requires.0.1 k.mark-among.ensures.1)
     (unlimited_says (marked_work a.next a.m a.source.now a.n a.target.now a.map.now _) r is) map k.mark-among.ensures.1
 
-pub find-among_spec : {M : Type 1} → statement M
-find-among_spec =
+pub find_among_spec : {M : Type 1} → statement M
+find_among_spec =
     tie.close
     (tie.spec
     (λ c κs. search rules)

@@ -20,8 +20,8 @@ returns-2 c =
     c.find-within.ensures
     ∙ ap (λ (l : Limit). outcome_of (remainder_under l (marked_work a.next a.m a.source.now a.n a.target.now a.after.now a.scratch.now))) (sym c.before.before.limit.given.1)
 
-pub find-marked_spec : {M : Type 1} → statement M
-find-marked_spec =
+pub find_marked_spec : {M : Type 1} → statement M
+find_marked_spec =
     tie.close
     (tie.spec
     (λ c. search rules)

@@ -12,5 +12,5 @@ returns c = let a = c.before.args in ap (λ (b : Bool). order_fits (plain_kind b
 returns-2 : tie.Need-returns-2
 returns-2 c = let a = c.before.args in ap (λ (b : Bool). order_fits (plain_kind b) a.m a.n) (sym c.if1.false)
 
-pub order-fits_spec : {M : Type 1} → statement M
-order-fits_spec = tie.close (tie.spec returns returns-2)
+pub order_fits_spec : {M : Type 1} → statement M
+order_fits_spec = tie.close (tie.spec returns returns-2)

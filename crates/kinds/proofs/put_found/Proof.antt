@@ -18,5 +18,5 @@ returns-2 c =
     let r = a.result in
     sym (ap (λ (b : Bool). cond b (take a.m r.image) a.map.now) c.if1.false)
 
-pub put-found_spec : {M : Type 1} → statement M
-put-found_spec = tie.close (tie.spec (λ c κs. search rules) (λ c. search rules) returns returns-2)
+pub put_found_spec : {M : Type 1} → statement M
+put_found_spec = tie.close (tie.spec (λ c κs. search rules) (λ c. search rules) returns returns-2)

@@ -27,8 +27,8 @@ returns-2 c = c.before.before.before.before.search-straight2.ensures ∙ as_aske
 returns-3 : tie.Need-returns-3
 returns-3 c = c.before.before.before.before.search-reversed.ensures ∙ as_asked c.before.before.before.before.before.before.before.before.before.before.before.before.before c.before.before.before.before.before.before.before.enum-told3.given.1
 
-pub search-kind_spec : {M : Type 1} → statement M
-search-kind_spec =
+pub search_kind_spec : {M : Type 1} → statement M
+search_kind_spec =
     tie.close
     (tie.spec
     (λ c. search rules)

@@ -12,8 +12,8 @@ search-turned-requires c κs = let z = c.before.before.before.before.before.befo
 search-turned-requires-2 : tie.Need-search-turned-requires-2
 search-turned-requires-2 c κs = let z = c.before.before.before.before.before.before.before.before in (z.requires.0, (z.requires.1, square_small _ z.requires.0.1.filled.order.1))
 
-pub search-reversed_spec : {M : Type 1} → statement M
-search-reversed_spec =
+pub search_reversed_spec : {M : Type 1} → statement M
+search_reversed_spec =
     tie.close
     (tie.spec
     (λ c. search rules)

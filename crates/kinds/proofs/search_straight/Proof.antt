@@ -43,11 +43,11 @@ returns-2 c =
     let a = s.args in
     let filled = k.before.before.before.mark.ensures in
     let w = work_marked a.onto a.next a.m a.source.now a.n a.target.now a.map.now a.scratch.now _ filled (fits k (not-false k.order_fits_law.result f.before.before.before.if1.false)) in
-    let map = c.before.before.put-found.ensures ∙ written a.next a.m a.source.now a.n a.target.now a.map.now _ s.pre.0.0.filled a.limit f.find-marked.result f.find-marked.ensures in
+    let map = c.before.before.put-found.ensures ∙ written a.next a.m a.source.now a.n a.target.now a.map.now _ s.requires.0.0.filled a.limit f.find-marked.result f.find-marked.ensures in
     as_searched (plain_kind a.onto) a.next a.limit (lent k) f.find-marked.result _ w f.find-marked.ensures map filled
 
-pub search-straight_spec : {M : Type 1} → statement M
-search-straight_spec =
+pub search_straight_spec : {M : Type 1} → statement M
+search_straight_spec =
     tie.close
     (tie.spec
     (λ c κs. search rules)

@@ -27,7 +27,7 @@ module _ (c : tie.After-turn) where
   room = c.turn.new.1.1.0
 
   fits : n * n ≤ length room
-  fits = let k = c.turn.auto.1.1.0 in let h = start.pre.1.1 in omega arith
+  fits = let k = c.turn.auto.1.1.0 in let h = start.requires.1.1 in omega arith
 
 mul-size : tie.Need-overflow-mul-size
 mul-size c = search rules
@@ -39,13 +39,13 @@ slice-reshare-prefix-search-straight : tie.Need-slice-reshare-prefix-search-stra
 slice-reshare-prefix-search-straight c = search rules
 
 slice-aggregate-search-straight : tie.Need-slice-aggregate-search-straight
-slice-aggregate-search-straight c = let t = c.before.before.before in let z = start t in part_length (n t) (target t) z.args.room.now (room t) z.pre.0.1 (fits t) t.turn.ensures
+slice-aggregate-search-straight c = let t = c.before.before.before in let z = start t in part_length (n t) (target t) z.args.room.now (room t) z.requires.0.1 (fits t) t.turn.ensures
 
 search-straight-requires : tie.Need-search-straight-requires
 search-straight-requires c κs =
     let t = c.before.before.before.before.before in
     let z = start t in
-    ((z.pre.0.0, part_accepted (n t) (target t) z.args.room.now (room t) z.pre.0.1 (fits t) t.turn.ensures), z.pre.1.0)
+    ((z.requires.0.0, part_accepted (n t) (target t) z.args.room.now (room t) z.requires.0.1 (fits t) t.turn.ensures), z.requires.1.0)
 
 same_length : tie.Need-same-length
 same_length c = search rules
@@ -62,13 +62,13 @@ returns c =
     let z = start t in
     let a = z.args in (
       c.before.before.before.before.search-straight.ensures
-          ∙ ap (λ (g : List ℕ). searched isomorphisms a.next a.limit (lend a.source.now a.m g (n t) a.map.now a.scratch.now)) (turned_part (n t) (target t) a.room.now (room t) z.pre.0.1 (fits t) t.turn.ensures)
-          ∙ turned_call a.next a.limit a.m a.source.now (n t) (target t) a.map.now a.scratch.now z.pre.0.1,
+          ∙ ap (λ (g : List ℕ). searched isomorphisms a.next a.limit (lend a.source.now a.m g (n t) a.map.now a.scratch.now)) (turned_part (n t) (target t) a.room.now (room t) z.requires.0.1 (fits t) t.turn.ensures)
+          ∙ turned_call a.next a.limit a.m a.source.now (n t) (target t) a.map.now a.scratch.now z.requires.0.1,
       t.turn.ensures,
     )
 
-pub search-turned_spec : {M : Type 1} → statement M
-search-turned_spec =
+pub search_turned_spec : {M : Type 1} → statement M
+search_turned_spec =
     tie.close
     (tie.spec
     mul-size

@@ -52,8 +52,8 @@ loop-again c =
 returns-2 : tie.Need-returns-2 invariant-loop decreases-loop
 returns-2 c = middle_good _ (table c.before.before.before) _ _ c.loop-test.false c.before.loop.invariant.1
 
-pub associative-at_spec : {M : Type 1} → statement M
-associative-at_spec =
+pub associative_at_spec : {M : Type 1} → statement M
+associative_at_spec =
     tie.close
     (tie.spec
     invariant-loop

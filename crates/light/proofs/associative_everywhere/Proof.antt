@@ -46,8 +46,8 @@ loop-again c =
 returns-2 : tie.Need-returns-2 invariant-loop decreases-loop
 returns-2 c = everywhere_good _ (table c.before.before.before) _ c.loop-test.false c.before.loop.invariant.1
 
-pub associative-everywhere_spec : {M : Type 1} → statement M
-associative-everywhere_spec =
+pub associative_everywhere_spec : {M : Type 1} → statement M
+associative_everywhere_spec =
     tie.close
     (tie.spec
     invariant-loop

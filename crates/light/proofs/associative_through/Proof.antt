@@ -56,8 +56,8 @@ returns-2 c =
     let a = c.before.before.before.before.args in
     through_good a.n (product a.n a.cells.now) a.list.now _ c.loop-test.false c.before.loop.invariant.1
 
-pub associative-through_spec : {M : Type 1} → statement M
-associative-through_spec =
+pub associative_through_spec : {M : Type 1} → statement M
+associative_through_spec =
     tie.close
     (tie.spec
     invariant-loop

@@ -28,8 +28,8 @@ module _ (c : tie.Else1 invariant-loop decreases-loop) where
 
   room : at.loop.k < length at.loop.list
   room =
-      let o = at.before.before.before.before.before.before.pre.order in
-      let size = at.loop.inv.1 in
+      let o = at.before.before.before.before.before.before.requires.order in
+      let size = at.loop.invariant.1 in
       let t = c.if1.false in
       omega arith
 
@@ -43,10 +43,10 @@ module _ (c : tie.Else1 invariant-loop decreases-loop) where
   table = product at.before.before.before.before.before.before.args.n at.before.before.before.before.before.before.args.cells.now
 
   chosen : Rarest at.before.before.before.before.before.before.args.n (frequency at.before.before.before.before.before.before.args.n table) (λ y. LeftProduct table (take at.loop.k at.loop.list) y → ⊥) at.loop.x
-  chosen = next_rarest at.loop.inv.4 c.before.loop-test.true
+  chosen = next_rarest at.loop.invariant.4 c.before.loop-test.true
 
   longer : RarestFirst at.before.before.before.before.before.before.args.n table (set at.loop.list at.loop.k at.loop.x) (at.loop.k + 1)
-  longer = chosen_next at.loop.inv.2 at.loop.x room chosen
+  longer = chosen_next at.loop.invariant.2 at.loop.x room chosen
 
 frequencies-requires : tie.Need-frequencies-requires invariant-loop decreases-loop
 frequencies-requires c κs = c.before.requires
@@ -128,7 +128,7 @@ loop-again c =
       length-set (at d).loop.list (at d).loop.k (at d).loop.x ∙ (at d).loop.invariant.1,
       longer d,
       r,
-      next_generator _ (table d) _ _ _ _ _ _ s.pre.order.1 (at d).before.before.before.before.frequencies.ensures r c.rarest2.ensures,
+      next_generator _ (table d) _ _ _ _ _ _ s.requires.order.1 (at d).before.before.before.before.frequencies.ensures r c.rarest2.ensures,
     )
 
 returns-2 : tie.Need-returns-2 invariant-loop decreases-loop

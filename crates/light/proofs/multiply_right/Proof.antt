@@ -83,8 +83,8 @@ returns c =
     let s = l.before.before.before.before in
     right_all (product s.args.n s.args.cells.now) _ _ _ _ _ c.loop-test.false l.loop.invariant.1
 
-pub multiply-right_spec : {M : Type 1} → statement M
-multiply-right_spec =
+pub multiply_right_spec : {M : Type 1} → statement M
+multiply_right_spec =
     tie.close
     (tie.spec
     invariant-loop

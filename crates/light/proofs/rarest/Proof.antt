@@ -66,8 +66,8 @@ loop-again c =
     let F : ℕ → Type 0 = (λ y. get_or l.before.args.marks.now y 0 ≡ 0) in
     let into : (d : ℕ) → c.if1.chosen ≡ d → RarestOrNone (l.loop.x + 1 - 1) W F d → RarestOrNone (l.loop.x + 1 - 1) W F c.if1.chosen =
     (λ d e r. subst (RarestOrNone (l.loop.x + 1 - 1) W F) (sym e) r) in
-    ⊎_elim (λ a. (omega arith, omega arith, into _ a.2 (rarest_first W F _ _ one v.2 a.1.taken a.0.taken)))
-    (⊎_elim (λ b. (omega arith, omega arith, into _ b.5 (rarest_better W F _ _ one v.2 b.1.left b.0.taken b.4.taken)))
+    ⊎_elim (λ a. (omega arith, omega arith, into _ a.2 (rarest_first W F _ _ one v.2 a.1.true a.0.true)))
+    (⊎_elim (λ b. (omega arith, omega arith, into _ b.5 (rarest_better W F _ _ one v.2 b.1.left b.0.true b.4.true)))
     (⊎_elim (λ d. (omega arith, omega arith, into _ d.5 (rarest_keep W F _ _ one v.2 d.1.left d.4.left)))
     (λ w. (omega arith, omega arith, into _ w.1 (rarest_skip W F _ _ one v.2 w.0.left)))))
     c.if1.branch

@@ -6,14 +6,14 @@ use Rattle.rfc4180.proofs.Decimals.{numeral_one, numeral_two, numeral_three}
 use Rattle.lines.proofs.digit_count.Statement.{statement}
 use Rattle.lines.proofs.digit_count.Tie as tie
 
+returns-then-k-lt10 : tie.Need-returns-then-k-lt10
+returns-then-k-lt10 c = sym (ap length (numeral_one _ c.if-k-lt10.true))
+
+returns-then-k-lt100 : tie.Need-returns-then-k-lt100
+returns-then-k-lt100 c = sym (ap length (numeral_two _ c.if-k-lt10.false c.if-k-lt100.true))
+
 returns : tie.Need-returns
-returns c = sym (ap length (numeral_one _ c.if1.true))
+returns c = sym (ap length (numeral_three _ c.if-k-lt100.false c.requires))
 
-returns-2 : tie.Need-returns-2
-returns-2 c = sym (ap length (numeral_two _ c.before.if1.false c.if2.true))
-
-returns-3 : tie.Need-returns-3
-returns-3 c = sym (ap length (numeral_three _ c.if2.false c.before.before.requires))
-
-pub digit-count_spec : {M : Type 1} → statement M
-digit-count_spec = tie.close (tie.spec returns returns-2 returns-3)
+pub digit_count_spec : {M : Type 1} → statement M
+digit_count_spec = tie.close (tie.spec returns-then-k-lt10 returns-then-k-lt100 returns)

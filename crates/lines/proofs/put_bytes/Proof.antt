@@ -8,55 +8,55 @@ use Rattle.lines.proofs.Lines.{write_begun, copied, copied_all}
 use Rattle.lines.proofs.put_bytes.Statement.{statement}
 use Rattle.lines.proofs.put_bytes.Tie as tie
 
-abbrev invariant-loop : tie.invariant-loop
-invariant-loop out₀ at bytes i₀ out i = Writing out₀ at bytes (drop i bytes) out (at + i) × (i ≤ length bytes)
+abbrev invariant-loop-i : tie.invariant-loop-i
+invariant-loop-i out₀ at bytes i₀ out i = Writing out₀ at bytes (drop i bytes) out (at + i) × (i ≤ length bytes)
 
-abbrev decreases-loop : tie.decreases-loop
-decreases-loop out₀ at bytes i₀ out i = length bytes - i
+abbrev decreases-loop-i : tie.decreases-loop-i
+decreases-loop-i out₀ at bytes i₀ out i = length bytes - i
 
-loop-holds : tie.Need-loop-init invariant-loop decreases-loop
-loop-holds c = (write_begun _ _ _, omega arith)
+loop-i-init : tie.Need-loop-i-init invariant-loop-i decreases-loop-i
+loop-i-init c = (write_begun _ _ _, omega arith)
 
-shared-slice-read-out : tie.Need-shared-slice-read-out invariant-loop decreases-loop
-shared-slice-read-out c = omega arith
+bounds-bytes-i : tie.Need-bounds-bytes-i invariant-loop-i decreases-loop-i
+bounds-bytes-i c = omega arith
 
-add-out : tie.Need-overflow-add-out invariant-loop decreases-loop
-add-out c = omega arith
+overflow_add-out : tie.Need-overflow_add-out invariant-loop-i decreases-loop-i
+overflow_add-out c = omega arith
 
-slice-write-out : tie.Need-slice-write-out invariant-loop decreases-loop
-slice-write-out c = omega (arith, write_length c.before.before.loop.invariant.0)
+bounds-out-at : tie.Need-bounds-out-at invariant-loop-i decreases-loop-i
+bounds-out-at c = omega (arith, write_length c.loop-i.invariant.0)
 
-add-i : tie.Need-overflow-add-i invariant-loop decreases-loop
-add-i c = omega arith
+overflow_add-i : tie.Need-overflow_add-i invariant-loop-i decreases-loop-i
+overflow_add-i c = omega arith
 
-loop-less : tie.Need-loop-smaller invariant-loop decreases-loop
-loop-less c = omega arith
+loop-i-smaller : tie.Need-loop-i-smaller invariant-loop-i decreases-loop-i
+loop-i-smaller c = omega arith
 
-loop-again : tie.Need-loop-preserved invariant-loop decreases-loop
-loop-again c = (copied _ c.before.loop-test.true c.before.before.loop.invariant.0, omega arith)
+loop-i-preserved : tie.Need-loop-i-preserved invariant-loop-i decreases-loop-i
+loop-i-preserved c = (copied _ c.loop-i-test.true c.loop-i.invariant.0, omega arith)
 
-add-result : tie.Need-overflow-add-result invariant-loop decreases-loop
-add-result c = omega arith
+overflow_add-result : tie.Need-overflow_add-result invariant-loop-i decreases-loop-i
+overflow_add-result c = omega arith
 
-same_length : tie.Need-same-length invariant-loop decreases-loop
-same_length c = write_length c.before.loop.invariant.0
+shape_of-out : tie.Need-shape_of-out invariant-loop-i decreases-loop-i
+shape_of-out c = write_length c.loop-i.invariant.0
 
-returns : tie.Need-returns invariant-loop decreases-loop
-returns c = copied_all _ c.loop-test.false c.before.loop.invariant.0
+returns : tie.Need-returns invariant-loop-i decreases-loop-i
+returns c = copied_all _ c.loop-i-test.false c.loop-i.invariant.0
 
-pub put-bytes_spec : {M : Type 1} → statement M
-put-bytes_spec =
+pub put_bytes_spec : {M : Type 1} → statement M
+put_bytes_spec =
     tie.close
     (tie.spec
-    invariant-loop
-    decreases-loop
-    loop-holds
-    shared-slice-read-out
-    add-out
-    slice-write-out
-    add-i
-    loop-less
-    loop-again
-    add-result
-    same_length
+    invariant-loop-i
+    decreases-loop-i
+    loop-i-init
+    bounds-bytes-i
+    overflow_add-out
+    bounds-out-at
+    overflow_add-i
+    loop-i-smaller
+    loop-i-preserved
+    overflow_add-result
+    shape_of-out
     returns)

@@ -7,12 +7,12 @@ use lib.ListN.{length-set}
 use Rattle.lines.proofs.put_field.Statement.{statement}
 use Rattle.lines.proofs.put_field.Tie as tie
 
-same_length : tie.Need-same-length
-same_length c = c.before.before.put-number.auto.0 ∙ simp length-set
+shape_of-out : tie.Need-shape_of-out
+shape_of-out c = c.put_number.auto.out ∙ simp length-set
 
 returns : tie.Need-returns
-returns c = (let e = c.before.before.put-number.ensures.0 in omega arith, c.before.before.put-number.ensures.1 ∙ rw add-one)
+returns c = (let e = c.put_number.ensures.0 in omega arith, c.put_number.ensures.1 ∙ rw add-one)
 
-pub put-field_spec : {M : Type 1} → statement M
-put-field_spec =
-    tie.close (tie.spec (λ c. search rules) (λ c. search rules) (λ c κs. search rules) same_length returns)
+pub put_field_spec : {M : Type 1} → statement M
+put_field_spec =
+    tie.close (tie.spec (λ c. search rules) (λ c. search rules) (λ c κs. search rules) shape_of-out returns)

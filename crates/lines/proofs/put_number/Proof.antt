@@ -9,139 +9,139 @@ use Rattle.rfc4180.proofs.Writing.{put_one, put_two, put_three}
 use Rattle.lines.proofs.put_number.Statement.{statement}
 use Rattle.lines.proofs.put_number.Tie as tie
 
-add-out : tie.Need-overflow-add-out
-add-out c = search rules
+overflow_add-out : tie.Need-overflow_add-out
+overflow_add-out c = search rules
 
-cast-out : tie.Need-overflow-cast-out
-cast-out c = search rules
+overflow_cast-out : tie.Need-overflow_cast-out
+overflow_cast-out c = search rules
 
-slice-write-out : tie.Need-slice-write-out
-slice-write-out c =
-    let s = c.before in
-    omega (arith, s.requires.1, ap length (numeral_one _ c.if1.true))
+bounds-out-at : tie.Need-bounds-out-at
+bounds-out-at c =
+    let s = c in
+    omega (arith, s.requires.1, ap length (numeral_one _ c.if-x-lt10.true))
 
-add-result : tie.Need-overflow-add-result
-add-result c = search rules
+overflow_add-result : tie.Need-overflow_add-result
+overflow_add-result c = search rules
 
-same_length : tie.Need-same-length
-same_length c = search rules
+shape_of-out-then-x-lt10 : tie.Need-shape_of-out-then-x-lt10
+shape_of-out-then-x-lt10 c = search rules
+
+returns-then-x-lt10 : tie.Need-returns-then-x-lt10
+returns-then-x-lt10 c = put_one _ _ _ c.if-x-lt10.true
+
+overflow_add-out-then-x-lt100 : tie.Need-overflow_add-out-then-x-lt100
+overflow_add-out-then-x-lt100 c = search rules
+
+overflow_cast-out-then-x-lt100 : tie.Need-overflow_cast-out-then-x-lt100
+overflow_cast-out-then-x-lt100 c = search rules
+
+bounds-out-at-then-x-lt100 : tie.Need-bounds-out-at-then-x-lt100
+bounds-out-at-then-x-lt100 c =
+    let s = c in
+    omega (arith, s.requires.1, ap length (numeral_two _ c.if-x-lt10.false c.if-x-lt100.true))
+
+overflow_add-out-then-x-lt100-2 : tie.Need-overflow_add-out-then-x-lt100-2
+overflow_add-out-then-x-lt100-2 c = search rules
+
+overflow_cast-out-then-x-lt100-2 : tie.Need-overflow_cast-out-then-x-lt100-2
+overflow_cast-out-then-x-lt100-2 c = search rules
+
+overflow_add-out-then-x-lt100-3 : tie.Need-overflow_add-out-then-x-lt100-3
+overflow_add-out-then-x-lt100-3 c = search rules
+
+bounds-out-at-then-x-lt100-2 : tie.Need-bounds-out-at-then-x-lt100-2
+bounds-out-at-then-x-lt100-2 c =
+    let s = c in
+    rw length-set (omega (arith, s.requires.1, ap length (numeral_two _ c.if-x-lt10.false c.if-x-lt100.true)))
+
+overflow_add-result-then-x-lt100 : tie.Need-overflow_add-result-then-x-lt100
+overflow_add-result-then-x-lt100 c = search rules
+
+shape_of-out-then-x-lt100 : tie.Need-shape_of-out-then-x-lt100
+shape_of-out-then-x-lt100 c = search rules
+
+returns-then-x-lt100 : tie.Need-returns-then-x-lt100
+returns-then-x-lt100 c = put_two _ _ _ c.if-x-lt10.false c.if-x-lt100.true
+
+overflow_add-out-2 : tie.Need-overflow_add-out-2
+overflow_add-out-2 c = search rules
+
+overflow_cast-out-2 : tie.Need-overflow_cast-out-2
+overflow_cast-out-2 c = search rules
+
+bounds-out-at-2 : tie.Need-bounds-out-at-2
+bounds-out-at-2 c =
+    let s = c in
+    omega (arith, s.requires.1, ap length (numeral_three _ c.if-x-lt100.false s.requires.0))
+
+overflow_add-out-3 : tie.Need-overflow_add-out-3
+overflow_add-out-3 c = search rules
+
+overflow_cast-out-3 : tie.Need-overflow_cast-out-3
+overflow_cast-out-3 c = search rules
+
+overflow_add-out-4 : tie.Need-overflow_add-out-4
+overflow_add-out-4 c = search rules
+
+bounds-out-at-3 : tie.Need-bounds-out-at-3
+bounds-out-at-3 c =
+    let s = c in
+    rw length-set (omega (arith, s.requires.1, ap length (numeral_three _ c.if-x-lt100.false s.requires.0)))
+
+overflow_add-out-5 : tie.Need-overflow_add-out-5
+overflow_add-out-5 c = search rules
+
+overflow_cast-out-4 : tie.Need-overflow_cast-out-4
+overflow_cast-out-4 c = search rules
+
+overflow_add-out-6 : tie.Need-overflow_add-out-6
+overflow_add-out-6 c = search rules
+
+bounds-out-at-4 : tie.Need-bounds-out-at-4
+bounds-out-at-4 c =
+    let s = c in
+    simp length-set (omega (arith, s.requires.1, ap length (numeral_three _ c.if-x-lt100.false s.requires.0)))
+
+overflow_add-result-2 : tie.Need-overflow_add-result-2
+overflow_add-result-2 c = search rules
+
+shape_of-out : tie.Need-shape_of-out
+shape_of-out c = search rules
 
 returns : tie.Need-returns
-returns c = put_one _ _ _ c.if1.true
+returns c = put_three _ _ _ c.if-x-lt100.false c.requires.0
 
-add-out-2 : tie.Need-overflow-add-out-2
-add-out-2 c = search rules
-
-cast-out-2 : tie.Need-overflow-cast-out-2
-cast-out-2 c = search rules
-
-slice-write-out-2 : tie.Need-slice-write-out-2
-slice-write-out-2 c =
-    let s = c.before.before in
-    omega (arith, s.requires.1, ap length (numeral_two _ c.before.if1.false c.if2.true))
-
-add-out-3 : tie.Need-overflow-add-out-3
-add-out-3 c = search rules
-
-cast-out-3 : tie.Need-overflow-cast-out-3
-cast-out-3 c = search rules
-
-add-out-4 : tie.Need-overflow-add-out-4
-add-out-4 c = search rules
-
-slice-write-out-3 : tie.Need-slice-write-out-3
-slice-write-out-3 c =
-    let s = c.before.before in
-    rw length-set (omega (arith, s.requires.1, ap length (numeral_two _ c.before.if1.false c.if2.true)))
-
-add-result-2 : tie.Need-overflow-add-result-2
-add-result-2 c = search rules
-
-same-length-2 : tie.Need-same-length-2
-same-length-2 c = search rules
-
-returns-2 : tie.Need-returns-2
-returns-2 c = put_two _ _ _ c.before.if1.false c.if2.true
-
-add-out-5 : tie.Need-overflow-add-out-5
-add-out-5 c = search rules
-
-cast-out-4 : tie.Need-overflow-cast-out-4
-cast-out-4 c = search rules
-
-slice-write-out-4 : tie.Need-slice-write-out-4
-slice-write-out-4 c =
-    let s = c.before.before in
-    omega (arith, s.requires.1, ap length (numeral_three _ c.if2.false s.requires.0))
-
-add-out-6 : tie.Need-overflow-add-out-6
-add-out-6 c = search rules
-
-cast-out-5 : tie.Need-overflow-cast-out-5
-cast-out-5 c = search rules
-
-add-out-7 : tie.Need-overflow-add-out-7
-add-out-7 c = search rules
-
-slice-write-out-5 : tie.Need-slice-write-out-5
-slice-write-out-5 c =
-    let s = c.before.before in
-    rw length-set (omega (arith, s.requires.1, ap length (numeral_three _ c.if2.false s.requires.0)))
-
-add-out-8 : tie.Need-overflow-add-out-8
-add-out-8 c = search rules
-
-cast-out-6 : tie.Need-overflow-cast-out-6
-cast-out-6 c = search rules
-
-add-out-9 : tie.Need-overflow-add-out-9
-add-out-9 c = search rules
-
-slice-write-out-6 : tie.Need-slice-write-out-6
-slice-write-out-6 c =
-    let s = c.before.before in
-    simp length-set (omega (arith, s.requires.1, ap length (numeral_three _ c.if2.false s.requires.0)))
-
-add-result-3 : tie.Need-overflow-add-result-3
-add-result-3 c = search rules
-
-same-length-3 : tie.Need-same-length-3
-same-length-3 c = search rules
-
-returns-3 : tie.Need-returns-3
-returns-3 c = put_three _ _ _ c.if2.false c.before.before.requires.0
-
-pub put-number_spec : {M : Type 1} → statement M
-put-number_spec =
+pub put_number_spec : {M : Type 1} → statement M
+put_number_spec =
     tie.close
     (tie.spec
-    add-out
-    cast-out
-    slice-write-out
-    add-result
-    same_length
-    returns
-    add-out-2
-    cast-out-2
-    slice-write-out-2
-    add-out-3
-    cast-out-3
-    add-out-4
-    slice-write-out-3
-    add-result-2
-    same-length-2
-    returns-2
-    add-out-5
-    cast-out-4
-    slice-write-out-4
-    add-out-6
-    cast-out-5
-    add-out-7
-    slice-write-out-5
-    add-out-8
-    cast-out-6
-    add-out-9
-    slice-write-out-6
-    add-result-3
-    same-length-3
-    returns-3)
+    overflow_add-out
+    overflow_cast-out
+    bounds-out-at
+    overflow_add-result
+    shape_of-out-then-x-lt10
+    returns-then-x-lt10
+    overflow_add-out-then-x-lt100
+    overflow_cast-out-then-x-lt100
+    bounds-out-at-then-x-lt100
+    overflow_add-out-then-x-lt100-2
+    overflow_cast-out-then-x-lt100-2
+    overflow_add-out-then-x-lt100-3
+    bounds-out-at-then-x-lt100-2
+    overflow_add-result-then-x-lt100
+    shape_of-out-then-x-lt100
+    returns-then-x-lt100
+    overflow_add-out-2
+    overflow_cast-out-2
+    bounds-out-at-2
+    overflow_add-out-3
+    overflow_cast-out-3
+    overflow_add-out-4
+    bounds-out-at-3
+    overflow_add-out-5
+    overflow_cast-out-4
+    overflow_add-out-6
+    bounds-out-at-4
+    overflow_add-result-2
+    shape_of-out
+    returns)

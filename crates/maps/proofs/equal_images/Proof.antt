@@ -71,8 +71,8 @@ loop-again c = (omega arith, c.before.loop2.invariant.2 ∙ pair_leave _ _ _ _ c
 returns-2 : tie.Need-returns-2 invariant-loop2 decreases-loop2 invariant-loop decreases-loop
 returns-2 c = λ s n t. sym (equal_as_test _ s n t _ ∙ c.before.loop.invariant.1 ∙ pairs_end _ _ _ c.loop-test.false)
 
-pub equal-images_spec : {M : Type 1} → statement M
-equal-images_spec =
+pub equal_images_spec : {M : Type 1} → statement M
+equal_images_spec =
     tie.close
     (tie.spec
     invariant-loop2

@@ -58,8 +58,8 @@ returns c =
     let last : l.i ≡ a.m = omega arith in
     sym (take_all l.i l.map (omega arith)) ∙ i.2 ∙ ap (λ (k : ℕ). take k a.image.now) last
 
-pub write-images_spec : {M : Type 1} → statement M
-write-images_spec =
+pub write_images_spec : {M : Type 1} → statement M
+write_images_spec =
     tie.close
     (tie.spec
     invariant-loop

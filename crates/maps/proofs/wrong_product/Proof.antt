@@ -93,8 +93,8 @@ loop-again c = (omega arith, c.before.loop2.invariant.3 ∙ pair_leave _ _ _ _ c
 returns-2 : tie.Need-returns-2 invariant-loop2 decreases-loop2 invariant-loop decreases-loop
 returns-2 c = sym (wrong_as_test _ _ _ _ _ ∙ c.before.loop.invariant.1 ∙ pairs_end _ _ _ c.loop-test.false)
 
-pub wrong-product_spec : {M : Type 1} → statement M
-wrong-product_spec =
+pub wrong_product_spec : {M : Type 1} → statement M
+wrong_product_spec =
     tie.close
     (tie.spec
     invariant-loop2

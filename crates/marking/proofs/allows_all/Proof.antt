@@ -48,8 +48,8 @@ returns-2 c =
     let l = c.before.loop in
     sym (l.invariant.1 ∙ clears_end a.size a.pairs.now a.scratch.now l.place c.loop-test.false)
 
-pub allows-all_spec : {M : Type 1} → statement M
-allows-all_spec =
+pub allows_all_spec : {M : Type 1} → statement M
+allows_all_spec =
     tie.close
     (tie.spec
     invariant-loop

@@ -60,8 +60,8 @@ returns c =
     let a = k.before.args in
     mask_end a.size a.pairs.now a.scratch.now k.before.requires.1 k.loop.invariant c.loop-test.false
 
-pub keep-pairs_spec : {M : Type 1} → statement M
-keep-pairs_spec =
+pub keep_pairs_spec : {M : Type 1} → statement M
+keep_pairs_spec =
     tie.close
     (tie.spec
     invariant-loop

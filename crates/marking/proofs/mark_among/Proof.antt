@@ -22,8 +22,8 @@ returns c =
           ∙ masked_scratch a.m a.n (candidate embeddings a.m (product a.m a.source.now) a.n (product a.n a.target.now)) a.pairs.now a.scratch.now,
     )
 
-pub mark-among_spec : {M : Type 1} → statement M
-mark-among_spec =
+pub mark_among_spec : {M : Type 1} → statement M
+mark_among_spec =
     tie.close
     (tie.spec
     (λ c κs. search rules)

@@ -45,5 +45,5 @@ returns-4 c = print_other _ _ c.before.before.before.before.loop.invariant c.bef
 returns-5 : tie.Need-returns-5 invariant-loop decreases-loop
 returns-5 c = print_done _ _ c.before.loop.invariant c.loop-test.false c.before.before.before.if1.false c.before.before.if2.false
 
-pub is-name_spec : {M : Type 1} → statement M
-is-name_spec = tie.close (tie.spec invariant-loop decreases-loop returns returns-2 loop-holds shared-slice-read-b add-i loop-less loop-again returns-3 returns-4 returns-5)
+pub is_name_spec : {M : Type 1} → statement M
+is_name_spec = tie.close (tie.spec invariant-loop decreases-loop returns returns-2 loop-holds shared-slice-read-b add-i loop-less loop-again returns-3 returns-4 returns-5)

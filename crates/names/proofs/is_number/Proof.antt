@@ -74,5 +74,5 @@ returns-7 c =
     let k = s.before.before in
     count_done _ _ _ _ c.before.loop.invariant c.loop-test.false k.before.before.if1.false (k.before.if2.false, k.if3.false) s.if4.false
 
-pub is-number_spec : {M : Type 1} → statement M
-is-number_spec = tie.close (tie.spec invariant-loop decreases-loop returns returns-2 returns-3 shared-slice-read-if4 returns-4 loop-holds shared-slice-read-b mul-v cast-v add-v add-i loop-less loop-again returns-5 returns-6 returns-7)
+pub is_number_spec : {M : Type 1} → statement M
+is_number_spec = tie.close (tie.spec invariant-loop decreases-loop returns returns-2 returns-3 shared-slice-read-if4 returns-4 loop-holds shared-slice-read-b mul-v cast-v add-v add-i loop-less loop-again returns-5 returns-6 returns-7)

@@ -38,7 +38,7 @@ module _ (c : tie.Else1 invariant-loop decreases-loop) where
   size = get_or start_of.args.lengths.now at-loop.loop.k 0
 
   abbrev inv : JudgingNames names_of start_of.args.lengths.now at-loop.loop.start at-loop.loop.k at-loop.loop.total
-  inv = at-loop.loop.inv
+  inv = at-loop.loop.invariant
 
   abbrev within : size ≤ length names_of - at-loop.loop.start
   within = c.if1.false
@@ -115,7 +115,7 @@ add-digit-count c = omega arith
 
 digit-count-requires : tie.Need-digit-count-requires invariant-loop decreases-loop
 digit-count-requires c κs =
-    let p = (start_of (told c)).pre in
+    let p = (start_of (told c)).requires in
     let m = more (told c) in
     omega arith
 
@@ -170,7 +170,7 @@ add-total-3 c =
     let f = few_bytes c in
     let t = told (named c) in
     let s = (inv t).small in
-    let p = (start_of t).pre in
+    let p = (start_of t).requires in
     let m = more t in
     omega arith
 
@@ -193,5 +193,5 @@ returns-3 c =
     let few = c.before.loop.invariant.few in
     (done.0, omega arith, done.1)
 
-pub judge-names_spec : {M : Type 1} → statement M
-judge-names_spec = tie.close (tie.spec invariant-loop decreases-loop loop-holds shared-slice-read-size cast-size sub-if1 add-t13 returns add-end sub-is-name part-is-name-start part-is-name-end is-name-requires add-t19 returns-2 add-digit-count digit-count-requires sub-name-length part-name-length-start part-name-length-end name-length-requires add_total add-total-2 add-total-3 add-k loop-less loop-again returns-3)
+pub judge_names_spec : {M : Type 1} → statement M
+judge_names_spec = tie.close (tie.spec invariant-loop decreases-loop loop-holds shared-slice-read-size cast-size sub-if1 add-t13 returns add-end sub-is-name part-is-name-start part-is-name-end is-name-requires add-t19 returns-2 add-digit-count digit-count-requires sub-name-length part-name-length-start part-name-length-end name-length-requires add_total add-total-2 add-total-3 add-k loop-less loop-again returns-3)

@@ -32,10 +32,10 @@ module _ (c : tie.After-read-field invariant-loop decreases-loop) where
   text_of = at-loop.before.before.args.text.now
 
   abbrev form : IsSheet text_of
-  form = at-loop.before.before.pre
+  form = at-loop.before.before.requires
 
   abbrev inv : Judging text_of form at-loop.loop.at at-loop.loop.k at-loop.loop.total at-loop.loop.more
-  inv = at-loop.loop.inv form
+  inv = at-loop.loop.invariant form
 
   abbrev goes_on : at-loop.loop.more ≡ true
   goes_on = c.before.loop-test.true
@@ -100,7 +100,7 @@ is-name-requires c κs = tt
 returns-2 : tie.Need-returns-2 invariant-loop decreases-loop
 returns-2 c =
     let r = c.before.before in
-    λ p. judge_name ((at-loop (first r)).loop.inv p) (goes_on (first r)) (number_right r) (sym (held_name (name r) _ (name_held r)) ∙ sym c.before.is_name.ensures ∙ not-true _ c.if2.true)
+    λ p. judge_name ((at-loop (first r)).loop.invariant p) (goes_on (first r)) (number_right r) (sym (held_name (name r) _ (name_held r)) ∙ sym c.before.is_name.ensures ∙ not-true _ c.if2.true)
 
 add_total : tie.Need-overflow-add-total invariant-loop decreases-loop
 add_total c =
@@ -132,7 +132,7 @@ loop-again : tie.Need-loop-preserved invariant-loop decreases-loop
 loop-again c =
     let r = c.before.before in
     let m : is_name (name r) ≡ true = sym (held_name (name r) _ (name_held r)) ∙ sym c.before.is_name.ensures ∙ not-false _ c.if2.false in
-    λ p. rw (end_is r) (judge_next ((at-loop (first r)).loop.inv p) (goes_on (first r)) (number_right r) _ m (holds_short (name r) _ (name_held r) (name_is (name r) m).short).0)
+    λ p. rw (end_is r) (judge_next ((at-loop (first r)).loop.invariant p) (goes_on (first r)) (number_right r) _ m (holds_short (name r) _ (name_held r) (name_is (name r) m).short).0)
 
 sub-t16 : tie.Need-overflow-sub-t16 invariant-loop decreases-loop
 sub-t16 c = (c.before.loop.invariant c.before.before.before.requires).low
@@ -140,5 +140,5 @@ sub-t16 c = (c.before.loop.invariant c.before.before.before.requires).low
 returns-3 : tie.Need-returns-3 invariant-loop decreases-loop
 returns-3 c = λ p. judge_done (c.before.loop.invariant p) c.loop-test.false
 
-pub judge-records_spec : {M : Type 1} → statement M
-judge-records_spec = tie.close (tie.spec invariant-loop decreases-loop loop-holds read-field-requires is-number-requires returns add-read-field read-field-requires-2 is-name-requires returns-2 add_total add-k add_at loop-less loop-again sub-t16 returns-3)
+pub judge_records_spec : {M : Type 1} → statement M
+judge_records_spec = tie.close (tie.spec invariant-loop decreases-loop loop-holds read-field-requires is-number-requires returns add-read-field read-field-requires-2 is-name-requires returns-2 add_total add-k add_at loop-less loop-again sub-t16 returns-3)

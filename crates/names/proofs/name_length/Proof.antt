@@ -80,5 +80,5 @@ returns-2 c =
     let q = quoted_length c.before.before.before.before.before.args.name.now (sym l.before.before.needs-quotes.ensures ∙ not-false _ l.before.if1.false) in
     omega arith
 
-pub name-length_spec : {M : Type 1} → statement M
-name-length_spec = tie.close (tie.spec invariant-loop decreases-loop needs-quotes-requires returns loop-holds shared-slice-read-b add_total add-i loop-less loop-again add-total-2 add-i-2 loop-less-2 loop-again-2 returns-2)
+pub name_length_spec : {M : Type 1} → statement M
+name_length_spec = tie.close (tie.spec invariant-loop decreases-loop needs-quotes-requires returns loop-holds shared-slice-read-b add_total add-i loop-less loop-again add-total-2 add-i-2 loop-less-2 loop-again-2 returns-2)

@@ -45,5 +45,5 @@ loop-again c =
 returns-3 : tie.Need-returns-3 invariant-loop decreases-loop
 returns-3 c = sym (c.before.loop.invariant.1 ∙ quotes_end _ _ c.loop-test.false)
 
-pub needs-quotes_spec : {M : Type 1} → statement M
-needs-quotes_spec = tie.close (tie.spec invariant-loop decreases-loop loop-holds shared-slice-read-b returns returns-2 add-i loop-less loop-again returns-3)
+pub needs_quotes_spec : {M : Type 1} → statement M
+needs_quotes_spec = tie.close (tie.spec invariant-loop decreases-loop loop-holds shared-slice-read-b returns returns-2 add-i loop-less loop-again returns-3)

@@ -104,5 +104,5 @@ returns c =
     let w = write_last c.before.loop.invariant.1 (doubled_end _ _ c.loop-test.false) in
     (w.1, w.0)
 
-pub put-doubled_spec : {M : Type 1} → statement M
-put-doubled_spec = tie.close (tie.spec invariant-loop decreases-loop loop-holds shared-slice-read-b slice-write-text add-text slice-write-text-2 add_at add-i loop-less loop-again slice-write-text-3 add-at-2 add-i-2 loop-less-2 loop-again-2 same_length returns)
+pub put_doubled_spec : {M : Type 1} → statement M
+put_doubled_spec = tie.close (tie.spec invariant-loop decreases-loop loop-holds shared-slice-read-b slice-write-text add-text slice-write-text-2 add_at add-i loop-less loop-again slice-write-text-3 add-at-2 add-i-2 loop-less-2 loop-again-2 same_length returns)

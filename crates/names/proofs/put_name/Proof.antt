@@ -65,5 +65,5 @@ returns-2 c =
     let q = sym c.before.before.before.before.before.needs-quotes.ensures ∙ not-false _ c.before.before.before.before.if1.false in
     put_quoted _ _ _ _ _ q c.before.before.put-doubled.ensures.0 c.before.before.put-doubled.ensures.1
 
-pub put-name_spec : {M : Type 1} → statement M
-put-name_spec = tie.close (tie.spec needs-quotes-requires put-bytes-requires same_length returns slice-write-text add-put-doubled put-doubled-requires slice-write-text-2 add-result same-length-2 returns-2)
+pub put_name_spec : {M : Type 1} → statement M
+put_name_spec = tie.close (tie.spec needs-quotes-requires put-bytes-requires same_length returns slice-write-text add-put-doubled put-doubled-requires slice-write-text-2 add-result same-length-2 returns-2)

@@ -41,16 +41,16 @@ module _ (c : tie.In-loop invariant-loop decreases-loop) where
   name = take size (drop at-loop.loop.start start_of.args.names.now)
 
   inside : at-loop.loop.start + size ≤ length start_of.args.names.now
-  inside = put_inside _ _ at-loop.loop.inv c.loop-test.true
+  inside = put_inside _ _ at-loop.loop.invariant c.loop-test.true
 
   part_is : take ((at-loop.loop.start + size) - at-loop.loop.start) (drop at-loop.loop.start start_of.args.names.now) ≡ name
   part_is = ap (λ (n : ℕ). take n (drop at-loop.loop.start start_of.args.names.now)) (let z : (at-loop.loop.start + size) - at-loop.loop.start ≡ size = omega arith in z)
 
   room : at-loop.loop.at + (length (numeral (at-loop.loop.k + 1)) + (1 + (length (name_text name) + 2))) ≤ length at-loop.loop.text
-  room = put_room _ _ at-loop.loop.inv c.loop-test.true start_of.pre.1
+  room = put_room _ _ at-loop.loop.invariant c.loop-test.true start_of.requires.1
 
   kept_length : length at-loop.loop.text ≡ length start_of.args.text.now
-  kept_length = put_length _ _ at-loop.loop.inv
+  kept_length = put_length _ _ at-loop.loop.invariant
 
 -- What is known once the number is written.
 module _ (c : tie.After-put-number invariant-loop decreases-loop) where
@@ -152,7 +152,7 @@ loop-again c =
     let m = c.before.before.before.before.before.before in
     let n = numbered m in
     let put = c.before.before.put-break in
-    put_next _ _ (at-loop (turn n)).loop.inv (turn n).loop-test.taken _ _ _ _ _ _ n.put-number.ensures.1 n.put-number.ensures.0 (rw (part_is (turn n)) at m.put-name.ensures.1) (end_is m) put.ensures.1 put.ensures.0
+    put_next _ _ (at-loop (turn n)).loop.invariant (turn n).loop-test.true _ _ _ _ _ _ n.put-number.ensures.1 n.put-number.ensures.0 (rw (part_is (turn n)) at m.put-name.ensures.1) (end_is m) put.ensures.1 put.ensures.0
 
 same_length : tie.Need-same-length invariant-loop decreases-loop
 same_length c = put_length _ _ c.before.loop.invariant
@@ -160,5 +160,5 @@ same_length c = put_length _ _ c.before.loop.invariant
 returns : tie.Need-returns invariant-loop decreases-loop
 returns c = put_done _ _ c.before.loop.invariant c.loop-test.false c.before.before.before.before.before.requires.1
 
-pub put-names_spec : {M : Type 1} → statement M
-put-names_spec = tie.close (tie.spec invariant-loop decreases-loop loop-holds shared-slice-read-end cast-end add-end add-put-number put-number-requires slice-write-text add-put-name sub-put-name part-put-name-start part-put-name-end put-name-requires put-break-requires add-k loop-less loop-again same_length returns)
+pub put_names_spec : {M : Type 1} → statement M
+put_names_spec = tie.close (tie.spec invariant-loop decreases-loop loop-holds shared-slice-read-end cast-end add-end add-put-number put-number-requires slice-write-text add-put-name sub-put-name part-put-name-start part-put-name-end put-name-requires put-break-requires add-k loop-less loop-again same_length returns)

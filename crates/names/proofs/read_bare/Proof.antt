@@ -68,5 +68,5 @@ returns-3 c =
     let e = nothing_bare _ _ l.loop-test.false in
     gathered_last _ _ _ _ _ _ l.before.loop.invariant _ _ 0 (e, ap length e) (omega arith) c.ending3.ensures
 
-pub read-bare_spec : {M : Type 1} → statement M
-read-bare_spec = tie.close (tie.spec invariant-loop decreases-loop empty-requires loop-holds shared-slice-read-b ending-requires returns ending-requires-2 returns-2 with-requires add-i loop-less loop-again ending-requires-3 returns-3)
+pub read_bare_spec : {M : Type 1} → statement M
+read_bare_spec = tie.close (tie.spec invariant-loop decreases-loop empty-requires loop-holds shared-slice-read-b ending-requires returns ending-requires-2 returns-2 with-requires add-i loop-less loop-again ending-requires-3 returns-3)

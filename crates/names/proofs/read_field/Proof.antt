@@ -24,5 +24,5 @@ returns-3 c =
     let f = field_bare _ _ c.before.before.before.if1.false c.before.if2.false in
     (subst (λ (l : List ℕ). HoldsValue l c.read-bare2.result) f.0 c.read-bare2.ensures.0, c.read-bare2.ensures.1 ∙ ap (λ (n : ℕ). c.before.before.before.before.before.args.at + n) f.1)
 
-pub read-field_spec : {M : Type 1} → statement M
-read-field_spec = tie.close (tie.spec (λ c κs. search rules) returns (λ c. search rules) (λ c. search rules) (λ c κs. search rules) returns-2 (λ c κs. search rules) returns-3)
+pub read_field_spec : {M : Type 1} → statement M
+read_field_spec = tie.close (tie.spec (λ c κs. search rules) returns (λ c. search rules) (λ c. search rules) (λ c κs. search rules) returns-2 (λ c κs. search rules) returns-3)

@@ -98,5 +98,5 @@ returns-3 c =
     let l = c.before in
     gathered_last _ _ _ _ _ _ l.before.loop.invariant _ _ 0 (nothing_quoted _ _ l.loop-test.false) (omega arith) c.ending3.ensures
 
-pub read-quoted_spec : {M : Type 1} → statement M
-read-quoted_spec = tie.close (tie.spec invariant-loop decreases-loop empty-requires loop-holds shared-slice-read-b sub-if1 add-ending ending-requires returns add-if2 shared-slice-read-if2 add-ending-2 ending-requires-2 returns-2 with-requires add-i loop-less loop-again with-requires-2 add-i-2 loop-less-2 loop-again-2 ending-requires-3 returns-3)
+pub read_quoted_spec : {M : Type 1} → statement M
+read_quoted_spec = tie.close (tie.spec invariant-loop decreases-loop empty-requires loop-holds shared-slice-read-b sub-if1 add-ending ending-requires returns add-if2 shared-slice-read-if2 add-ending-2 ending-requires-2 returns-2 with-requires add-i loop-less loop-again with-requires-2 add-i-2 loop-less-2 loop-again-2 ending-requires-3 returns-3)

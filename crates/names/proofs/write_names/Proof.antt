@@ -33,13 +33,13 @@ module _ (c : tie.After-read-field invariant-loop decreases-loop) where
   text_of = start_of.args.text.now
 
   abbrev form : IsSheet text_of
-  form = start_of.pre.0
+  form = start_of.requires.0
 
   abbrev room : Fits (sheet_rows form.sheet) (length start_of.args.names.now) (length start_of.args.lengths.now)
-  room = start_of.pre.1 form
+  room = start_of.requires.1 form
 
   abbrev inv : Filling text_of form start_of.args.names.now start_of.args.lengths.now at-loop.loop.names at-loop.loop.lengths at-loop.loop.at at-loop.loop.start at-loop.loop.k at-loop.loop.more
-  inv = at-loop.loop.inv form
+  inv = at-loop.loop.invariant form
 
   abbrev goes_on : at-loop.loop.more ≡ true
   goes_on = c.before.loop-test.true
@@ -143,7 +143,7 @@ loop-again c =
     let r = c.before.before.before.before.before.before in
     let s = start_of (first r) in
     let put = c.before.before.put-bytes in
-    λ p. rw (end_is r) (fill_next ((at-loop (first r)).loop.inv p) (goes_on (first r)) _ _ _ _ (whole r).1 (whole r).0 put.ensures.1 put.ensures.0)
+    λ p. rw (end_is r) (fill_next ((at-loop (first r)).loop.invariant p) (goes_on (first r)) _ _ _ _ (whole r).1 (whole r).0 put.ensures.1 put.ensures.0)
 
 same_length : tie.Need-same-length invariant-loop decreases-loop
 same_length c = fill_names_length (c.before.loop.invariant c.before.before.before.before.before.requires.0)
@@ -158,5 +158,5 @@ returns c =
       (λ p. (fill_done (c.before.loop.invariant p) c.loop-test.false (s.requires.1 p).names (s.requires.1 p).lengths).1),
     )
 
-pub write-names_spec : {M : Type 1} → statement M
-write-names_spec = tie.close (tie.spec invariant-loop decreases-loop loop-holds read-field-requires add-read-field read-field-requires-2 array-share-prefix-bytes slice-aggregate-put-bytes put-bytes-requires cast-lengths slice-write-lengths add-k add_at loop-less loop-again same_length same-length-2 returns)
+pub write_names_spec : {M : Type 1} → statement M
+write_names_spec = tie.close (tie.spec invariant-loop decreases-loop loop-holds read-field-requires add-read-field read-field-requires-2 array-share-prefix-bytes slice-aggregate-put-bytes put-bytes-requires cast-lengths slice-write-lengths add-k add_at loop-less loop-again same_length same-length-2 returns)

@@ -62,13 +62,13 @@ turn : (t : ℕ) (k : Opened t) → let a = (start t k).args in
     Turn (product a.m a.source.now) a.m (product a.n a.target.now) a.n a.scratch.now a.after.now (shares_later a.group.now) a.tight a.t9 k.before.before.before.before.before.if4.low k.before.before.before.before.loop.x k.«open».result
 turn t k =
     let z = start t k in
-    let test = k.before.before.before.loop-test.taken in
+    let test = k.before.before.before.loop-test.true in
     record {
-      reached = z.pre.1.1;
-      orders = (z.pre.1.0.0.order.1, z.pre.1.0.1.order.1);
+      reached = z.requires.1.1;
+      orders = (z.requires.1.0.0.order.1, z.requires.1.0.1.order.1);
       room = k.before.before.before.before.before.before.if2.left;
-      bound = k.before.before.before.before.loop.inv.2;
-      element = (k.before.before.before.before.loop.inv.0, test);
+      bound = k.before.before.before.before.loop.invariant.2;
+      element = (k.before.before.before.before.loop.invariant.0, test);
       opened = k.«open».ensures;
     }
 
@@ -114,7 +114,7 @@ extend_loop_holds : (t : ℕ) → extend-lts.Need-loop-init (calls t) (extend_at
 extend_loop_holds t c =
     let z = c.before.before.before.before.before.before.before in
     let a = z.args in
-    (omega arith, omega arith, ⊎_elim (λ w. w.2 ∙ rw w.0.taken) (λ w. w.1 ∙ rw w.0.left) c.if4.branch, begins (product a.m a.source.now) a.m (product a.n a.target.now) a.n a.scratch.now a.after.now (shares_later a.group.now) a.tight a.t9 z.requires.1.1 c.before.if2.false)
+    (omega arith, omega arith, ⊎_elim (λ w. w.2 ∙ rw w.0.true) (λ w. w.1 ∙ rw w.0.left) c.if4.branch, begins (product a.m a.source.now) a.m (product a.n a.target.now) a.n a.scratch.now a.after.now (shares_later a.group.now) a.tight a.t9 z.requires.1.1 c.before.if2.false)
 
 extend_add_open : (t : ℕ) → extend-lts.Need-overflow-add-open (calls t) (extend_at t) extend.Post extend_Inv_loop extend_μ_loop
 extend_add_open t c = let m = c.before.before.before.before.before.before.before.before.before.before.before.requires.1.0.0.order in let e = c.before.before.before.before.before.if2.false in omega arith
@@ -143,7 +143,7 @@ extend_extend_requires t c κs =
     let room = T.room in
     let v = told t c in
     let one = v.one_more in
-    (subst (λ (j : ℕ). z.args.m - c.tried-rising.result.len < j) z.pre.0 (omega arith), (z.pre.1.0, onward T c.before.if5.true c.tried-rising.result v))
+    (subst (λ (j : ℕ). z.args.m - c.tried-rising.result.len < j) z.requires.0 (omega arith), (z.requires.1.0, onward T c.before.if5.true c.tried-rising.result v))
 
 extend_returns_4 : (t : ℕ) → extend-lts.Need-returns-4 (calls t) (extend_at t) extend.Post extend_Inv_loop extend_μ_loop
 extend_returns_4 t c =
@@ -171,7 +171,7 @@ extend_loop_again t c =
           (λ w.
           let e = w.1.ensures in
           let v : Verdict _ _ _ _ _ _ _ w.1.result = record { keeps = e.0; longer = e.1.0.0; one_more = e.1.0.1; settled = e.1.1.0; sound = e.1.1.1.0; shrinks = e.1.1.1.1.0; above = e.1.1.1.1.1.0 } in
-          fail T w.0.taken w.1.result v (ap (λ (f : Outcome). f.ok) (sym w.2.ensures) ∙ w.3.left) i.3)
+          fail T w.0.true w.1.result v (ap (λ (f : Outcome). f.ok) (sym w.2.ensures) ∙ w.3.left) i.3)
           (λ w. shut T w.left i.3)
           c.if5.branch,
     )

@@ -27,10 +27,10 @@ module _ (k : tie.After-start) where
   first = k.before.before.before.before.before
 
   closed : Closed first.args.m (product first.args.m first.args.source.now)
-  closed = let source = first.pre.0.0 in product_element first.args.m first.args.source.now source.size source.in_range
+  closed = let source = first.requires.0.0 in product_element first.args.m first.args.source.now source.size source.in_range
 
   covers : let a = first.args in (f : List ℕ) → Embedding a.m (product a.m a.source.now) a.n (product a.n a.target.now) f → Among a.m (marked a.n a.scratch.now) f → Among a.m (rows_in k.«start».result) f
-  covers = let a = first.args in start_covers a.m a.source.now a.n a.target.now first.pre.0.0 first.pre.0.1 (marked a.n a.scratch.now) k.«start».result k.«start».ensures
+  covers = let a = first.args in start_covers a.m a.source.now a.n a.target.now first.requires.0.0 first.requires.0.1 (marked a.n a.scratch.now) k.«start».result k.«start».ensures
 
   len_none : k.«start».result.len ≡ 0
   len_none = ap (λ (p : Partial). p.len) k.«start».ensures
@@ -59,7 +59,7 @@ returns c =
 groups-requires : tie.Need-groups-requires
 groups-requires c κs =
     let z = first c.before.before.before.before in
-    (z.pre.0.0, z.pre.0.1.order.1, z.pre.1.0)
+    (z.requires.0.0, z.requires.0.1.order.1, z.requires.1.0)
 
 extend-requires : tie.Need-extend-requires
 extend-requires c κs =
@@ -68,7 +68,7 @@ extend-requires c κs =
     let z = first k in
     let a = z.args in
     let e = k.«start».ensures in
-    (z.pre.0, begin (product a.m a.source.now) a.m (product a.n a.target.now) a.n a.scratch.now a.after.now (shares_later g.groups.result) a.next k.«start».result (len_none k) (ap (λ (p : Partial). p.image) e) (ap (λ (p : Partial). p.ok) e) (covers k) z.pre.1.0 z.pre.1.1 (shares_later_law g.groups.result))
+    (z.requires.0, begin (product a.m a.source.now) a.m (product a.n a.target.now) a.n a.scratch.now a.after.now (shares_later g.groups.result) a.next k.«start».result (len_none k) (ap (λ (p : Partial). p.image) e) (ap (λ (p : Partial). p.ok) e) (covers k) z.requires.1.0 z.requires.1.1 (shares_later_law g.groups.result))
 
 returns-2 : tie.Need-returns-2
 returns-2 c =
@@ -79,5 +79,5 @@ returns-2 c =
     c.extend.ensures
     ∙ ap found_in (all_found (product a.m a.source.now) a.m (product a.n a.target.now) a.n a.scratch.now a.after.now g.groups.result a.next k.«start».result (len_none k) (closed k) g.groups.ensures)
 
-pub find-by-rows_spec : {M : Type 1} → statement M
-find-by-rows_spec = tie.close (tie.spec start-requires is-roomy-requires nothing-requires returns groups-requires extend-requires returns-2)
+pub find_by_rows_spec : {M : Type 1} → statement M
+find_by_rows_spec = tie.close (tie.spec start-requires is-roomy-requires nothing-requires returns groups-requires extend-requires returns-2)

@@ -36,7 +36,7 @@ module _ (k : tie.After-write-marks) where
   long : length bytes ≡ 1800
   long =
       let a = start.args in
-      ap length k.write-marks.ensures ∙ length_scratch a.m a.n left zeros (room a.m a.n start.pre.0.0.order.1 start.pre.0.1.order.1) ∙ length-replicate {A = ℕ} 1800 0
+      ap length k.write-marks.ensures ∙ length_scratch a.m a.n left zeros (room a.m a.n start.requires.0.0.order.1 start.requires.0.1.order.1) ∙ length-replicate {A = ℕ} 1800 0
 
   same : (i j : ℕ) → Element start.args.m i → Element start.args.n j → marked start.args.n bytes i j ≡ left i j
   same i j hi hj = let a = start.args in ap (λ (l : List ℕ). marked a.n l i j) k.write-marks.ensures ∙ marked_candidate a.m a.n left zeros i j hi hj
@@ -59,7 +59,7 @@ find-requires c κs =
     let k = c.before.before in
     let z = start k in
     let a = z.args in
-    (z.pre.0, (subst (λ (j : ℕ). scratch_size a.m a.n ≤ j) (sym (long k)) (size_limit a.m a.n z.pre.0.0.order.1 z.pre.0.1.order.1), z.pre.1))
+    (z.requires.0, (subst (λ (j : ℕ). scratch_size a.m a.n ≤ j) (sym (long k)) (size_limit a.m a.n z.requires.0.0.order.1 z.requires.0.1.order.1), z.requires.1))
 
 returns : tie.Need-returns
 returns c =
@@ -69,10 +69,10 @@ returns c =
     c.find.ensures
     ∙ ap found_in (search_alike a.m (product a.m a.source.now) a.n (product a.n a.target.now) (marked a.n (bytes k)) (left k)
     (λ f F among i hi. sym (same k i (at f i) hi (F.homomorphism.within i hi)) ∙ among i hi) (λ f F among i hi. same k i (at f i) hi (F.homomorphism.within i hi) ∙ among i hi)
-    (bounded a.next a.after.now) (filled_closed a.m a.source.now z.pre.0.0))
+    (bounded a.next a.after.now) (filled_closed a.m a.source.now z.requires.0.0))
 
-pub find-in-rows_spec : {M : Type 1} → statement M
-find-in-rows_spec =
+pub find_in_rows_spec : {M : Type 1} → statement M
+find_in_rows_spec =
     tie.close
     (tie.spec
     slice-aggregate-write-marks

@@ -53,12 +53,12 @@ module _ (k : tie.After-propagate) where
   left = has k.propagate.last.1.1.1.1.0
 
   closed : Closed m s
-  closed = filled_closed m start.args.source.now start.pre.0.0
+  closed = filled_closed m start.args.source.now start.requires.0.0
 
   row : (i j : ℕ) → Element m i → Element n j → rows_in marking.keep-marked.result i j ≡ candidate i j
   row i j hi hj =
       ap (λ (p : Partial). rows_in p i j) (marking.keep-marked.ensures ∙ ap (kept_partial m n candidate) marking.before.new.ensures)
-      ∙ rows_marked m n start.pre.0.0.order.1 start.pre.0.1.order.1 candidate i j hi hj
+      ∙ rows_marked m n start.requires.0.0.order.1 start.requires.0.1.order.1 candidate i j hi hj
 
   covered : (f : List ℕ) → Embedding m s n t f → Among m candidate f → Among m (rows_in marking.keep-marked.result) f
   covered f F among i hi = row i (at f i) hi (F.homomorphism.within i hi) ∙ among i hi
@@ -67,7 +67,7 @@ module _ (k : tie.After-propagate) where
   none_added f F among i hi =
       let p = marking.keep-marked.result in
       let new = k.propagate.last.1.1.1.1 in
-      let o = start.pre.0.0.order in
+      let o = start.requires.0.0.order in
       sym (row i (at f i) hi (F.homomorphism.within i hi)) ∙ shrinks_has p.rows new.0 k.propagate.ensures.1.0 i (at f i) (omega arith) (among i hi)
 
   none_lost : (f : List ℕ) → Embedding m s n t f → Among m candidate f → (k.propagate.result ≡ true) × Among m left f
@@ -117,8 +117,8 @@ returns-3 c =
     let a = (start k).args in
     c.find-in-rows.ensures ∙ ap found_in (search_alike (m k) (s k) (n k) (t k) (left k) (candidate k) (none_added k) (λ f F among. (none_lost k f F among).1) (bounded a.next a.after.now) (closed k))
 
-pub find-narrowed_spec : {M : Type 1} → statement M
-find-narrowed_spec =
+pub find_narrowed_spec : {M : Type 1} → statement M
+find_narrowed_spec =
     tie.close
     (tie.spec
     new-requires

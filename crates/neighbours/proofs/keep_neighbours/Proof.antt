@@ -79,8 +79,8 @@ returns c =
     let l = c.before.loop in
     turn_end (step a.m (product a.m a.source.now) a.n (product a.n a.target.now)) a.rows.now a.m l.c l.rows c.loop-test.false l.invariant.1 l.invariant.2
 
-pub keep-neighbours_spec : {M : Type 1} → statement M
-keep-neighbours_spec =
+pub keep_neighbours_spec : {M : Type 1} → statement M
+keep_neighbours_spec =
     tie.close
     (tie.spec
     invariant-loop

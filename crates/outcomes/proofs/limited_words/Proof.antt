@@ -20,8 +20,8 @@ returns-4 c =
     let m = c.before.before.before.said3.given in
     rw m.1 (refusal_said_law (search_fault_refusal m.0.0) (search_fault_brief m.0.0) c.before.refusal.ensures c.refusal-words.ensures)
 
-pub limited-words_spec : {M : Type 1} → statement M
-limited-words_spec =
+pub limited_words_spec : {M : Type 1} → statement M
+limited_words_spec =
     tie.close
     (tie.spec
     (λ c. search rules)

@@ -17,8 +17,8 @@ returns-3 c =
     let m = c.before.before.before.said.given in
     rw m.1 (refusal_said_law (search_fault_refusal m.0.0) (search_fault_brief m.0.0) c.before.refusal.ensures c.refusal-words.ensures)
 
-pub search-words_spec : {M : Type 1} → statement M
-search-words_spec =
+pub search_words_spec : {M : Type 1} → statement M
+search_words_spec =
     tie.close
     (tie.spec
     (λ c. search rules)

@@ -15,5 +15,5 @@ same_length c = search rules
 returns : tie.Need-returns
 returns c = let put = c.before.before.put_record.ensures in (unfold first_record in omega (arith, put.0), unfold first_record in put.1)
 
-pub put-first_spec : {M : Type 1} → statement M
-put-first_spec = tie.close (tie.spec put-record-requires same_length returns)
+pub put_first_spec : {M : Type 1} → statement M
+put_first_spec = tie.close (tie.spec put-record-requires same_length returns)

@@ -20,8 +20,8 @@ returns c =
     let s = c.before.before.before.before.before.before.before.before.before.before.before in
     found_written _ _ _ _ (omega (arith, s.requires.1, found_short (length s.args.map.now) s.args.n s.args.map.now s.requires.0.0)) head.0 head.1 pairs.0 pairs.1
 
-pub put-found_spec : {M : Type 1} → statement M
-put-found_spec =
+pub put_found_spec : {M : Type 1} → statement M
+put_found_spec =
     tie.close
     (tie.spec
     (λ c. search rules)

@@ -33,7 +33,7 @@ returns c =
     let number = c.before.before.before.before.before.before.before.before.before.before.put-number in
     pair_written _ _ _ _ number.ensures.0 number.ensures.1 field.ensures.0 field.ensures.1 line-end.ensures.0 line-end.ensures.1
 
-pub put-pair_spec : {M : Type 1} → statement M
-put-pair_spec =
+pub put_pair_spec : {M : Type 1} → statement M
+put_pair_spec =
     tie.close
     (tie.spec put-number-requires put-field-requires put-break-requires same_length returns)

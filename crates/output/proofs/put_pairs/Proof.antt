@@ -57,8 +57,8 @@ returns c =
     let all = write_last c.before.loop.invariant.0 (pairs_end _ _ _ c.loop-test.false) in
     (all.1, all.0)
 
-pub put-pairs_spec : {M : Type 1} → statement M
-put-pairs_spec =
+pub put_pairs_spec : {M : Type 1} → statement M
+put_pairs_spec =
     tie.close
     (tie.spec
     invariant-loop

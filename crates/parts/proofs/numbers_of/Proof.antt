@@ -62,8 +62,8 @@ returns c =
     let s = c.before.before in
     v.1 ∙ ap (λ (j : ℕ). numbering (take j s.args.elements.now)) (let z : c.before.loop.i ≡ s.args.k = omega arith in z)
 
-pub numbers-of_spec : {M : Type 1} → statement M
-numbers-of_spec =
+pub numbers_of_spec : {M : Type 1} → statement M
+numbers_of_spec =
     tie.close
     (tie.spec
     invariant-loop

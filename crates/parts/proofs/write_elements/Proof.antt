@@ -59,7 +59,7 @@ loop-again c =
     let a = l.before.loop.invariant in
     let t = l.loop-test.true in
     ⊎_elim
-    (λ w. rw (w.1, w.2) (element_written _ _ _ a t w.0.taken l.before.before.requires.1))
+    (λ w. rw (w.1, w.2) (element_written _ _ _ a t w.0.true l.before.before.requires.1))
     (λ w. rw (w.1, w.2) (element_skipped _ _ _ a t w.0.left))
     c.if1.branch
 
@@ -71,8 +71,8 @@ returns : tie.Need-returns invariant-loop decreases-loop
 returns c =
     elements_end _ _ _ c.before.loop.invariant c.loop-test.false
 
-pub write-elements_spec : {M : Type 1} → statement M
-write-elements_spec =
+pub write_elements_spec : {M : Type 1} → statement M
+write_elements_spec =
     tie.close
     (tie.spec
     invariant-loop

@@ -63,7 +63,7 @@ sub-x : tie.Need-overflow-sub-x invariant-loop2 decreases-loop2 invariant-loop d
 sub-x c = (row c).0
 
 shared-slice-read-x : tie.Need-shared-slice-read-x invariant-loop2 decreases-loop2 invariant-loop decreases-loop
-shared-slice-read-x c = let i = row c.before in let h = (start c.before).pre.1.0 in omega arith
+shared-slice-read-x c = let i = row c.before in let h = (start c.before).requires.1.0 in omega arith
 
 cast-x : tie.Need-overflow-cast-x invariant-loop2 decreases-loop2 invariant-loop decreases-loop
 cast-x c = omega (arith, c.shared-slice-known3.given (c.before.before.loop.i - 1))
@@ -75,7 +75,7 @@ sub-y : tie.Need-overflow-sub-y invariant-loop2 decreases-loop2 invariant-loop d
 sub-y c = (column c).0
 
 shared-slice-read-y : tie.Need-shared-slice-read-y invariant-loop2 decreases-loop2 invariant-loop decreases-loop
-shared-slice-read-y c = let j = column c.before in let h = (start (rows c.before)).pre.1.0 in omega arith
+shared-slice-read-y c = let j = column c.before in let h = (start (rows c.before)).requires.1.0 in omega arith
 
 cast-y : tie.Need-overflow-cast-y invariant-loop2 decreases-loop2 invariant-loop decreases-loop
 cast-y c = omega (arith, c.shared-slice-known4.given (c.before.before.loop2.j - 1))
@@ -83,7 +83,7 @@ cast-y c = omega (arith, c.shared-slice-known4.given (c.before.before.loop2.j - 
 times-requires : tie.Need-times-requires invariant-loop2 decreases-loop2 invariant-loop decreases-loop
 times-requires c κs =
     let r = rows c.before in
-    let p = (start r).pre in
+    let p = (start r).requires in
     (p.0, (entry_element _ _ _ _ p.1.0 p.1.1.0 _ (row r), entry_element _ _ _ _ p.1.0 p.1.1.0 _ (column c.before)))
 
 array-read-part : tie.Need-array-read-part invariant-loop2 decreases-loop2 invariant-loop decreases-loop
@@ -96,8 +96,8 @@ slice-write-part : tie.Need-slice-write-part invariant-loop2 decreases-loop2 inv
 slice-write-part c =
     let l = c.before.before in
     let r = rows l in
-    let room = (start r).pre.1.1.1 in
-    let long = row_length _ _ _ _ _ _ _ r.before.loop.inv room in
+    let room = (start r).requires.1.1.1 in
+    let long = row_length _ _ _ _ _ _ _ r.before.loop.invariant room in
     let inside = place_inside _ _ _ _ _ _ _ _ l.before.loop2.invariant l.loop2-test.true in
     let same = cell_length _ _ _ _ _ _ _ _ l.before.loop2.invariant (omega arith) in
     omega arith
@@ -115,8 +115,8 @@ loop2-again : tie.Need-loop2-preserved invariant-loop2 decreases-loop2 invariant
 loop2-again c =
     let l = c.before.before in
     let r = rows l in
-    let p = (start r).pre in
-    let long = row_length _ _ _ _ _ _ _ r.before.loop.inv p.1.1.1 in
+    let p = (start r).requires in
+    let long = row_length _ _ _ _ _ _ _ r.before.loop.invariant p.1.1.1 in
     cell_next _ _ _ _ _ _ _ _ l.before.loop2.invariant (omega arith) _ l.loop2-test.true
     (cell_number _ _ _ _ p.1.0 p.1.1.0 _ _ _ _ (order_small (start r)) (row r) (column l) c.times.ensures.0 r.before.before.numbers_of.ensures)
 
@@ -137,8 +137,8 @@ returns c =
     let p = c.before.before.before.before.before.before.requires in
     grid_end _ _ _ _ _ _ _ c.before.loop.invariant c.loop-test.false ∙ part_written _ _ _ _ p.1.0 p.1.1.0 _
 
-pub write-part_spec : {M : Type 1} → statement M
-write-part_spec =
+pub write_part_spec : {M : Type 1} → statement M
+write_part_spec =
     tie.close
     (tie.spec
     invariant-loop2

@@ -30,7 +30,7 @@ module _ (w : tie.After-write-list invariant-loop decreases-loop) where
   written = drawn _ _ _ _ _ w.before.before.before.loop.invariant.0 w.write-list.ensures
 
   pair : IsList 2 w.before.before.before.before.before.before.before.before.args.m w.write-list.last.0
-  pair = drawn_list _ _ _ _ _ w.before.before.before.loop.inv.0 w.write-list.ensures (below w.before.before)
+  pair = drawn_list _ _ _ _ _ w.before.before.before.loop.invariant.0 w.write-list.ensures (below w.before.before)
 
 number-of-lists-requires : tie.Need-number-of-lists-requires invariant-loop decreases-loop
 number-of-lists-requires c κs = (omega arith, c.before.before.before.requires.0.order.1)
@@ -82,8 +82,8 @@ returns-2 c =
     let total = h.before.number-of-lists.ensures in
     sym (every_pair _ _ _ _ _ b.requires.1.1 (h.loop.invariant.1 ∙ search_end _ _ _ _ (omega arith)))
 
-pub is-embedding_spec : {M : Type 1} → statement M
-is-embedding_spec =
+pub is_embedding_spec : {M : Type 1} → statement M
+is_embedding_spec =
     tie.close
     (tie.spec
     invariant-loop

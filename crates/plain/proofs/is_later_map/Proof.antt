@@ -21,10 +21,10 @@ module _ (c : tie.After-list-number) where
   start_of = c.before.before.before.before
 
   read : take start_of.args.m c.list-number.result ≡ numbered start_of.args.m start_of.args.n start_of.args.k
-  read = front_read _ _ _ start_of.pre.1.1.1.1 _ c.list-number.ensures
+  read = front_read _ _ _ start_of.requires.1.1.1.1 _ c.list-number.ensures
 
   listed : IsList start_of.args.m start_of.args.n (take start_of.args.m c.list-number.result)
-  listed = front_list _ _ _ start_of.pre.1.1.1.1 _ c.list-number.ensures
+  listed = front_list _ _ _ start_of.requires.1.1.1.1 _ c.list-number.ensures
 
 list-number-requires : tie.Need-list-number-requires
 list-number-requires c κs = search rules
@@ -36,7 +36,7 @@ slice-aggregate-is-map : tie.Need-slice-aggregate-is-map
 slice-aggregate-is-map c = sym (listed c.before).size
 
 is-map-requires : tie.Need-is-map-requires
-is-map-requires c κs = let s = start_of c.before in (s.pre.0, (s.pre.1.0, listed c.before))
+is-map-requires c κs = let s = start_of c.before in (s.requires.0, (s.requires.1.0, listed c.before))
 
 array-share-prefix-list-2 : tie.Need-array-share-prefix-list-2
 array-share-prefix-list-2 c = search rules
@@ -54,8 +54,8 @@ returns c =
     let test : List ℕ → Bool = λ f. is_map (plain_kind a.isomorphisms) a.m (product a.m a.source.now) a.n (product a.n a.target.now) f in
     ap₂ ◌&&◌ (c.before.before.is_map_law.ensures ∙ ap test (read d)) (c.earlier.ensures ∙ ap (earlier a.after.now) (read d))
 
-pub is-later-map_spec : {M : Type 1} → statement M
-is-later-map_spec =
+pub is_later_map_spec : {M : Type 1} → statement M
+is_later_map_spec =
     tie.close
     (tie.spec
     list-number-requires

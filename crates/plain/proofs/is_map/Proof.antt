@@ -15,5 +15,5 @@ returns c =
     let b = c.before.before.before.before in
     ap (λ (q : Bool). (not b.args.isomorphisms || eqb b.args.m b.args.n) && q) c.is_embedding_law.ensures ∙ kind_test _ _ _ _ b.args.isomorphisms _
 
-pub is-map_spec : {M : Type 1} → statement M
-is-map_spec = tie.close (tie.spec is-embedding-requires returns)
+pub is_map_spec : {M : Type 1} → statement M
+is_map_spec = tie.close (tie.spec is-embedding-requires returns)

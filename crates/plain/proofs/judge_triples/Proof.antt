@@ -32,10 +32,10 @@ module _ (w : tie.After-write-list invariant-loop decreases-loop) where
   written = drawn _ _ _ _ _ w.before.before.before.loop.invariant.0 w.write-list.ensures
 
   triple : IsList 3 w.before.before.before.before.before.before.args.n w.write-list.last.0
-  triple = drawn_list _ _ _ _ _ w.before.before.before.loop.inv.0 w.write-list.ensures (below w.before.before)
+  triple = drawn_list _ _ _ _ _ w.before.before.before.loop.invariant.0 w.write-list.ensures (below w.before.before)
 
   entry_fits : (k : ℕ) → k < 3 → get_or w.write-list.last.0 k 0 ≤ 120
-  entry_fits k h = let e = entry_element _ _ _ triple k h in let o = w.before.before.before.before.before.before.pre.order in omega arith
+  entry_fits k h = let e = entry_element _ _ _ triple k h in let o = w.before.before.before.before.before.before.requires.order in omega arith
 
 number-of-lists-requires : tie.Need-number-of-lists-requires invariant-loop decreases-loop
 number-of-lists-requires c κs = (omega arith, c.before.requires.order.1)
@@ -100,8 +100,8 @@ returns-2 c =
     let total = h.before.number-of-lists.ensures in
     c.failed.ensures ∙ sym (h.loop.invariant.1 ∙ triples_end _ _ _ (omega arith))
 
-pub judge-triples_spec : {M : Type 1} → statement M
-judge-triples_spec =
+pub judge_triples_spec : {M : Type 1} → statement M
+judge_triples_spec =
     tie.close
     (tie.spec
     invariant-loop

@@ -17,7 +17,7 @@ write-list-requires c κs = let s = c.before in (s.requires.1.0, front_number _ 
 returns : tie.Need-returns
 returns c = front_written _ 9 c.before.before.before.requires.0 _ refl _ _ _ c.before.write-list.ensures
 
-pub list-number_spec : {M : Type 1} → statement M
-list-number_spec =
+pub list_number_spec : {M : Type 1} → statement M
+list_number_spec =
     tie.close
     (tie.spec array-borrow-prefix-list slice-aggregate-write-list write-list-requires returns)

@@ -30,7 +30,7 @@ module _ (c : tie.At-loop invariant-loop decreases-loop) where
 
   -- The map buffer has m bytes.
   whole : length c.loop.map ≡ start_of.args.m
-  whole = ap length c.loop.invariant.0 ∙ start_of.pre.1.1.1.1
+  whole = ap length c.loop.invariant.0 ∙ start_of.requires.1.1.1.1
 
 -- Number k is below the number of lists.
 below : (c : tie.In-loop invariant-loop decreases-loop) → c.before.loop.k < (start_of c.before).args.n ^ (start_of c.before).args.m
@@ -43,19 +43,19 @@ loop-holds : tie.Need-loop-init invariant-loop decreases-loop
 loop-holds c = (refl, earliest_later _ _ _ _ _ _ ∙ search_begin _ _ _)
 
 is-later-map-requires : tie.Need-is-later-map-requires invariant-loop decreases-loop
-is-later-map-requires c κs = let s = start_of c.before in (s.pre.0, (s.pre.1.0, (s.pre.1.1.0, (s.pre.1.1.1.0, below c))))
+is-later-map-requires c κs = let s = start_of c.before in (s.requires.0, (s.requires.1.0, (s.requires.1.1.0, (s.requires.1.1.1.0, below c))))
 
 write-list-requires : tie.Need-write-list-requires invariant-loop decreases-loop
 write-list-requires c κs =
     let inside = c.before.before.before in
     let s = start_of inside.before in
-    (s.pre.1.0.order, subst (λ (q : ℕ). inside.before.loop.k < s.args.n ^ q) (sym (whole inside.before)) (below inside))
+    (s.requires.1.0.order, subst (λ (q : ℕ). inside.before.loop.k < s.args.n ^ q) (sym (whole inside.before)) (below inside))
 
 same_length : tie.Need-same-length invariant-loop decreases-loop
 same_length c =
     let inside = c.before.before.before.before.before.before in
     let s = start_of inside.before in
-    (drawn_list _ _ _ _ _ (whole inside.before) c.before.before.write-list.ensures (below inside)).size ∙ sym s.pre.1.1.1.1
+    (drawn_list _ _ _ _ _ (whole inside.before) c.before.before.write-list.ensures (below inside)).size ∙ sym s.requires.1.1.1.1
 
 returns : tie.Need-returns invariant-loop decreases-loop
 returns c =
@@ -85,8 +85,8 @@ returns-2 c =
     let end = h.loop.invariant.1 ∙ search_end _ _ _ _ (omega arith) in
     (ap is_some (sym end), h.loop.invariant.0 ∙ ap (λ (o : Option (List ℕ)). get_or o (start_of h).args.map.now) (sym end))
 
-pub next-map_spec : {M : Type 1} → statement M
-next-map_spec =
+pub next_map_spec : {M : Type 1} → statement M
+next_map_spec =
     tie.close
     (tie.spec
     invariant-loop

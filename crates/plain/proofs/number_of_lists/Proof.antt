@@ -43,6 +43,6 @@ returns c =
     let e : c.before.loop.k ≡ c.before.before.args.m = omega arith in
     v.1 ∙ ap (λ (q : ℕ). c.before.before.args.n ^ q) e
 
-pub number-of-lists_spec : {M : Type 1} → statement M
-number-of-lists_spec =
+pub number_of_lists_spec : {M : Type 1} → statement M
+number_of_lists_spec =
     tie.close (tie.spec invariant-loop decreases-loop loop-holds mul-total add-k loop-less loop-again returns)

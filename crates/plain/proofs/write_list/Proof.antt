@@ -65,8 +65,8 @@ returns c =
     let w = c.before.loop.invariant in
     write_end _ _ _ c.before.before.requires.1 _ _ _ w (omega arith)
 
-pub write-list_spec : {M : Type 1} → statement M
-write-list_spec =
+pub write_list_spec : {M : Type 1} → statement M
+write_list_spec =
     tie.close
     (tie.spec
     invariant-loop

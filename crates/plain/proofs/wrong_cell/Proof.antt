@@ -52,8 +52,8 @@ loop-again c =
 returns-3 : tie.Need-returns-3 invariant-loop decreases-loop
 returns-3 c = sym (ap (λ o. get_or o 0) (c.before.loop.invariant.1 ∙ cell_end _ _ _ c.loop-test.false))
 
-pub wrong-cell_spec : {M : Type 1} → statement M
-wrong-cell_spec =
+pub wrong_cell_spec : {M : Type 1} → statement M
+wrong_cell_spec =
     tie.close
     (tie.spec
     invariant-loop

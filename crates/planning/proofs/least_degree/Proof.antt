@@ -73,8 +73,8 @@ returns-4 c =
     let room = p.before.before.before.before in
     answered _ _ _ (table_passes room.before) room.if1.false _ _ p.place.ensures.0 p.place.ensures.1.1
 
-pub least-degree_spec : {M : Type 1} → statement M
-least-degree_spec =
+pub least_degree_spec : {M : Type 1} → statement M
+least_degree_spec =
     tie.close
     (tie.spec
     check-requires

@@ -48,7 +48,7 @@ sub-k : tie.Need-overflow-sub-k invariant-loop2 decreases-loop2 invariant-loop d
 sub-k c = (row c).0
 
 shared-slice-read-k : tie.Need-shared-slice-read-k invariant-loop2 decreases-loop2 invariant-loop decreases-loop
-shared-slice-read-k c = let i = row c.before in let e = (start c.before).pre.1.1.0.size in omega arith
+shared-slice-read-k c = let i = row c.before in let e = (start c.before).requires.1.1.0.size in omega arith
 
 cast-k : tie.Need-overflow-cast-k invariant-loop2 decreases-loop2 invariant-loop decreases-loop
 cast-k c = omega (arith, c.shared-slice-known2.given (c.before.before.loop.i - 1))
@@ -59,13 +59,13 @@ loop2-holds c = row_begin _ _ _ _ _ _ _ c.before.before.loop.invariant c.before.
 landing-requires : tie.Need-landing-requires invariant-loop2 decreases-loop2 invariant-loop decreases-loop
 landing-requires c κs =
     let r = rows c in
-    let p = (start r).pre in
+    let p = (start r).requires in
     (p.1.0, (image_number _ _ _ p.1.1.0 _ (row r), column c))
 
 cast-positions : tie.Need-overflow-cast-positions invariant-loop2 decreases-loop2 invariant-loop decreases-loop
 cast-positions c =
     let r = rows c.before in
-    let p = (start r).pre in
+    let p = (start r).requires in
     let small = image_small _ _ _ p.1.1.0 _ _ _ (row r) (column c.before) c.landing.ensures p.1.0 in
     omega arith
 
@@ -74,7 +74,7 @@ slice-write-positions c =
     let l = c.before in
     let r = rows l in
     let enough = room (start r) in
-    let long = row_length _ _ _ _ _ _ _ r.before.loop.inv enough in
+    let long = row_length _ _ _ _ _ _ _ r.before.loop.invariant enough in
     let inside = place_inside _ _ _ _ _ _ _ _ l.before.loop2.invariant l.loop2-test.true in
     let same = cell_length _ _ _ _ _ _ _ _ l.before.loop2.invariant (omega arith) in
     omega arith
@@ -82,12 +82,12 @@ slice-write-positions c =
 add-place : tie.Need-overflow-add-place invariant-loop2 decreases-loop2 invariant-loop decreases-loop
 add-place c =
     let l = c.before in
-    let p = (start (rows l)).pre in
+    let p = (start (rows l)).requires in
     let small = place_small _ _ _ p.0 p.1.0 (place_inside _ _ _ _ _ _ _ _ l.before.loop2.invariant l.loop2-test.true) in
     omega arith
 
 add-x : tie.Need-overflow-add-x invariant-loop2 decreases-loop2 invariant-loop decreases-loop
-add-x c = let d = (start (rows c.before)).pre.1.0 in let t = c.before.loop2-test.true in omega arith
+add-x c = let d = (start (rows c.before)).requires.1.0 in let t = c.before.loop2-test.true in omega arith
 
 loop2-less : tie.Need-loop2-smaller invariant-loop2 decreases-loop2 invariant-loop decreases-loop
 loop2-less c = let t = c.before.loop2-test.true in omega arith
@@ -97,9 +97,9 @@ loop2-again c =
     let l = c.before in
     let r = rows l in
     let enough = room (start r) in
-    let long = row_length _ _ _ _ _ _ _ r.before.loop.inv enough in
+    let long = row_length _ _ _ _ _ _ _ r.before.loop.invariant enough in
     cell_next _ _ _ _ _ _ _ _ l.before.loop2.invariant (omega arith) _ l.loop2-test.true
-    (image_position _ _ _ (start r).pre.1.1.0 _ _ _ (row r) (column l) c.landing.ensures)
+    (image_position _ _ _ (start r).requires.1.1.0 _ _ _ (row r) (column l) c.landing.ensures)
 
 add-i : tie.Need-overflow-add-i invariant-loop2 decreases-loop2 invariant-loop decreases-loop
 add-i c = let r = c.before.before.before in let s = (start r).requires.0 in let t = r.loop-test.true in omega arith
@@ -116,8 +116,8 @@ same_length c = row_length _ _ _ _ _ _ _ c.before.loop.invariant (room c.before.
 returns : tie.Need-returns invariant-loop2 decreases-loop2 invariant-loop decreases-loop
 returns c = grid_end _ _ _ _ _ _ _ c.before.loop.invariant c.loop-test.false ∙ landings_written _ _ _ _
 
-pub write-positions_spec : {M : Type 1} → statement M
-write-positions_spec =
+pub write_positions_spec : {M : Type 1} → statement M
+write_positions_spec =
     tie.close
     (tie.spec
     invariant-loop2

@@ -15,25 +15,25 @@ place_small c =
     let z = f.size in
     omega (arith, place_in _ _ f _ _ p.1.0 p.1.1, square_small _ o.1)
 
-sub-result : tie.Need-overflow-sub-result
-sub-result c = search rules
+overflow_sub-result : tie.Need-overflow_sub-result
+overflow_sub-result c = search rules
 
-mul-result : tie.Need-overflow-mul-result
-mul-result c = omega (arith, place_small c)
+overflow_mul-result : tie.Need-overflow_mul-result
+overflow_mul-result c = omega (arith, place_small c)
 
-sub-result-2 : tie.Need-overflow-sub-result-2
-sub-result-2 c = search rules
+overflow_sub-result-2 : tie.Need-overflow_sub-result-2
+overflow_sub-result-2 c = search rules
 
-add-result : tie.Need-overflow-add-result
-add-result c = omega (arith, place_small c)
+overflow_add-result : tie.Need-overflow_add-result
+overflow_add-result c = omega (arith, place_small c)
 
-shared-slice-read-result : tie.Need-shared-slice-read-result
-shared-slice-read-result c =
+bounds-cells-i : tie.Need-bounds-cells-i
+bounds-cells-i c =
     let p = c.before.requires in
     place_in _ _ p.0 _ _ p.1.0 p.1.1
 
-cast-result : tie.Need-overflow-cast-result
-cast-result c =
+overflow_cast-result : tie.Need-overflow_cast-result
+overflow_cast-result c =
     let p = c.before.requires in
     let e = found_element _ _ p.0 _ _ p.1.0 p.1.1 in
     let o = p.0.order in
@@ -48,10 +48,10 @@ pub times_spec : {M : Type 1} → statement M
 times_spec =
     tie.close
     (tie.spec
-    sub-result
-    mul-result
-    sub-result-2
-    add-result
-    shared-slice-read-result
-    cast-result
+    overflow_sub-result
+    overflow_mul-result
+    overflow_sub-result-2
+    overflow_add-result
+    bounds-cells-i
+    overflow_cast-result
     returns)

@@ -8,5 +8,5 @@ use Rattle.progress.proofs.file_name.Tie as tie
 returns : tie.Need-returns
 returns c = unfold file_name in refl
 
-pub file-name_spec : {M : Type 1} → statement M
-file-name_spec = tie.close (tie.spec (λ c. search rules) (λ c. search rules) (λ c. search rules) (λ c. search rules) returns)
+pub file_name_spec : {M : Type 1} → statement M
+file_name_spec = tie.close (tie.spec (λ c. search rules) (λ c. search rules) (λ c. search rules) (λ c. search rules) returns)

@@ -47,7 +47,7 @@ returns c =
     let end : l.c ≡ a.m + 1 = omega arith in
     (i.1, (i.2, subst (λ (k : ℕ). ForcedBefore (product a.m a.source.now) a.n (product a.n a.target.now) a.l a.x a.rows.now k l.rows) end i.3))
 
-pub force-all_spec : {M : Type 1} → statement M
-force-all_spec =
+pub force_all_spec : {M : Type 1} → statement M
+force_all_spec =
     tie.close
     (tie.spec invariant-loop decreases-loop loop-holds force-with-requires add-c loop-less loop-again returns)

@@ -28,5 +28,5 @@ returns c =
     subst (λ (v : ℕ). Forced (product a.m a.source.now a.a a.b) v a.rows.now l.1.1.1.1.0)
     (ap₂ (product a.n a.target.now) c.before.before.before.image-of.ensures c.before.before.image-of2.ensures) c.force-product.ensures
 
-pub force-pair_spec : {M : Type 1} → statement M
-force-pair_spec = tie.close (tie.spec image-of-requires image-of-requires-2 force-product-requires returns)
+pub force_pair_spec : {M : Type 1} → statement M
+force_pair_spec = tie.close (tie.spec image-of-requires image-of-requires-2 force-product-requires returns)

@@ -107,8 +107,8 @@ returns c =
     let end : l.j ≡ a.len + 1 = omega arith in
     (i.2, ((λ k hk. i.3 k (omega arith)), (i.4, subst (λ (k : ℕ). MultipliedBefore (product a.m a.source.now) (product a.n a.target.now) a.image.now a.len a.rows.now k l.rows) end i.5)))
 
-pub force-products_spec : {M : Type 1} → statement M
-force-products_spec =
+pub force_products_spec : {M : Type 1} → statement M
+force_products_spec =
     tie.close
     (tie.spec
     invariant-loop

@@ -20,7 +20,7 @@ module _ (k : tie.After-lone) where
   start = k.before.before.before.before.before
 
   alone_is : (y : ℕ) → Element start.args.n y → row_of start.args.rows.now start.args.c ≡ single_row y → k.lone.result ≡ y
-  alone_is y hy e = let o = start.pre.0.1.order in k.lone.ensures.found y (omega arith) (k.before.row_of_law.ensures ∙ e)
+  alone_is y hy e = let o = start.requires.0.1.order in k.lone.ensures.found y (omega arith) (k.before.row_of_law.ensures ∙ e)
 
 row-of-requires : tie.Need-row-of-requires
 row-of-requires c κs = search rules
@@ -112,8 +112,8 @@ returns-3 c =
       ),
     )
 
-pub force-with_spec : {M : Type 1} → statement M
-force-with_spec =
+pub force_with_spec : {M : Type 1} → statement M
+force_with_spec =
     tie.close
     (tie.spec
     row-of-requires

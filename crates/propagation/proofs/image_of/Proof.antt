@@ -17,5 +17,5 @@ returns : tie.Need-returns
 unfolding at
 returns c = c.wide.ensures
 
-pub image-of_spec : {M : Type 1} → statement M
-image-of_spec = tie.close (tie.spec sub_wide element-copy-out-wide wide-requires returns)
+pub image_of_spec : {M : Type 1} → statement M
+image_of_spec = tie.close (tie.spec sub_wide element-copy-out-wide wide-requires returns)

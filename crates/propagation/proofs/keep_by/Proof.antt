@@ -22,5 +22,5 @@ keep-staying-requires c κs = search rules
 returns-2 : tie.Need-returns-2
 returns-2 c = search rules
 
-pub keep-by_spec : {M : Type 1} → statement M
-keep-by_spec = tie.close (tie.spec decides-requires returns keep-staying-requires returns-2)
+pub keep_by_spec : {M : Type 1} → statement M
+keep_by_spec = tie.close (tie.spec decides-requires returns keep-staying-requires returns-2)

@@ -41,8 +41,8 @@ returns c =
     (c.before.narrow-word.ensures ∙ low_staying t a.x a.looks a.left a.right a.old k.result (omega arith) ∙ ap (word after 1) k0)
     (c.narrow-word2.ensures ∙ high_staying t a.x a.looks a.left a.right a.old (a.n - k.result) ∙ ap (word after 61) k1.2)
 
-pub keep-staying_spec : {M : Type 1} → statement M
-keep-staying_spec =
+pub keep_staying_spec : {M : Type 1} → statement M
+keep_staying_spec =
     tie.close
     (tie.spec
     low-count-requires

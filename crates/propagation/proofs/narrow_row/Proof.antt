@@ -62,8 +62,8 @@ returns c =
     ∙ ap (narrowing_of (pattern a.l a.c (s a.l a.c) (s a.c a.l)) (row_of rows (s a.l a.c)) (row_of rows (s a.c a.l)) (row_of rows a.c))
     (narrowed_staying s a.n t rows a.l a.x a.c)
 
-pub narrow-row_spec : {M : Type 1} → statement M
-narrow-row_spec =
+pub narrow_row_spec : {M : Type 1} → statement M
+narrow_row_spec =
     tie.close
     (tie.spec
     times-requires

@@ -33,7 +33,7 @@ module _ (t : tie.In-loop invariant-loop decreases-loop) where
 
   -- The word as it is at the lowest bit that is left.
   so_far : t.before.loop.w ≡ word (kept start.args.old start.args.from test) start.args.from place
-  so_far = t.before.loop.inv.2 ∙ jump start.args.old start.args.from test t.before.loop.k t.before.loop.rest t.before.loop.inv.1 place (omega arith) (omega arith)
+  so_far = t.before.loop.invariant.2 ∙ jump start.args.old start.args.from test t.before.loop.k t.before.loop.rest t.before.loop.invariant.1 place (omega arith) (omega arith)
 
 -- What is known after the test.
 module _ (e : tie.After-stays invariant-loop decreases-loop) where
@@ -44,13 +44,13 @@ module _ (e : tie.After-stays invariant-loop decreases-loop) where
   passes =
       let l = turn.before.loop in
       let a = (start turn).args in
-      let h = turn.loop-test.taken in
-      let i = l.inv.1 in
+      let h = turn.loop-test.true in
+      let i = l.invariant.1 in
       let f = (start turn).fits.old in
       hit a.old a.from (test turn) l.k l.rest i (omega arith) (omega (arith, shr_le a.old l.k)) ∙ sym e.stays.ensures
 
   below : place turn < 60
-  below = let p = (start turn).pre.1 in let b = e.before.if1.left in omega arith
+  below = let p = (start turn).requires.1 in let b = e.before.if1.left in omega arith
 
   more : e.stays.result ≡ true → turn.before.loop.w + 1 * 2 ^ place turn % 2 ^ 64 ≡ word (kept (start turn).args.old (start turn).args.from (test turn)) (start turn).args.from (place turn + 1)
   more h =
@@ -75,18 +75,18 @@ returns c =
     t.before.loop.invariant.2 ∙ jump a.old a.from (test t) t.before.loop.k t.before.loop.rest t.before.loop.invariant.1 a.count t.before.loop.invariant.0 c.if1.true
 
 add-stays : tie.Need-overflow-add-stays invariant-loop decreases-loop
-add-stays c = let p = (start c.before).pre.1 in let b = c.if1.false in omega arith
+add-stays c = let p = (start c.before).requires.1 in let b = c.if1.false in omega arith
 
 stays-requires : tie.Need-stays-requires invariant-loop decreases-loop
 stays-requires c κs =
     let s = start c.before in
-    let p = s.pre.1 in
+    let p = s.requires.1 in
     let b = c.if1.false in
     let e : s.args.from + s.args.count ≤ s.args.n + 1 = p.3 (omega arith) in
-    (s.pre.0.0, (s.pre.0.1, (omega arith, omega arith)))
+    (s.requires.0.0, (s.requires.0.1, (omega arith, omega arith)))
 
 shl-w : tie.Need-overflow-shl-w invariant-loop decreases-loop
-shl-w c = let p = (start c.before.before.before).pre.1 in let b = c.before.before.if1.false in omega arith
+shl-w c = let p = (start c.before.before.before).requires.1 in let b = c.before.before.if1.false in omega arith
 
 add-w : tie.Need-overflow-add-w invariant-loop decreases-loop
 add-w c =
@@ -99,10 +99,10 @@ add-w c =
     omega arith
 
 shr-rest : tie.Need-overflow-shr-rest invariant-loop decreases-loop
-shr-rest c = let p = (start c.before.before.before).pre.1 in let b = c.before.before.if1.false in omega arith
+shr-rest c = let p = (start c.before.before.before).requires.1 in let b = c.before.before.if1.false in omega arith
 
 add-k-2 : tie.Need-overflow-add-k-2 invariant-loop decreases-loop
-add-k-2 c = let p = (start c.before.before.before).pre.1 in let b = c.before.before.if1.false in omega arith
+add-k-2 c = let p = (start c.before.before.before).requires.1 in let b = c.before.before.if1.false in omega arith
 
 loop-less : tie.Need-loop-smaller invariant-loop decreases-loop
 loop-less c = let b = c.before.before.if1.false in omega arith
@@ -114,8 +114,8 @@ loop-again c =
     let a = (start (turn e)).args in
     let b = e.before.if1.false in (
       omega arith,
-      following a.old a.from (test (turn e)) l.k l.rest l.inv.1 (count_trailing_zeros 64 l.rest),
-      ⊎_elim (λ h. h.1 ∙ more e h.0.taken) (λ h. h.1 ∙ word_as_was (kept a.old a.from (test (turn e))) a.from (place (turn e)) l.w (so_far (turn e)) (passes e ∙ h.0.left)) c.if2.branch,
+      following a.old a.from (test (turn e)) l.k l.rest l.invariant.1 (count_trailing_zeros 64 l.rest),
+      ⊎_elim (λ h. h.1 ∙ more e h.0.true) (λ h. h.1 ∙ word_as_was (kept a.old a.from (test (turn e))) a.from (place (turn e)) l.w (so_far (turn e)) (passes e ∙ h.0.left)) c.if2.branch,
     )
 
 returns-2 : tie.Need-returns-2 invariant-loop decreases-loop
@@ -124,8 +124,8 @@ returns-2 c =
     let a = s.args in
     c.before.loop.invariant.2 ∙ done a.old a.from (stays (product a.n a.target.now) a.x a.looks a.left a.right) c.before.loop.k c.before.loop.rest c.before.loop.invariant.1 c.loop-test.false a.count c.before.loop.invariant.0
 
-pub narrow-word_spec : {M : Type 1} → statement M
-narrow-word_spec =
+pub narrow_word_spec : {M : Type 1} → statement M
+narrow_word_spec =
     tie.close
     (tie.spec
     invariant-loop

@@ -59,8 +59,8 @@ returns-2 c =
       before = λ d hd h z o. l.invariant.2 d hd (omega arith) z o;
     }
 
-pub next-lone_spec : {M : Type 1} → statement M
-next-lone_spec =
+pub next_lone_spec : {M : Type 1} → statement M
+next_lone_spec =
     tie.close
     (tie.spec
     invariant-loop

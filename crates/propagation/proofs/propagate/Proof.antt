@@ -57,7 +57,7 @@ propagate-from-requires c κs =
     let z = start t in
     let a = z.args in
     let l = (at-loop t).loop in
-    (z.pre, next_element a.m (product a.m a.source.now) a.n (product a.n a.target.now) (closed z) z.pre.0.order.1 a.rows.now l.rows l.used l.l l.inv t.loop-test.true)
+    (z.pre, next_element a.m (product a.m a.source.now) a.n (product a.n a.target.now) (closed z) z.requires.0.order.1 a.rows.now l.rows l.used l.l l.invariant t.loop-test.true)
 
 returns : tie.Need-returns invariant-loop decreases-loop
 returns c =
@@ -69,12 +69,12 @@ returns c =
     let l = (at-loop t).loop in
     let w = c.before.propagate-from in
     let new = w.new.1.1.1.1 in (
-      (λ f F h. absurd (clash {b = w.result} (w.ensures.0 f F (l.inv.keeps f F h)).0 (not-true w.result c.if1.true))),
+      (λ f F h. absurd (clash {b = w.result} (w.ensures.0 f F (l.invariant.keeps f F h)).0 (not-true w.result c.if1.true))),
       (
-        shrinks_more l.rows new.0 a.rows.now l.inv.shrinks w.ensures.1.0,
+        shrinks_more l.rows new.0 a.rows.now l.invariant.shrinks w.ensures.1.0,
         (
           (λ e. absurd (false≢true e)),
-          told_no a.m s a.n t' (closed z) z.pre.0.order.1 a.rows.now l.rows l.used l.l l.inv t.loop-test.true
+          told_no a.m s a.n t' (closed z) z.requires.0.order.1 a.rows.now l.rows l.used l.l l.invariant t.loop-test.true
               new.0 w.ensures.1.0 (subst (λ (ok : Bool). KeptOrEmptiedFrom a.m s a.n t' l.l l.rows ok new.0) (not-true w.result c.if1.true) w.ensures.1.1.1),
         ),
       ),
@@ -89,7 +89,7 @@ loop-less c =
     let z = start t in
     let a = z.args in
     let l = (at-loop t).loop in
-    omega (arith, fewer a.m (product a.m a.source.now) a.n (product a.n a.target.now) (closed z) z.pre.0.order.1 a.rows.now l.rows l.used l.l l.inv t.loop-test.true)
+    omega (arith, fewer a.m (product a.m a.source.now) a.n (product a.n a.target.now) (closed z) z.requires.0.order.1 a.rows.now l.rows l.used l.l l.invariant t.loop-test.true)
 
 loop-again : tie.Need-loop-preserved invariant-loop decreases-loop
 loop-again c =
@@ -100,7 +100,7 @@ loop-again c =
     let w = c.before.before.before.before.propagate-from in
     let new = w.new.1.1.1.1 in
     let ok = not-false w.result c.before.before.before.if1.false in
-    propagating_more a.m (product a.m a.source.now) a.n (product a.n a.target.now) (closed z) z.pre.0.order.1 a.rows.now l.rows l.used l.l l.inv t.loop-test.true
+    propagating_more a.m (product a.m a.source.now) a.n (product a.n a.target.now) (closed z) z.requires.0.order.1 a.rows.now l.rows l.used l.l l.invariant t.loop-test.true
     new.0 c.next-lone2.result (λ f F h. (refl, (w.ensures.0 f F h).1)) w.ensures.1.0 (w.ensures.1.1.0 ok)
     (subst (λ (b : Bool). KeptOrEmptiedFrom a.m (product a.m a.source.now) a.n (product a.n a.target.now) l.l l.rows b new.0) ok w.ensures.1.1.1) c.next-lone2.ensures
 

@@ -33,7 +33,7 @@ module _ (k : tie.After-lone) where
   Holds x = row_of start.args.rows.now start.args.l ≡ single_row x
 
   found : (x : ℕ) → Element start.args.n x → Holds x → k.lone.result ≡ x
-  found x hx e = let o = start.pre.0.1.order in k.lone.ensures.found x (omega arith) (k.before.row_of_law.ensures ∙ e)
+  found x hx e = let o = start.requires.0.1.order in k.lone.ensures.found x (omega arith) (k.before.row_of_law.ensures ∙ e)
 
 row-of-requires : tie.Need-row-of-requires
 row-of-requires c κs = search rules
@@ -92,10 +92,10 @@ module _ (k : tie.After-force-all) where
   kept : let a = begin.args in (f : List ℕ) → Embedding a.m s a.n t f → Among a.m (has rows) f → (at f a.l ≡ image) × Among a.m (has forced) f
   kept f F h =
       let a = begin.args in
-      let so = begin.pre.0.0.order in
-      let to = begin.pre.0.1.order in
+      let so = begin.requires.0.0.order in
+      let to = begin.requires.0.1.order in
       let hx = image_element in
-      let e = lone_image a.m s a.n t f F so.1 to.1 rows h a.l image begin.pre.1 (omega arith) row in
+      let e = lone_image a.m s a.n t f F so.1 to.1 rows h a.l image begin.requires.1 (omega arith) row in
       (e, k.force-all.ensures.0 f F e h)
 
   told : let a = begin.args in (ok : Bool) (newRows : List ℕ) → NarrowedWithRoom a.m s a.n t a.l image forced ok newRows → KeptOrEmptiedFrom a.m s a.n t a.l rows ok newRows
@@ -156,8 +156,8 @@ returns-4 c =
       ),
     )
 
-pub propagate-from_spec : {M : Type 1} → statement M
-propagate-from_spec =
+pub propagate_from_spec : {M : Type 1} → statement M
+propagate_from_spec =
     tie.close
     (tie.spec
     row-of-requires

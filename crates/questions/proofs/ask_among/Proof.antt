@@ -54,8 +54,8 @@ returns-3 c =
     let enough = c.if1.false in
     sym (pairs_passed a.m a.source.now a.n a.target.now a.images a.marks a.room (passed k) (omega arith))
 
-pub ask-among_spec : {M : Type 1} → statement M
-ask-among_spec =
+pub ask_among_spec : {M : Type 1} → statement M
+ask_among_spec =
     tie.close
     (tie.spec
     ask-requires

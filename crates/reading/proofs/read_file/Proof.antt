@@ -13,14 +13,14 @@ use Rattle.reading.proofs.read_file.Tie as tie
 told : (held fd : ℤ) (b : Bool) → held ≡ fd → lt_z held (pos 0) ≡ b → not b ≡ is_open fd
 told held fd b e h = ap not (sym h) ∙ ap (λ (x : ℤ). not (lt_z x (pos 0))) e
 
-returns : tie.Need-returns
-returns c = let z = c.before.before in (told _ z.args.fd true (to_z-of_z z.ranges.fd) c.if1.true, (search rules, (search rules, λ e. (refl, refl))))
+returns-then-fd-lt0 : tie.Need-returns-then-fd-lt0
+returns-then-fd-lt0 c = let z = c in (told _ z.args.fd true (to_z-of_z z.ranges.fd) c.if-fd-lt0.true, (search rules, (search rules, λ e. (refl, refl))))
 
-returns-2 : tie.Need-returns-2
-returns-2 c =
-    let z = c.before.before.before.before.before.before.before in
-    let opened = told _ z.args.fd false (to_z-of_z z.ranges.fd) c.before.before.before.before.before.if1.false in
+returns : tie.Need-returns
+returns c =
+    let z = c in
+    let opened = told _ z.args.fd false (to_z-of_z z.ranges.fd) c.if-fd-lt0.false in
     (opened, (search rules, (search rules, λ e. absurd (false≢true (sym (opened ∙ e))))))
 
-pub read-file_spec : {M : Type 1} → statement M
-read-file_spec = tie.close (tie.spec returns (λ c κs. search rules) (λ c κs. search rules) (λ c. search rules) returns-2)
+pub read_file_spec : {M : Type 1} → statement M
+read_file_spec = tie.close (tie.spec returns-then-fd-lt0 (λ c κs. search rules) (λ c κs. search rules) (λ c. search rules) returns)

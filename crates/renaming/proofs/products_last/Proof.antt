@@ -95,8 +95,8 @@ loop2-again c =
 returns : tie.Need-returns invariant-loop decreases-loop invariant-loop2 decreases-loop2
 returns c = let l = c.before in cells_added _ _ l.before.before.before.before.before.requires _ c.loop2-test.false l.loop2.invariant.1
 
-pub products-last_spec : {M : Type 1} → statement M
-products-last_spec =
+pub products_last_spec : {M : Type 1} → statement M
+products_last_spec =
     tie.close
     (tie.spec
     invariant-loop

@@ -27,7 +27,7 @@ module _ (c : tie.After-slice-known2 invariant-loop decreases-loop) where
   cells_of = start_of.args.cells.now
 
   one : 1 ≤ start_of.args.n
-  one = let e = start_of.pre.1.0 in omega arith
+  one = let e = start_of.requires.1.0 in omega arith
 
   begun : Writing start_of.args.text.now start_of.args.start (line_text (row_fields start_of.args.n cells_of start_of.args.i))
       (fields_left start_of.args.n cells_of start_of.args.i 2) c.before.before.put-number.new.0 c.before.before.put-number.result
@@ -36,7 +36,7 @@ module _ (c : tie.After-slice-known2 invariant-loop decreases-loop) where
 -- The fields from j on are left to write, and there is room for them.
 room : (c : tie.At-loop invariant-loop decreases-loop)
     → let s = start_of c.before in c.loop.at + length (fields_left s.args.n s.args.cells.now s.args.i c.loop.j) ≤ length c.loop.text
-room c = write_room c.loop.invariant.0 (write_room (begun c.before) (start_of c.before).pre.1.1)
+room c = write_room c.loop.invariant.0 (write_room (begun c.before) (start_of c.before).requires.1.1)
 
 -- The line break is left to write, and there is room for it.
 ending : (c : tie.After-loop invariant-loop decreases-loop) → c.before.loop.at + 2 ≤ length c.before.loop.text
@@ -63,22 +63,22 @@ loop-holds c =
 times-requires-2 : tie.Need-times-requires-2 invariant-loop decreases-loop
 times-requires-2 c κs =
     let s = start_of c.before.before.before in
-    let row = s.pre.1.0 in
+    let row = s.requires.1.0 in
     let column = c.before.before.loop.invariant.1 in
     let last = c.before.loop-test.true in
-    (s.pre.0, (omega arith, omega arith))
+    (s.requires.0, (omega arith, omega arith))
 
 put-field-requires : tie.Need-put-field-requires invariant-loop decreases-loop
 put-field-requires c κs =
     let l = c.before.before.before in
     let s = start_of l.before in
-    let small = s.pre.0.order in
+    let small = s.requires.0.order in
     let r = c.times2.ensures.1 in
     (omega arith, room_next _ _ _ _ _ _ _ c.times2.ensures.0 c.before.before.loop-test.true (room l))
 
 add-j : tie.Need-overflow-add-j invariant-loop decreases-loop
 add-j c =
-    let small = (start_of c.before.before.before.before.before.before.before).pre.0.order in
+    let small = (start_of c.before.before.before.before.before.before.before).requires.0.order in
     omega arith
 
 loop-less : tie.Need-loop-smaller invariant-loop decreases-loop
@@ -105,8 +105,8 @@ returns c =
     let put = c.before.before.put-break.ensures in
     row_done _ _ _ _ l.loop-test.false (begun l.before.before) l.before.loop.invariant.0 put.1 put.0
 
-pub put-row_spec : {M : Type 1} → statement M
-put-row_spec =
+pub put_row_spec : {M : Type 1} → statement M
+put_row_spec =
     tie.close
     (tie.spec
     invariant-loop

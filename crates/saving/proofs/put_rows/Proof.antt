@@ -47,8 +47,8 @@ returns c =
     let s = c.before.before.before.before in
     rows_done _ _ _ c.loop-test.false s.requires.1 c.before.loop.invariant.0
 
-pub put-rows_spec : {M : Type 1} → statement M
-put-rows_spec =
+pub put_rows_spec : {M : Type 1} → statement M
+put_rows_spec =
     tie.close
     (tie.spec
     invariant-loop

@@ -65,8 +65,8 @@ returns c =
     let i = l.loop.invariant.0 in
     omega (arith, widths_end s.args.cells.now l.loop.place c.loop-test.false)
 
-pub text-length_spec : {M : Type 1} → statement M
-text-length_spec =
+pub text_length_spec : {M : Type 1} → statement M
+text_length_spec =
     tie.close
     (tie.spec
     invariant-loop

@@ -16,5 +16,5 @@ returns-3 c = rw c.before.enum_told.given.1 (number_other _ c.if1.false)
 returns-4 : tie.Need-returns-4
 returns-4 c = rw c.before.enum-told2.given.1 (name_other _ c.if2.false)
 
-pub after-field_spec : {M : Type 1} → statement M
-after-field_spec = tie.close (tie.spec (λ c. search rules) returns (λ c. search rules) returns-2 returns-3 returns-4)
+pub after_field_spec : {M : Type 1} → statement M
+after_field_spec = tie.close (tie.spec (λ c. search rules) returns (λ c. search rules) returns-2 returns-3 returns-4)

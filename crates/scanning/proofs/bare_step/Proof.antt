@@ -11,5 +11,5 @@ returns c = bare_data _ _ (sym c.before.is-text-data.ensures ∙ c.if1.true)
 returns-2 : tie.Need-returns-2
 returns-2 c = c.after-field.ensures ∙ bare_other _ _ (sym c.before.before.is-text-data.ensures ∙ c.before.if1.false)
 
-pub bare-step_spec : {M : Type 1} → statement M
-bare-step_spec = tie.close (tie.spec (λ c κs. search rules) returns (λ c κs. search rules) returns-2)
+pub bare_step_spec : {M : Type 1} → statement M
+bare_step_spec = tie.close (tie.spec (λ c κs. search rules) returns (λ c κs. search rules) returns-2)

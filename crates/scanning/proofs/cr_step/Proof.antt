@@ -9,5 +9,5 @@ returns c = cr_lf _ c.if1.true
 returns-2 : tie.Need-returns-2
 returns-2 c = cr_other _ c.if1.false
 
-pub cr-step_spec : {M : Type 1} → statement M
-cr-step_spec = tie.close (tie.spec returns returns-2)
+pub cr_step_spec : {M : Type 1} → statement M
+cr_step_spec = tie.close (tie.spec returns returns-2)

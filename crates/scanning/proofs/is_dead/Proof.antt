@@ -34,8 +34,8 @@ returns-7 : tie.Need-returns-7
 unfolding is_dead
 returns-7 c = rw c.enum-told7.given.1 refl
 
-pub is-dead_spec : {M : Type 1} → statement M
-is-dead_spec =
+pub is_dead_spec : {M : Type 1} → statement M
+is_dead_spec =
     tie.close
     (tie.spec (λ c. search rules) (λ c. search rules) (λ c. search rules) (λ c. search rules) (λ c. search rules)
     (λ c. search rules) (λ c. search rules) returns returns-2 returns-3 returns-4 returns-5 returns-6 returns-7)

@@ -14,5 +14,5 @@ returns-2 : tie.Need-returns-2
 unfolding accepting
 returns-2 c = rw c.enum-told2.given.1 refl
 
-pub is-name-part_spec : {M : Type 1} → statement M
-is-name-part_spec = tie.close (tie.spec (λ c. search rules) (λ c. search rules) returns returns-2)
+pub is_name_part_spec : {M : Type 1} → statement M
+is_name_part_spec = tie.close (tie.spec (λ c. search rules) (λ c. search rules) returns returns-2)

@@ -14,5 +14,5 @@ returns-2 c = printable_low _ c.if1.true
 returns-3 : tie.Need-returns-3
 returns-3 c = printable_high _ c.if2.false
 
-pub is-printable_spec : {M : Type 1} → statement M
-is-printable_spec = tie.close (tie.spec returns returns-2 returns-3)
+pub is_printable_spec : {M : Type 1} → statement M
+is_printable_spec = tie.close (tie.spec returns returns-2 returns-3)

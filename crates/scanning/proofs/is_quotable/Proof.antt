@@ -21,5 +21,5 @@ returns-3 c = quotable_quote _ c.match.keys3
 returns-4 : tie.Need-returns-4
 returns-4 c = c.is-printable.ensures ∙ quotable_other _ c.before.match.rest.0.0.1 c.before.match.rest.0.1 c.before.match.rest.1
 
-pub is-quotable_spec : {M : Type 1} → statement M
-is-quotable_spec = tie.close (tie.spec is-printable-requires returns returns-2 returns-3 returns-4)
+pub is_quotable_spec : {M : Type 1} → statement M
+is_quotable_spec = tie.close (tie.spec is-printable-requires returns returns-2 returns-3 returns-4)

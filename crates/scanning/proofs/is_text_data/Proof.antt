@@ -18,5 +18,5 @@ returns-2 c = data_comma _ c.match.keys2
 returns-3 : tie.Need-returns-3
 returns-3 c = c.is-printable.ensures ∙ data_other _ c.before.match.rest.0.1 c.before.match.rest.1
 
-pub is-text-data_spec : {M : Type 1} → statement M
-is-text-data_spec = tie.close (tie.spec is-printable-requires returns returns-2 returns-3)
+pub is_text_data_spec : {M : Type 1} → statement M
+is_text_data_spec = tie.close (tie.spec is-printable-requires returns returns-2 returns-3)

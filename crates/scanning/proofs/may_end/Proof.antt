@@ -37,8 +37,8 @@ returns-7 : tie.Need-returns-7
 unfolding accepting
 returns-7 c = rw c.enum-told4.given.1 refl
 
-pub may-end_spec : {M : Type 1} → statement M
-may-end_spec =
+pub may_end_spec : {M : Type 1} → statement M
+may_end_spec =
     tie.close
     (tie.spec (λ c. search rules) (λ c κs. search rules) (λ c. search rules) (λ c κs. search rules) (λ c. search rules)
     (λ c. search rules) (λ c κs. search rules) (λ c. search rules) (λ c. search rules) (λ c. search rules) returns returns-2

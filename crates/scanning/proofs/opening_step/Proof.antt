@@ -15,5 +15,5 @@ bare-step-requires c κs = search rules
 returns-2 : tie.Need-returns-2
 returns-2 c = c.bare_step.ensures ∙ opening_other _ _ c.before.if1.false
 
-pub opening-step_spec : {M : Type 1} → statement M
-opening-step_spec = tie.close (tie.spec returns bare-step-requires returns-2)
+pub opening_step_spec : {M : Type 1} → statement M
+opening_step_spec = tie.close (tie.spec returns bare-step-requires returns-2)

@@ -18,5 +18,5 @@ returns-2 c = quoted_byte _ _ c.before.before.if1.false (sym c.before.is-quotabl
 returns-3 : tie.Need-returns-3
 returns-3 c = quoted_dead _ _ c.before.before.if1.false (sym c.before.is-quotable.ensures ∙ c.if2.false)
 
-pub quoted-step_spec : {M : Type 1} → statement M
-quoted-step_spec = tie.close (tie.spec returns is-quotable-requires returns-2 returns-3)
+pub quoted_step_spec : {M : Type 1} → statement M
+quoted_step_spec = tie.close (tie.spec returns is-quotable-requires returns-2 returns-3)

@@ -14,5 +14,5 @@ after-field-requires c κs = search rules
 returns-2 : tie.Need-returns-2
 returns-2 c = c.after-field.ensures ∙ shut_other _ _ c.before.if1.false
 
-pub shut-step_spec : {M : Type 1} → statement M
-shut-step_spec = tie.close (tie.spec returns after-field-requires returns-2)
+pub shut_step_spec : {M : Type 1} → statement M
+shut_step_spec = tie.close (tie.spec returns after-field-requires returns-2)

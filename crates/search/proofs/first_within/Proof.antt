@@ -76,8 +76,8 @@ returns-4 c =
     let s = w.before.before.before.before.before.before.before.before.before.before in
     as_limited (kind_of s.args.kind) s.args.limit (lent s) (passed w.before.before.before) w.search-kind.result w.search-kind.ensures false false c.before.before.if1.false c.if2.false
 
-pub first-within_spec : {M : Type 1} → statement M
-first-within_spec =
+pub first_within_spec : {M : Type 1} → statement M
+first_within_spec =
     tie.close
     (tie.spec
     ask-requires

@@ -63,8 +63,8 @@ returns-3 c =
     let p = f.before.before.before in
     passing_among _ (start p).args.pairs.now (lent (start p)) (passed p) f.find-among.result _ (not-false f.find-among.result c.if1.false) f.find-among.ensures
 
-pub search-among_spec : {M : Type 1} → statement M
-search-among_spec =
+pub search_among_spec : {M : Type 1} → statement M
+search_among_spec =
     tie.close
     (tie.spec
     ask-among-requires

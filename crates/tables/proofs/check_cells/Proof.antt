@@ -42,8 +42,8 @@ returns-5 c =
     let h = r.before in
     sym (right_size _ _ h.before.before.if1.false h.before.if2.false h.if3.false _ (sym r.outside.ensures ∙ ap place_option c.enum_told.given.1))
 
-pub check-cells_spec : {M : Type 1} → statement M
-check-cells_spec =
+pub check_cells_spec : {M : Type 1} → statement M
+check_cells_spec =
     tie.close
     (tie.spec
     returns

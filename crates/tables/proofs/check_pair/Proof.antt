@@ -45,8 +45,8 @@ returns-3 c =
     let a = e.before.before in
     sym (both_pass _ _ _ _ (sym a.check.ensures ∙ ap verdict_refusal e.enum_told.given.1) (sym b.check2.ensures ∙ ap verdict_refusal c.enum-told2.given.1))
 
-pub check-pair_spec : {M : Type 1} → statement M
-check-pair_spec =
+pub check_pair_spec : {M : Type 1} → statement M
+check_pair_spec =
     tie.close
     (tie.spec
     check-requires

@@ -51,8 +51,8 @@ loop-again c =
 returns-3 : tie.Need-returns-3 invariant-loop decreases-loop
 returns-3 c = sym (c.before.loop.invariant.1 ∙ cell_end _ _ _ c.loop-test.false)
 
-pub first-outside_spec : {M : Type 1} → statement M
-first-outside_spec =
+pub first_outside_spec : {M : Type 1} → statement M
+first_outside_spec =
     tie.close
     (tie.spec
     invariant-loop

@@ -28,5 +28,5 @@ returns-2 c = sym (below_digit (get_or c.before.before.before.args.text.now c.be
 returns-3 : tie.Need-returns-3
 returns-3 c = not_below (get_or c.before.before.before.args.text.now c.before.before.before.args.at 0) c.if2.false
 
-pub digit-stands_spec : {M : Type 1} → statement M
-digit-stands_spec = tie.close (tie.spec returns shared-slice-read-b returns-2 returns-3)
+pub digit_stands_spec : {M : Type 1} → statement M
+digit_stands_spec = tie.close (tie.spec returns shared-slice-read-b returns-2 returns-3)

@@ -19,5 +19,5 @@ cast-result c = omega (arith, (digit_range (get_or c.before.args.text.now c.befo
 returns : tie.Need-returns
 returns c = search rules
 
-pub digit-value_spec : {M : Type 1} → statement M
-digit-value_spec = tie.close (tie.spec shared-slice-read-result sub-result cast-result returns)
+pub digit_value_spec : {M : Type 1} → statement M
+digit_value_spec = tie.close (tie.spec shared-slice-read-result sub-result cast-result returns)

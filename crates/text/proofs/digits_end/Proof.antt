@@ -49,8 +49,8 @@ returns-3 c =
     let t = c.before.before.args.text.now in
     omega (arith, ap length (digits_past t c.before.loop.i c.loop-test.false))
 
-pub digits-end_spec : {M : Type 1} → statement M
-digits-end_spec =
+pub digits_end_spec : {M : Type 1} → statement M
+digits_end_spec =
     tie.close
     (tie.spec
     invariant-loop

@@ -83,8 +83,8 @@ returns-4 c =
     let s = x.before.before.before.before.before.before.before in
     omega (arith, c.digits-end.ensures, after_second x.before.before, one_more (text_of s) (s.args.at + 2) (s.args.at + 3) (omega arith) (third x))
 
-pub field-end_spec : {M : Type 1} → statement M
-field-end_spec =
+pub field_end_spec : {M : Type 1} → statement M
+field_end_spec =
     tie.close
     (tie.spec
     digit-stands-requires

@@ -29,13 +29,13 @@ module _ (c : tie.After-next-field invariant-loop decreases-loop) where
   start = at-loop.before.before.before
 
   abbrev inv : Filling start.args.text.now start.args.cells.now at-loop.loop.cells at-loop.loop.at at-loop.loop.k at-loop.loop.more
-  inv = at-loop.loop.inv
+  inv = at-loop.loop.invariant
 
   abbrev goes_on : at-loop.loop.more ≡ true
   goes_on = c.before.loop-test.true
 
   abbrev room : length (cells_of start.args.text.now) ≤ length start.args.cells.now
-  room = start.pre.1.1.1
+  room = start.requires.1.1.1
 
   passes : Number (digits (drop at-loop.loop.at start.args.text.now))
   passes = field_passed _ (fill_field inv goes_on)

@@ -96,8 +96,8 @@ returns-4 c =
 returns-5 : tie.Need-returns-5 invariant-loop decreases-loop
 returns-5 c = none_refused _ (c.before.loop.invariant.1 ∙ finish _ _ c.loop-test.false)
 
-pub judge-bytes_spec : {M : Type 1} → statement M
-judge-bytes_spec =
+pub judge_bytes_spec : {M : Type 1} → statement M
+judge_bytes_spec =
     tie.close
     (tie.spec
     invariant-loop

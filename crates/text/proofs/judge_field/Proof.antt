@@ -20,7 +20,7 @@ module _ (c : tie.Else1) where
   field = digits (drop start.args.at start.args.text.now)
 
   one : 1 ≤ length field
-  one = let whole = start.pre.1 in omega arith
+  one = let whole = start.requires.1 in omega arith
 
   first : get_or field 0 0 ≡ get_or start.args.text.now start.args.at 0
   first = digits_first start.args.text.now start.args.at one
@@ -72,8 +72,8 @@ returns-5 c =
     let whole = (start x).requires.1 in
     field_passes (field x) (leading c.before.before.before) (one x) (omega arith) (rw c.before.read_number.ensures at c.if4.false)
 
-pub judge-field_spec : {M : Type 1} → statement M
-judge-field_spec =
+pub judge_field_spec : {M : Type 1} → statement M
+judge_field_spec =
     tie.close
     (tie.spec
     sub-if1

@@ -35,7 +35,7 @@ module _ (c : tie.After-enum-told invariant-loop decreases-loop) where
   text_of = at-loop.before.before.args.text.now
 
   abbrev inv : Judging text_of at-loop.before.before.args.n at-loop.loop.at at-loop.loop.row at-loop.loop.column at-loop.loop.square at-loop.loop.more
-  inv = at-loop.loop.inv
+  inv = at-loop.loop.invariant
 
   abbrev field : c.before.before.before.next_field.result ≡ field_at text_of at-loop.loop.at
   field = c.before.before.before.next_field.ensures
@@ -93,7 +93,7 @@ loop-again c =
     let f = field x in
     let comma : comma_follows (text_of x) (at-loop x).loop.at ≡ false = sym (ap (λ (r : Field). r.comma) f) ∙ not-true _ c.before.if1.true in
     rw f
-    (⊎_elim (λ w. rw w.1 (judge_uneven (inv x) (goes_on x) (passes x) comma w.0.taken))
+    (⊎_elim (λ w. rw w.1 (judge_uneven (inv x) (goes_on x) (passes x) comma w.0.true))
     (λ w. rw w.1 (judge_break (inv x) (goes_on x) (passes x) comma w.0.left))
     c.if2.branch)
 
@@ -118,8 +118,8 @@ returns-3 c = end_many c.before.before.before.loop.invariant c.before.before.loo
 returns-4 : tie.Need-returns-4 invariant-loop decreases-loop
 returns-4 c = end_square c.before.before.before.loop.invariant c.before.before.loop-test.false c.before.if3.false c.if4.false
 
-pub judge-fields_spec : {M : Type 1} → statement M
-judge-fields_spec =
+pub judge_fields_spec : {M : Type 1} → statement M
+judge_fields_spec =
     tie.close
     (tie.spec
     invariant-loop

@@ -42,8 +42,8 @@ add-t10 c = search rules
 returns-3 : tie.Need-returns-3
 returns-3 c = goes (break_follows _ _ c.before.before.before.field-end.ensures c.if2.false)
 
-pub next-field_spec : {M : Type 1} → statement M
-next-field_spec =
+pub next_field_spec : {M : Type 1} → statement M
+next_field_spec =
     tie.close
     (tie.spec
     field-end-requires

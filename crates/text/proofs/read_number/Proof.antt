@@ -101,8 +101,8 @@ returns-3 c =
     number_of_three (text_of s) s.args.at (some s) x.before.before.before.digit_value.ensures x.before.digit-value2.ensures (two x.before.before)
     c.digit-value3.ensures (three x)
 
-pub read-number_spec : {M : Type 1} → statement M
-read-number_spec =
+pub read_number_spec : {M : Type 1} → statement M
+read_number_spec =
     tie.close
     (tie.spec
     digit-value-requires

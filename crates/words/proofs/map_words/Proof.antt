@@ -29,8 +29,8 @@ returns-5 c = rw c.before.before.before.said3.given.1 c.words3.ensures
 returns-6 : tie.Need-returns-6
 returns-6 c = rw c.before.before.before.said4.given.1 c.words4.ensures
 
-pub map-words_spec : {M : Type 1} → statement M
-map-words_spec =
+pub map_words_spec : {M : Type 1} → statement M
+map_words_spec =
     tie.close
     (tie.spec
     (λ c. search rules)

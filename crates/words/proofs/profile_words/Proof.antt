@@ -15,8 +15,8 @@ returns-2 c =
     let m = c.before.before.before.said2.given in
     rw m.1 (refusal_said_law (no_refusal m.0.0) (no_brief m.0.0) c.before.refusal.ensures c.refusal-words.ensures)
 
-pub profile-words_spec : {M : Type 1} → statement M
-profile-words_spec =
+pub profile_words_spec : {M : Type 1} → statement M
+profile_words_spec =
     tie.close
     (tie.spec (λ c. search rules) (λ c. search rules) (λ c κs. search rules) (λ c. search rules) (λ c κs. search rules)
     (λ c κs. search rules) returns returns-2)

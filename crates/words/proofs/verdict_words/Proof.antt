@@ -15,8 +15,8 @@ returns-2 c =
     let m = c.before.before.before.verdict.given in
     rw m.1 (refusal_said_law (fault_refusal m.0.0) (fault_brief m.0.0) c.before.refusal.ensures c.refusal-words.ensures)
 
-pub verdict-words_spec : {M : Type 1} → statement M
-verdict-words_spec =
+pub verdict_words_spec : {M : Type 1} → statement M
+verdict_words_spec =
     tie.close
     (tie.spec
     (λ c. search rules)

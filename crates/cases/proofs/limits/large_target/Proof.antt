@@ -52,8 +52,8 @@ returns c =
     c.walk.ensures ∙ ap (λ (l : List ℕ). agreed (walk_calls false mat5_cells 5 l 27 (replicate 5 0)) c.before.before.before.counted.result) (filling.fill.ensures.1 ∙ filled)
     ∙ ap (agreed (walk_calls false mat5_cells 5 (transformation_cells 3) 27 (replicate 5 0))) one ∙ agreed_counted (walk_calls false mat5_cells 5 (transformation_cells 3) 27 (replicate 5 0)) empty
 
-pub large-target_spec : {M : Type 1} → statement M
-large-target_spec =
+pub large_target_spec : {M : Type 1} → statement M
+large_target_spec =
     tie.close
     (tie.spec
     (λ c. search rules)

@@ -17,8 +17,8 @@ returns c = c.failed.ensures ∙ as_said c.before.before.answer.given.1
 returns-2 : tie.Need-returns-2
 returns-2 c = c.said-of-no.ensures ∙ as_said c.before.before.answer2.given.1
 
-pub numbered-said_spec : {M : Type 1} → statement M
-numbered-said_spec =
+pub numbered_said_spec : {M : Type 1} → statement M
+numbered_said_spec =
     tie.close
     (tie.spec
     (λ c. search rules)

@@ -6,5 +6,5 @@ use Rattle.cases.proofs.limits.numbered_told.Tie as tie
 returns : tie.Need-returns
 returns c = cc
 
-pub numbered-told_spec : {M : Type 1} → statement M
-numbered-told_spec = tie.close (tie.spec (λ c κs. search rules) (λ c κs. search rules) (λ c κs. search rules) (λ c κs. search rules) (λ c κs. search rules) (λ c κs. search rules) returns)
+pub numbered_told_spec : {M : Type 1} → statement M
+numbered_told_spec = tie.close (tie.spec (λ c κs. search rules) (λ c κs. search rules) (λ c κs. search rules) (λ c κs. search rules) (λ c κs. search rules) (λ c κs. search rules) returns)

@@ -7,5 +7,5 @@ use Rattle.cases.proofs.limits.same_bytes.Tie as tie
 returns : tie.Need-returns
 returns c = same_bytes _ _ c.same.result c.same.ensures.0 c.same.ensures.1
 
-pub same-bytes_spec : {M : Type 1} → statement M
-same-bytes_spec = tie.close (tie.spec (λ c κs. search rules) returns)
+pub same_bytes_spec : {M : Type 1} → statement M
+same_bytes_spec = tie.close (tie.spec (λ c κs. search rules) returns)

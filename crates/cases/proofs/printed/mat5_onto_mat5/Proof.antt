@@ -8,5 +8,5 @@ use Rattle.cases.proofs.printed.mat5_onto_mat5.Tie as tie
 returns : tie.Need-returns
 returns c = c.first_two.ensures ∙ case_12 _
 
-pub mat5-onto-mat5_spec : {M : Type 1} → statement M
-mat5-onto-mat5_spec = tie.close (tie.spec (λ c. search rules) (λ c. search rules) (λ c κs. search rules) returns)
+pub mat5_onto_mat5_spec : {M : Type 1} → statement M
+mat5_onto_mat5_spec = tie.close (tie.spec (λ c. search rules) (λ c. search rules) (λ c κs. search rules) returns)

@@ -10,8 +10,8 @@ returns : tie.Need-returns
 unfolding agreed
 returns c = c.told.ensures ∙ last_11 _ ∙ ap (agreed 2) (c.before.before.before.first_two.ensures ∙ case_11 _)
 
-pub null3-onto-null3_spec : {M : Type 1} → statement M
-null3-onto-null3_spec =
+pub null3_onto_null3_spec : {M : Type 1} → statement M
+null3_onto_null3_spec =
     tie.close
     (tie.spec (λ c. search rules) (λ c. search rules) (λ c κs. search rules) (λ c. search rules) (λ c. search rules)
     (λ c κs. search rules) returns)

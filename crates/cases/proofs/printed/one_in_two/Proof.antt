@@ -10,8 +10,8 @@ returns : tie.Need-returns
 unfolding agreed
 returns c = c.told.ensures ∙ last_9 _ ∙ ap (agreed 2) (c.before.before.before.first_two.ensures ∙ case_9 _)
 
-pub one-in-two_spec : {M : Type 1} → statement M
-one-in-two_spec =
+pub one_in_two_spec : {M : Type 1} → statement M
+one_in_two_spec =
     tie.close
     (tie.spec (λ c. search rules) (λ c. search rules) (λ c κs. search rules) (λ c. search rules) (λ c. search rules)
     (λ c κs. search rules) returns)

@@ -8,5 +8,5 @@ use Rattle.cases.proofs.printed.swap_in_two.Tie as tie
 returns : tie.Need-returns
 returns c = c.first_two.ensures ∙ case_6 _
 
-pub swap-in-two_spec : {M : Type 1} → statement M
-swap-in-two_spec = tie.close (tie.spec (λ c. search rules) (λ c. search rules) (λ c κs. search rules) returns)
+pub swap_in_two_spec : {M : Type 1} → statement M
+swap_in_two_spec = tie.close (tie.spec (λ c. search rules) (λ c. search rules) (λ c κs. search rules) returns)

@@ -19,7 +19,7 @@ module _ (s : tie.Start) where
   before_long = search rules
 
   buffer_room : s.args.m ≤ length s.args.before
-  buffer_room = let e = before_long in let h = s.pre in omega arith
+  buffer_room = let e = before_long in let h = s.requires in omega arith
 
 slice-aggregate-search : tie.Need-slice-aggregate-search
 slice-aggregate-search c = sym (length-take-le _ _ (buffer_room c.before.before.before))

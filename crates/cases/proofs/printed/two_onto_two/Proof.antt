@@ -8,5 +8,5 @@ use Rattle.cases.proofs.printed.two_onto_two.Tie as tie
 returns : tie.Need-returns
 returns c = c.first_two.ensures ∙ case_10 _
 
-pub two-onto-two_spec : {M : Type 1} → statement M
-two-onto-two_spec = tie.close (tie.spec (λ c. search rules) (λ c. search rules) (λ c κs. search rules) returns)
+pub two_onto_two_spec : {M : Type 1} → statement M
+two_onto_two_spec = tie.close (tie.spec (λ c. search rules) (λ c. search rules) (λ c κs. search rules) returns)

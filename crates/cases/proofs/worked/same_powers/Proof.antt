@@ -16,5 +16,5 @@ returns-2 c =
     let b = known.before.before.args.b in
     sym (ap {B = Bool} (λ (x : IndexPeriodAnswer). same_given_powers (index_period_says x) (index_period_value b)) known.a.given.1)
 
-pub same-powers_spec : {M : Type 1} → statement M
-same-powers_spec = tie.close (tie.spec (λ c. search rules) (λ c. search rules) (λ c. search rules) returns-2)
+pub same_powers_spec : {M : Type 1} → statement M
+same_powers_spec = tie.close (tie.spec (λ c. search rules) (λ c. search rules) (λ c. search rules) returns-2)

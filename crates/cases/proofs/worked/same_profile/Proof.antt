@@ -16,5 +16,5 @@ returns-2 c =
     let b = known.before.before.args.b in
     sym (ap {B = Bool} (λ (x : ProfileAnswer). same_given_profile (profile_says x) (profile_value b)) known.a.given.1)
 
-pub same-profile_spec : {M : Type 1} → statement M
-same-profile_spec = tie.close (tie.spec (λ c. search rules) (λ c. search rules) (λ c. search rules) returns-2)
+pub same_profile_spec : {M : Type 1} → statement M
+same_profile_spec = tie.close (tie.spec (λ c. search rules) (λ c. search rules) (λ c. search rules) returns-2)

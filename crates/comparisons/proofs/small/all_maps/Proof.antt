@@ -38,23 +38,23 @@ loop-holds c = let z = c.before.before in (from_begin z.args.m z.args.n c.start.
 
 list-number-requires : tie.Need-list-number-requires invariant-loop decreases-loop
 list-number-requires c κs =
-    let h = (start_of c.before).pre.0 in
+    let h = (start_of c.before).requires.0 in
     (cells_few _ h, ((h.0, omega arith), below c))
 
 array-share-prefix-source : tie.Need-array-share-prefix-source invariant-loop decreases-loop
 array-share-prefix-source c =
-    let few = cells_few _ (start_of c.before.before).pre.0 in
+    let few = cells_few _ (start_of c.before.before).requires.0 in
     let long : length c.list-number.result ≡ 9 = search rules in
     omega arith
 
 slice-aggregate-maps-from : tie.Need-slice-aggregate-maps-from invariant-loop decreases-loop
-slice-aggregate-maps-from c = front_long _ 9 (cells_few _ (start_of c.before.before.before).pre.0) c.before.list-number.result (search rules)
+slice-aggregate-maps-from c = front_long _ 9 (cells_few _ (start_of c.before.before.before).requires.0) c.before.list-number.result (search rules)
 
 maps-from-requires : tie.Need-maps-from-requires invariant-loop decreases-loop
 maps-from-requires c κs =
     let z = start_of c.before.before.before in
-    let few = z.pre.0 in
-    (omega arith, z.pre.1)
+    let few = z.requires.0 in
+    (omega arith, z.requires.1)
 
 add-k : tie.Need-overflow-add-k invariant-loop decreases-loop
 add-k c = search rules
@@ -79,8 +79,8 @@ returns c =
     let e : l.loop.k ≡ z.m ^ (z.m * z.m) = omega arith in
     l.loop.invariant.0 ∙ ap (λ (x : ℕ). agreed (calls_from z.m z.n x) empty) e
 
-pub all-maps_spec : {M : Type 1} → statement M
-all-maps_spec =
+pub all_maps_spec : {M : Type 1} → statement M
+all_maps_spec =
     tie.close
     (tie.spec
     invariant-loop

@@ -78,8 +78,8 @@ returns c =
     let e : l.loop.k ≡ l.before.before.before.args.n ^ (l.before.before.before.args.n * l.before.before.before.args.n) = omega arith in
     l.loop.invariant.0 ∙ ap (λ (x : ℕ). agreed x empty) e
 
-pub all-tables_spec : {M : Type 1} → statement M
-all-tables_spec =
+pub all_tables_spec : {M : Type 1} → statement M
+all_tables_spec =
     tie.close
     (tie.spec
     invariant-loop

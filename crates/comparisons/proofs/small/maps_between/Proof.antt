@@ -34,6 +34,6 @@ returns-2 c =
     let a = judged_accepted _ _ _ judged.judge.ensures c.before.before.if1.false in
     c.walk2.ensures ∙ ap (agreed _) c.before.walk.ensures ∙ sym (agreed_add _ _ z.args.tally) ∙ ap (λ (x : ℕ). agreed x z.args.tally) (sym (taken_in z.args.n z.args.target.now _ a))
 
-pub maps-between_spec : {M : Type 1} → statement M
-maps-between_spec =
+pub maps_between_spec : {M : Type 1} → statement M
+maps_between_spec =
     tie.close (tie.spec judge-requires returns walk-requires walk-requires-2 returns-2)

@@ -29,5 +29,5 @@ returns-2 c =
     let a = judged_accepted _ _ _ judged.judge.ensures c.before.if1.false in
     c.maps-to.ensures ∙ ap (λ (x : ℕ). agreed x z.args.tally) (sym (taken_in z.args.m z.args.source.now _ a))
 
-pub maps-from_spec : {M : Type 1} → statement M
-maps-from_spec = tie.close (tie.spec judge-requires returns maps-to-requires returns-2)
+pub maps_from_spec : {M : Type 1} → statement M
+maps_from_spec = tie.close (tie.spec judge-requires returns maps-to-requires returns-2)

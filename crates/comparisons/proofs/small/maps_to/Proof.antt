@@ -35,23 +35,23 @@ loop-holds c = let z = c.before.before in (calls_begin z.args.source.now z.args.
 
 list-number-requires : tie.Need-list-number-requires invariant-loop decreases-loop
 list-number-requires c κs =
-    let h = (start_of c.before).pre.1.1 in
+    let h = (start_of c.before).requires.1.1 in
     (cells_few _ h, ((h.0, omega arith), below c))
 
 array-share-prefix-target : tie.Need-array-share-prefix-target invariant-loop decreases-loop
 array-share-prefix-target c =
-    let few = cells_few _ (start_of c.before.before).pre.1.1 in
+    let few = cells_few _ (start_of c.before.before).requires.1.1 in
     let long : length c.list-number.result ≡ 9 = search rules in
     omega arith
 
 slice-aggregate-maps-between : tie.Need-slice-aggregate-maps-between invariant-loop decreases-loop
-slice-aggregate-maps-between c = front_long _ 9 (cells_few _ (start_of c.before.before.before).pre.1.1) c.before.list-number.result (search rules)
+slice-aggregate-maps-between c = front_long _ 9 (cells_few _ (start_of c.before.before.before).requires.1.1) c.before.list-number.result (search rules)
 
 maps-between-requires : tie.Need-maps-between-requires invariant-loop decreases-loop
 maps-between-requires c κs =
     let z = start_of c.before.before.before in
-    let few = z.pre.1.1 in
-    (z.pre.0, (z.pre.1.0, omega arith))
+    let few = z.requires.1.1 in
+    (z.requires.0, (z.requires.1.0, omega arith))
 
 add-k : tie.Need-overflow-add-k invariant-loop decreases-loop
 add-k c = search rules
@@ -76,8 +76,8 @@ returns c =
     let e : l.loop.k ≡ z.n ^ (z.n * z.n) = omega arith in
     l.loop.invariant.0 ∙ ap (λ (x : ℕ). agreed (calls_to z.source.now z.m z.n x) z.tally) e
 
-pub maps-to_spec : {M : Type 1} → statement M
-maps-to_spec =
+pub maps_to_spec : {M : Type 1} → statement M
+maps_to_spec =
     tie.close
     (tie.spec
     invariant-loop

@@ -20,7 +20,7 @@ module _ (s : tie.Start) where
   before_long = search rules
 
   buffer_room : s.args.m ≤ length s.args.before
-  buffer_room = let e = before_long in let h = s.pre.1.1.0 in omega arith
+  buffer_room = let e = before_long in let h = s.requires.1.1.0 in omega arith
 
 module _ (c : tie.Joined1) where
   abbrev start : tie.Start
@@ -29,13 +29,13 @@ module _ (c : tie.Joined1) where
   -- The bytes after which the search looks.
   after_is : c.if1.after ≡ following start.args.next start.args.before
   after_is =
-      ⊎_elim (λ w. w.1 ∙ after_next start.args.next start.args.before w.0.taken)
+      ⊎_elim (λ w. w.1 ∙ after_next start.args.next start.args.before w.0.true)
       (λ w. w.1 ∙ after_zeros start.args.next start.args.before w.0.left) c.if1.branch
 
   after_room : start.args.m ≤ length c.if1.after
   after_room =
       let e = ap length after_is ∙ after_long start.args.next start.args.before (before_long start) in
-      let h = start.pre.1.1.0 in
+      let h = start.requires.1.1.0 in
       omega arith
 
 -- What is known once the second search has returned.
@@ -47,13 +47,13 @@ module _ (c : tie.After-next-map) where
   says =
       let s = start joined in
       let a = s.args in
-      second_says a.isomorphisms a.next a.source.now a.m a.target.now a.n a.before s.pre.0 s.pre.1.0 s.pre.1.1.0 s.pre.1.1.1 (before_long s) joined.if1.after (after_is joined) c.Next-map.result c.Next-map.ensures.0
+      second_says a.isomorphisms a.next a.source.now a.m a.target.now a.n a.before s.requires.0 s.requires.1.0 s.requires.1.1.0 s.requires.1.1.1 (before_long s) joined.if1.after (after_is joined) c.Next-map.result c.Next-map.ensures.0
 
   left : c.Next-map.new.1.1.1.1.1.1.0 ++ drop (start joined).args.m (start joined).args.before ≡ (walk_call (start joined).args.isomorphisms (start joined).args.next (start joined).args.source.now (start joined).args.m (start joined).args.target.now (start joined).args.n (start joined).args.before).map_bytes ++ drop (start joined).args.m (start joined).args.before
   left =
       let s = start joined in
       let a = s.args in
-      second_map a.isomorphisms a.next a.source.now a.m a.target.now a.n a.before s.pre.0 s.pre.1.0 s.pre.1.1.0 s.pre.1.1.1 (before_long s) joined.if1.after (after_is joined) _ c.Next-map.ensures.1
+      second_map a.isomorphisms a.next a.source.now a.m a.target.now a.n a.before s.requires.0 s.requires.1.0 s.requires.1.1.0 s.requires.1.1.1 (before_long s) joined.if1.after (after_is joined) _ c.Next-map.ensures.1
 
 array-share-prefix-after : tie.Need-array-share-prefix-after
 array-share-prefix-after c = after_room c
@@ -70,9 +70,9 @@ slice-aggregate-next-map-2 c = sym (length-take-le _ _ (buffer_room (start c.bef
 next-map-requires : tie.Need-next-map-requires
 next-map-requires c κs =
     let s = start c.before.before in
-    let few = s.pre.1.1.0 in
+    let few = s.requires.1.1.0 in
     let after = length-take-le _ _ (after_room c.before.before) in
-    (s.pre.0.filled, (s.pre.1.0.filled, (omega arith, (after, length-take-le _ _ (buffer_room s)))))
+    (s.requires.0.filled, (s.requires.1.0.filled, (omega arith, (after, length-take-le _ _ (buffer_room s)))))
 
 returns : tie.Need-returns
 returns c =

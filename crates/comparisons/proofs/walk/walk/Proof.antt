@@ -37,14 +37,14 @@ module _ (c : tie.After-counted2 invariant-loop decreases-loop) where
   start_of = at-loop.before.before.before.before.before
 
   long : length at-loop.loop.buffer ≡ 5
-  long = at-loop.loop.inv.1
+  long = at-loop.loop.invariant.1
 
   -- A map was found, so that one fewer is left.
   one_less : not c.before.step2.result.found ≡ false → later_maps start_of.args.isomorphisms start_of.args.source.now start_of.args.m start_of.args.target.now start_of.args.n at-loop.loop.buffer
       ≡ suc (later_maps start_of.args.isomorphisms start_of.args.source.now start_of.args.m start_of.args.target.now start_of.args.n c.before.step2.result.buffer)
   one_less h =
       let a = start_of.args in
-      let p = start_of.pre in
+      let p = start_of.requires in
       left_found a.isomorphisms a.source.now a.m a.target.now a.n at-loop.loop.buffer p.0 p.1.0 p.1.1.0 p.1.1.1 long (sym c.before.step2.ensures.1.0 ∙ not_false _ h)
       ∙ ap (λ (l : List ℕ). suc (later_maps a.isomorphisms a.source.now a.m a.target.now a.n l)) (sym c.before.step2.ensures.1.1.0)
 
@@ -67,7 +67,7 @@ returns : tie.Need-returns invariant-loop decreases-loop
 returns c =
     let w = c.before.before in
     let z = start_of w in
-    walk_ends _ _ _ _ _ _ (at-loop w).loop.invariant.0 w.counted2.ensures w.before.step2.ensures.0 (left_none z.args.isomorphisms z.args.source.now z.args.m z.args.target.now z.args.n (at-loop w).loop.buffer z.pre.0 z.pre.1.0 z.pre.1.1.0 z.pre.1.1.1 (long w) (sym w.before.step2.ensures.1.0 ∙ not_true _ c.if1.true)) _ _ (at-loop w).before.counted.ensures (at-loop w).before.before.step.ensures.0
+    walk_ends _ _ _ _ _ _ (at-loop w).loop.invariant.0 w.counted2.ensures w.before.step2.ensures.0 (left_none z.args.isomorphisms z.args.source.now z.args.m z.args.target.now z.args.n (at-loop w).loop.buffer z.requires.0 z.requires.1.0 z.requires.1.1.0 z.requires.1.1.1 (long w) (sym w.before.step2.ensures.1.0 ∙ not_true _ c.if1.true)) _ _ (at-loop w).before.counted.ensures (at-loop w).before.before.step.ensures.0
 
 loop-less : tie.Need-loop-smaller invariant-loop decreases-loop
 loop-less c =

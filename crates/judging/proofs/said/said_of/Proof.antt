@@ -16,8 +16,8 @@ returns-2 c =
     c.said-of-no.ensures ∙ ap {B = Said} refusal_said c.before.no.ensures
     ∙ sym (ap {B = Said} (λ (v : Verdict). said_of (verdict_refusal v)) c.before.before.before.verdict.given.1)
 
-pub said-of_spec : {M : Type 1} → statement M
-said-of_spec =
+pub said_of_spec : {M : Type 1} → statement M
+said_of_spec =
     tie.close
     (tie.spec
     (λ c. search rules)

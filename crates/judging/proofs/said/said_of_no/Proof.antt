@@ -14,5 +14,5 @@ returns : tie.Need-returns
 unfolding at
 returns c = ap {B = Said} (λ (r : Refusal). record { number = r.number; first = r.first; second = r.second; third = r.third }) c.refusal.ensures
 
-pub said-of-no_spec : {M : Type 1} → statement M
-said-of-no_spec = tie.close (tie.spec refusal-requires returns)
+pub said_of_no_spec : {M : Type 1} → statement M
+said_of_no_spec = tie.close (tie.spec refusal-requires returns)

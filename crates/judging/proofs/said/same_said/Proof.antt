@@ -8,5 +8,5 @@ returns : tie.Need-returns
 unfolding same_said
 returns c = simp and_assoc
 
-pub same-said_spec : {M : Type 1} → statement M
-same-said_spec = tie.close (tie.spec returns)
+pub same_said_spec : {M : Type 1} → statement M
+same_said_spec = tie.close (tie.spec returns)

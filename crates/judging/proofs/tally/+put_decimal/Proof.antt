@@ -127,8 +127,8 @@ put_decimal_returns_2 t c =
     let wrote = c.before.before.put-decimal in
     digits_written _ z.args.at z.args.k (omega arith) (omega arith) wrote.ensures.0 wrote.ensures.1
 
-pub +put-decimal_spec : {M : Type 1} → statement M
-+put-decimal_spec = close μ-put-decimal λ t. put-decimal-lts.spec (
+pub +put_decimal_spec : {M : Type 1} → statement M
++put_decimal_spec = close μ-put-decimal λ t. put-decimal-lts.spec (
   put_decimal_below t,
   put-decimal.Post,
 )

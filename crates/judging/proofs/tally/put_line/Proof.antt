@@ -70,8 +70,8 @@ returns c =
     let six = c.put-bytes4.ensures in
     line_written _ _ z.args.tally z.requires (search rules) one.0 one.1 two.0 two.1 three.0 three.1 four.0 four.1 five.0 five.1 six.0 six.1
 
-pub put-line_spec : {M : Type 1} → statement M
-put-line_spec =
+pub put_line_spec : {M : Type 1} → statement M
+put_line_spec =
     tie.close
     (tie.spec
     put-bytes-requires

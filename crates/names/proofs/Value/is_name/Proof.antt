@@ -34,5 +34,5 @@ is-name-requires c κs = search rules
 returns-2 : tie.Need-returns-2
 returns-2 c = c.is_name.ensures
 
-pub is-name_spec : {M : Type 1} → statement M
-is-name_spec = tie.close (tie.spec returns array-share-prefix-bytes slice-aggregate-is-name is-name-requires returns-2)
+pub is_name_spec : {M : Type 1} → statement M
+is_name_spec = tie.close (tie.spec returns array-share-prefix-bytes slice-aggregate-is-name is-name-requires returns-2)

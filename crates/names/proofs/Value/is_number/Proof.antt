@@ -34,5 +34,5 @@ is-number-requires c κs = search rules
 returns-2 : tie.Need-returns-2
 returns-2 c = c.is_number_law.ensures
 
-pub is-number_spec : {M : Type 1} → statement M
-is-number_spec = tie.close (tie.spec returns array-share-prefix-bytes slice-aggregate-is-number is-number-requires returns-2)
+pub is_number_spec : {M : Type 1} → statement M
+is_number_spec = tie.close (tie.spec returns array-share-prefix-bytes slice-aggregate-is-number is-number-requires returns-2)
