@@ -3,11 +3,11 @@ use borrow.Author.Tests.{eq-eqb, ne_eqb}
 use Rattle.constraints.proofs.allowed.Statement.{statement}
 use Rattle.constraints.proofs.allowed.Tie as tie
 
-returns : tie.Need-returns
-returns c = rw (eq-eqb c.before.args.constraint 0 c.if1.true)
+returns-then-constraint-eq0 : tie.Need-returns-then-constraint-eq0
+returns-then-constraint-eq0 c = rw (eq-eqb c.args.constraint 0 c.if-constraint-eq0.true)
 
-returns-2 : tie.Need-returns-2
-returns-2 c = rw (ne_eqb c.before.args.constraint 0 c.if1.false)
+returns : tie.Need-returns
+returns c = rw (ne_eqb c.args.constraint 0 c.if-constraint-eq0.false)
 
 pub allowed_spec : {M : Type 1} → statement M
-allowed_spec = tie.close (tie.spec returns returns-2)
+allowed_spec = tie.close (tie.spec returns-then-constraint-eq0 returns)

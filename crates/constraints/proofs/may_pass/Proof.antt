@@ -43,29 +43,29 @@ module _ (z : tie.Start) where
       (trial_length z.args.n z.args.image.now z.args.used.now z.args.len z.args.x trial) z.requires.1.0.1 z.args.x z.args.forced.now z.args.owner.now z.requires.1.1.0
       source.order.1 z.requires.1.1.1 (omega arith) z.requires.1.0.2
 
-add-settled : tie.Need-overflow-add-settled
-add-settled c = search rules
+overflow_add-len : tie.Need-overflow_add-len
+overflow_add-len c = search rules
 
 settled-requires : tie.Need-settled-requires
 settled-requires c κs = search rules
 
-returns : tie.Need-returns
-returns c =
+returns-then-not-settled : tie.Need-returns-then-not-settled
+returns-then-not-settled c =
     let z = c.before.before.before.before in
-    let g = c.before.settled in
-    let e = ap (λ (b : Bool). b && near z) (sym g.ensures ∙ not-true g.result c.if1.true) in
+    let g = c.settled in
+    let e = ap (λ (b : Bool). b && near z) (sym g.ensures ∙ c.if-not-settled.true) in
     (sym e, λ _. refuses z e)
 
-near-fits-requires : tie.Need-near-fits-requires
-near-fits-requires c κs = let z = c.before.before.before.before in (z.requires.0, (z.requires.1.0.0, z.requires.1.0.1))
+near_fits-requires : tie.Need-near_fits-requires
+near_fits-requires c κs = let z = c in (z.requires.0, (z.requires.1.0.0, z.requires.1.0.1))
 
-returns-2 : tie.Need-returns-2
-returns-2 c =
+returns : tie.Need-returns
+returns c =
     let z = c.before.before.before.before.before in
-    let g = c.before.before.settled in
-    let e = c.Near-fits.ensures ∙ sym (ap (λ (b : Bool). b && near z) (sym g.ensures ∙ not-false g.result c.before.if1.false)) in
+    let g = c.settled in
+    let e = c.near_fits.ensures ∙ sym (ap (λ (b : Bool). b && near z) (sym g.ensures ∙ c.if-not-settled.false)) in
     (e, λ h. refuses z (sym e ∙ h))
 
 pub may_pass_spec : {M : Type 1} → statement M
 may_pass_spec =
-    tie.close (tie.spec add-settled settled-requires returns near-fits-requires returns-2)
+    tie.close (tie.spec overflow_add-len settled-requires returns-then-not-settled near_fits-requires returns)

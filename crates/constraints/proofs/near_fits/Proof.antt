@@ -11,33 +11,33 @@ use Rattle.constraints.proofs.near_fits.Statement.{statement}
 use Rattle.constraints.proofs.near_fits.Tie as tie
 
 -- What is known once the newest element is known.
-module _ (k : tie.Joined1) where
+module _ (k : tie.Joined-len-eq0) where
   abbrev z : tie.Start
   z = k.before.before.before
 
   abbrev newest : ℕ
-  newest = k.if1.newest
+  newest = k.if-len-eq0.newest
 
   is_newest : (max 1 z.args.len ≡ newest) × Element (z.args.len + 1) newest
   is_newest =
       ⊎_elim
       (λ w. (ap (max 1) w.0.true ∙ sym w.1, omega (arith, w.0.true, w.1)))
       (λ w. (max-eq_right (omega (arith, w.0.left)) ∙ sym w.1, omega (arith, w.0.left, w.1)))
-      k.if1.came
+      k.if-len-eq0.came
 
-add-pair-fits : tie.Need-overflow-add-pair-fits
-add-pair-fits c = let r = c.before.before.before.requires.1.0.room in omega arith
+overflow_add-len : tie.Need-overflow_add-len
+overflow_add-len c = let r = c.requires.1.0.room in omega arith
 
-pair-fits-requires : tie.Need-pair-fits-requires
-pair-fits-requires c κs = let z = c.before.before.before in (z.requires.0, (z.requires.1, ((is_newest c).1, omega arith)))
+pair_fits-requires : tie.Need-pair_fits-requires
+pair_fits-requires c κs = let z = c in (z.requires.0, (z.requires.1, ((is_newest c).1, omega arith)))
 
 returns : tie.Need-returns
 returns c =
     let k = c.before in
-    let z = k.before.before.before in
+    let z = k in
     let l = z.requires.1.0.long in
     let r = z.requires.1.0.room in
-    c.pair-fits.ensures ∙ sym (near_is _ _ _ z.args.len k.if1.newest (next_length z.args.image.now z.args.len z.args.x (omega arith)) (is_newest k).0)
+    c.pair_fits.ensures ∙ sym (near_is _ _ _ z.args.len k.if-len-eq0.newest (next_length z.args.image.now z.args.len z.args.x (omega arith)) (is_newest k).0)
 
 pub near_fits_spec : {M : Type 1} → statement M
-near_fits_spec = tie.close (tie.spec add-pair-fits pair-fits-requires returns)
+near_fits_spec = tie.close (tie.spec overflow_add-len pair_fits-requires returns)

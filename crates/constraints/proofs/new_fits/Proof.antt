@@ -21,20 +21,20 @@ use Rattle.constraints.proofs.new_fits.Tie as tie
 abbrev pair_of : List ℕ → ℕ → List ℕ → ℕ → List ℕ → ℕ → ℕ → ℕ → ℕ → Bool
 pair_of source m target n image len x = fits (product m source) (product n target) (take len image ++ x ∷ [])
 
-abbrev invariant-loop : tie.invariant-loop
-invariant-loop source m target n image used len x next j₀ j =
+abbrev invariant-loop-j : tie.invariant-loop-j
+invariant-loop-j source m target n image used len x next j₀ j =
     (1 ≤ j) × (j ≤ next + 1) × (new_fits (product m source) (product n target) (take len image ++ x ∷ []) ≡ all_from (cross (pair_of source m target n image len x) next) next j)
 
-abbrev decreases-loop : tie.decreases-loop
-decreases-loop source m target n image used len x next j₀ j = next + 1 - j
+abbrev decreases-loop-j : tie.decreases-loop-j
+decreases-loop-j source m target n image used len x next j₀ j = next + 1 - j
 
-add-next : tie.Need-overflow-add-next invariant-loop decreases-loop
-add-next c = let r = c.before.before.requires.1.0.room in omega arith
+overflow_add-next : tie.Need-overflow_add-next invariant-loop-j decreases-loop-j
+overflow_add-next c = let r = c.requires.1.0.room in omega arith
 
-loop-holds : tie.Need-loop-init invariant-loop decreases-loop
+loop-j-init : tie.Need-loop-j-init invariant-loop-j decreases-loop-j
 unfolding new_fits
-loop-holds c =
-    let z = c.before.before in
+loop-j-init c =
+    let z = c in
     let a = z.args in
     let pair = pair_of a.source.now a.m a.target.now a.n a.image.now a.len a.x in
     let x = z.requires.1.0 in
@@ -42,76 +42,76 @@ loop-holds c =
     let r = x.room in
     (omega arith, omega arith, ap (λ (k : ℕ). all (cross pair k) (elements k)) (next_length a.image.now a.len a.x (omega arith)) ∙ all_start (cross pair (a.len + 1)) (a.len + 1))
 
-pair-fits-requires : tie.Need-pair-fits-requires invariant-loop decreases-loop
-pair-fits-requires c κs =
-    let z = c.before.before.before.before in
-    let i = c.before.loop.invariant in
-    let t = c.loop-test.true in
+pair_fits-requires : tie.Need-pair_fits-requires invariant-loop-j decreases-loop-j
+pair_fits-requires c κs =
+    let z = c in
+    let i = c.loop-j.invariant in
+    let t = c.loop-j-test.true in
     (z.requires.0, (z.requires.1, ((i.0, t), (omega arith, le_refl (z.args.len + 1)))))
 
-returns : tie.Need-returns invariant-loop decreases-loop
-returns c =
-    let z = c.before.before.before.before.before.before in
+returns-then-not-pair_fits : tie.Need-returns-then-not-pair_fits invariant-loop-j decreases-loop-j
+returns-then-not-pair_fits c =
+    let z = c in
     let a = z.args in
-    let l = c.before.before.before.loop in
+    let l = c.loop-j in
     let pair = pair_of a.source.now a.m a.target.now a.n a.image.now a.len a.x in
-    let f = c.before.pair-fits in
-    sym (l.invariant.2 ∙ first_fails pair (a.len + 1) l.j c.before.before.loop-test.true (sym f.ensures ∙ not-true f.result c.if1.true))
+    let f = c.pair_fits in
+    sym (l.invariant.2 ∙ first_fails pair (a.len + 1) l.j c.loop-j-test.true (sym f.ensures ∙ c.if-not-pair_fits.true))
 
-pair-fits-requires-2 : tie.Need-pair-fits-requires-2 invariant-loop decreases-loop
-pair-fits-requires-2 c κs =
-    let z = c.before.before.before.before.before.before in
-    let i = c.before.before.before.loop.invariant in
-    let t = c.before.before.loop-test.true in
+pair_fits-requires-in-loop-j : tie.Need-pair_fits-requires-in-loop-j invariant-loop-j decreases-loop-j
+pair_fits-requires-in-loop-j c κs =
+    let z = c in
+    let i = c.loop-j.invariant in
+    let t = c.loop-j-test.true in
     (z.requires.0, (z.requires.1, ((omega arith, le_refl (z.args.len + 1)), (i.0, t))))
 
-returns-2 : tie.Need-returns-2 invariant-loop decreases-loop
-returns-2 c =
-    let z = c.before.before.before.before.before.before.before.before in
+returns-then-not-pair_fits-2 : tie.Need-returns-then-not-pair_fits-2 invariant-loop-j decreases-loop-j
+returns-then-not-pair_fits-2 c =
+    let z = c in
     let a = z.args in
-    let l = c.before.before.before.before.before.loop in
+    let l = c.loop-j in
     let pair = pair_of a.source.now a.m a.target.now a.n a.image.now a.len a.x in
-    let f = c.before.pair-fits2 in
-    sym (l.invariant.2 ∙ second_fails pair (a.len + 1) l.j c.before.before.before.before.loop-test.true (sym f.ensures ∙ not-true f.result c.if2.true))
+    let f = c.pair_fits-in-loop-j in
+    sym (l.invariant.2 ∙ second_fails pair (a.len + 1) l.j c.loop-j-test.true (sym f.ensures ∙ c.if-not-pair_fits-2.true))
 
-add-j : tie.Need-overflow-add-j invariant-loop decreases-loop
-add-j c = let t = c.before.before.before.before.loop-test.true in let r = c.before.before.before.before.before.before.before.before.requires.1.0.room in omega arith
+overflow_add-j : tie.Need-overflow_add-j invariant-loop-j decreases-loop-j
+overflow_add-j c = let t = c.loop-j-test.true in let r = c.requires.1.0.room in omega arith
 
-loop-less : tie.Need-loop-smaller invariant-loop decreases-loop
-loop-less c = let t = c.before.before.before.before.loop-test.true in omega arith
+loop-j-smaller : tie.Need-loop-j-smaller invariant-loop-j decreases-loop-j
+loop-j-smaller c = let t = c.loop-j-test.true in omega arith
 
-loop-again : tie.Need-loop-preserved invariant-loop decreases-loop
-loop-again c =
-    let z = c.before.before.before.before.before.before.before.before in
+loop-j-preserved : tie.Need-loop-j-preserved invariant-loop-j decreases-loop-j
+loop-j-preserved c =
+    let z = c in
     let a = z.args in
-    let l = c.before.before.before.before.before.loop in
-    let t = c.before.before.before.before.loop-test.true in
+    let l = c.loop-j in
+    let t = c.loop-j-test.true in
     let pair = pair_of a.source.now a.m a.target.now a.n a.image.now a.len a.x in
-    let f = c.before.before.before.pair-fits in
-    let g = c.before.pair-fits2 in
-    (omega arith, omega arith, l.invariant.2 ∙ both_fit pair (a.len + 1) l.j t (sym f.ensures ∙ not-false f.result c.before.before.if1.false) (sym g.ensures ∙ not-false g.result c.if2.false))
+    let f = c.pair_fits in
+    let g = c.pair_fits-in-loop-j in
+    (omega arith, omega arith, l.invariant.2 ∙ both_fit pair (a.len + 1) l.j t (sym f.ensures ∙ c.if-not-pair_fits.false) (sym g.ensures ∙ c.if-not-pair_fits-2.false))
 
-returns-3 : tie.Need-returns-3 invariant-loop decreases-loop
-returns-3 c =
-    let z = c.before.before.before.before in
+returns : tie.Need-returns invariant-loop-j decreases-loop-j
+returns c =
+    let z = c in
     let a = z.args in
-    let l = c.before.loop in
+    let l = c.loop-j in
     let pair = pair_of a.source.now a.m a.target.now a.n a.image.now a.len a.x in
-    sym (l.invariant.2 ∙ all_end (cross pair (a.len + 1)) (a.len + 1) l.j c.loop-test.false)
+    sym (l.invariant.2 ∙ all_end (cross pair (a.len + 1)) (a.len + 1) l.j c.loop-j-test.false)
 
 pub new_fits_spec : {M : Type 1} → statement M
 new_fits_spec =
     tie.close
     (tie.spec
-    invariant-loop
-    decreases-loop
-    add-next
-    loop-holds
-    pair-fits-requires
-    returns
-    pair-fits-requires-2
-    returns-2
-    add-j
-    loop-less
-    loop-again
-    returns-3)
+    invariant-loop-j
+    decreases-loop-j
+    overflow_add-next
+    loop-j-init
+    pair_fits-requires
+    returns-then-not-pair_fits
+    pair_fits-requires-in-loop-j
+    returns-then-not-pair_fits-2
+    overflow_add-j
+    loop-j-smaller
+    loop-j-preserved
+    returns)

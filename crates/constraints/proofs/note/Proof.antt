@@ -6,11 +6,11 @@ use lib.ListN.{set}
 use Rattle.constraints.proofs.note.Statement.{statement}
 use Rattle.constraints.proofs.note.Tie as tie
 
-returns : tie.Need-returns
-returns c = let z = c.before.before.before in ap (λ (b : Bool). set z.args.constraints.now z.args.place (cond b z.args.y 255)) (sym (sym c.before.allowed.ensures ∙ c.if1.true))
+returns-then-allowed : tie.Need-returns-then-allowed
+returns-then-allowed c = let z = c in ap (λ (b : Bool). set z.args.constraints.now z.args.place (cond b z.args.y 255)) (sym (sym c.allowed.ensures ∙ c.if-allowed.true))
 
-returns-2 : tie.Need-returns-2
-returns-2 c = let z = c.before.before.before in ap (λ (b : Bool). set z.args.constraints.now z.args.place (cond b z.args.y 255)) (sym (sym c.before.allowed.ensures ∙ c.if1.false))
+returns-else-allowed : tie.Need-returns-else-allowed
+returns-else-allowed c = let z = c in ap (λ (b : Bool). set z.args.constraints.now z.args.place (cond b z.args.y 255)) (sym (sym c.allowed.ensures ∙ c.if-allowed.false))
 
 pub note_spec : {M : Type 1} → statement M
 note_spec =
@@ -21,5 +21,5 @@ note_spec =
     (λ c. search rules)
     (λ c. search rules)
     (λ c. search rules)
-    returns
-    returns-2)
+    returns-then-allowed
+    returns-else-allowed)

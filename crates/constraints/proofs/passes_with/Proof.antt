@@ -11,42 +11,42 @@ use Rattle.constraints.proofs.Noting.{constraints_refuse, constraints_allow}
 use Rattle.constraints.proofs.passes_with.Statement.{statement}
 use Rattle.constraints.proofs.passes_with.Tie as tie
 
-add-settled : tie.Need-overflow-add-settled
-add-settled c = search rules
+overflow_add-len : tie.Need-overflow_add-len
+overflow_add-len c = search rules
 
 settled-requires : tie.Need-settled-requires
 settled-requires c κs = search rules
 
+returns-then-not-settled : tie.Need-returns-then-not-settled
+returns-then-not-settled c =
+    let z = c in
+    let a = z.args in
+    let source = z.requires.0.0 in
+    let trial = z.requires.1.0.0 in
+    let x = trial.element in
+    let n = z.requires.0.1.order in
+    let g = c.settled in
+    sym (constraints_refuse a.m (product a.m a.source.now) (product a.n a.target.now) (product_element a.m a.source.now source.size source.in_range)
+    (take a.len a.image.now) a.len (trial_length a.n a.image.now a.used.now a.len a.x trial) z.requires.1.0.1 a.x a.forced.now a.owner.now z.requires.1.1.0
+    source.order.1 z.requires.1.1.1 (omega arith) z.requires.1.0.2 (sym g.ensures ∙ c.if-not-settled.true))
+
+new_fits-requires : tie.Need-new_fits-requires
+new_fits-requires c κs = let z = c in (z.requires.0, (z.requires.1.0.0, z.requires.1.0.1))
+
 returns : tie.Need-returns
 returns c =
-    let z = c.before.before.before.before in
+    let z = c in
     let a = z.args in
     let source = z.requires.0.0 in
     let trial = z.requires.1.0.0 in
     let x = trial.element in
     let n = z.requires.0.1.order in
-    let g = c.before.settled in
-    sym (constraints_refuse a.m (product a.m a.source.now) (product a.n a.target.now) (product_element a.m a.source.now source.size source.in-range)
+    let g = c.settled in
+    c.new_fits.ensures
+    ∙ sym (constraints_allow a.m (product a.m a.source.now) (product a.n a.target.now) (product_element a.m a.source.now source.size source.in_range)
     (take a.len a.image.now) a.len (trial_length a.n a.image.now a.used.now a.len a.x trial) z.requires.1.0.1 a.x a.forced.now a.owner.now z.requires.1.1.0
-    source.order.1 z.requires.1.1.1 (omega arith) z.requires.1.0.2 (sym g.ensures ∙ not-true g.result c.if1.true))
-
-new-fits-requires : tie.Need-new-fits-requires
-new-fits-requires c κs = let z = c.before.before.before.before in (z.requires.0, (z.requires.1.0.0, z.requires.1.0.1))
-
-returns-2 : tie.Need-returns-2
-returns-2 c =
-    let z = c.before.before.before.before.before in
-    let a = z.args in
-    let source = z.requires.0.0 in
-    let trial = z.requires.1.0.0 in
-    let x = trial.element in
-    let n = z.requires.0.1.order in
-    let g = c.before.before.settled in
-    c.new-fits.ensures
-    ∙ sym (constraints_allow a.m (product a.m a.source.now) (product a.n a.target.now) (product_element a.m a.source.now source.size source.in-range)
-    (take a.len a.image.now) a.len (trial_length a.n a.image.now a.used.now a.len a.x trial) z.requires.1.0.1 a.x a.forced.now a.owner.now z.requires.1.1.0
-    source.order.1 z.requires.1.1.1 (omega arith) z.requires.1.0.2 (sym g.ensures ∙ not-false g.result c.before.if1.false))
+    source.order.1 z.requires.1.1.1 (omega arith) z.requires.1.0.2 (sym g.ensures ∙ c.if-not-settled.false))
 
 pub passes_with_spec : {M : Type 1} → statement M
 passes_with_spec =
-    tie.close (tie.spec add-settled settled-requires returns new-fits-requires returns-2)
+    tie.close (tie.spec overflow_add-len settled-requires returns-then-not-settled new_fits-requires returns)

@@ -5,11 +5,11 @@ use borrow.Author.Rules.{rules}
 use Rattle.constraints.proofs.settled.Statement.{statement}
 use Rattle.constraints.proofs.settled.Tie as tie
 
-returns : tie.Need-returns
-returns c = rw (sym c.before.allowed.ensures ∙ not-true c.before.allowed.result c.if1.true)
+returns-then-not-allowed : tie.Need-returns-then-not-allowed
+returns-then-not-allowed c = rw (sym c.allowed.ensures ∙ c.if-not-allowed.true)
 
-returns-2 : tie.Need-returns-2
-returns-2 c = c.allowed2.ensures ∙ rw (sym c.before.before.before.allowed.ensures ∙ not-false c.before.before.before.allowed.result c.before.before.if1.false)
+returns : tie.Need-returns
+returns c = c.allowed-2.ensures ∙ rw (sym c.allowed.ensures ∙ c.if-not-allowed.false)
 
 pub settled_spec : {M : Type 1} → statement M
 settled_spec =
@@ -17,7 +17,7 @@ settled_spec =
     (tie.spec
     (λ c. search rules)
     (λ c κs. search rules)
-    returns
+    returns-then-not-allowed
     (λ c. search rules)
     (λ c κs. search rules)
-    returns-2)
+    returns)

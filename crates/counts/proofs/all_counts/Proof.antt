@@ -13,7 +13,7 @@ use Rattle.counts.proofs.all_counts.Tie as tie
 
 tally-requires : tie.Need-tally-requires
 tally-requires c κs =
-    let s = c.before.before.before.before.before.before in
+    let s = c in
     let n = s.args.n in
     let limit = s.requires.order.1 in
     (s.requires, (diagonal_in_range n s.args.cells.now s.requires, omega arith))
@@ -21,15 +21,15 @@ tally-requires c κs =
 returns : tie.Need-returns
 returns c =
     let l = c.before.before.before.before.before in
-    let s = l.before.before in
+    let s = l in
     let n = s.args.n in
     let cells = s.args.cells.now in
     record {
-      frequency = c.before.frequencies.ensures;
+      frequency = c.frequencies.ensures;
       diagonal = c.tally.ensures ∙ per_element_same n (λ a. occurrences a (n + 1) n cells) (diagonal_frequency n (product n cells)) (λ a h. diagonal_counted n cells a);
-      row = l.line-counts.ensures.row;
-      column = l.line-counts.ensures.column;
-      commuting = l.line-counts.ensures.commuting;
+      row = l.line_counts-lines.ensures.row;
+      column = l.line_counts-lines.ensures.column;
+      commuting = l.line_counts-lines.ensures.commuting;
     }
 
 pub all_counts_spec : {M : Type 1} → statement M

@@ -19,77 +19,77 @@ use Rattle.counts.proofs.commuting.Tie as tie
 abbrev commute : Product → ℕ → ℕ → Bool
 commute s a b = eqb (s a b) (s b a)
 
-abbrev invariant-loop : tie.invariant-loop
-invariant-loop cells n a found₀ b₀ found b = Element (n + 1) b × (found ≡ count (commute (product n cells) a) (elements (b - 1)))
+abbrev invariant-loop-b : tie.invariant-loop-b
+invariant-loop-b cells n a found₀ b₀ found b = Element (n + 1) b × (found ≡ count (commute (product n cells) a) (elements (b - 1)))
 
-abbrev decreases-loop : tie.decreases-loop
-decreases-loop cells n a found₀ b₀ found b = n + 1 - b
+abbrev decreases-loop-b : tie.decreases-loop-b
+decreases-loop-b cells n a found₀ b₀ found b = n + 1 - b
 
 -- The element of a turn of the loop.
-module _ (t : tie.In-loop invariant-loop decreases-loop) where
-  abbrev start : tie.Start invariant-loop decreases-loop
+module _ (t : tie.In-loop-b invariant-loop-b decreases-loop-b) where
+  abbrev start : tie.Start invariant-loop-b decreases-loop-b
   start = t.before.before.before
 
   abbrev test : ℕ → Bool
   test = commute (product start.args.n start.args.cells.now) start.args.a
 
-  element : Element start.args.n t.before.loop.b
-  element = (t.before.loop.invariant.0.0, t.loop-test.true)
+  element : Element start.args.n t.loop-b.b
+  element = (t.loop-b.invariant.0.0, t.loop-b-test.true)
 
   limit : start.args.n ≤ 120
   limit = start.requires.0.order.1
 
-loop-holds : tie.Need-loop-init invariant-loop decreases-loop
-loop-holds c = let a = c.before.args in (omega arith, sym (count_elements_none (commute (product a.n a.cells.now) a.a)))
+loop-b-init : tie.Need-loop-b-init invariant-loop-b decreases-loop-b
+loop-b-init c = let a = c.args in (omega arith, sym (count_elements_none (commute (product a.n a.cells.now) a.a)))
 
-times-requires : tie.Need-times-requires invariant-loop decreases-loop
-times-requires c κs = let e = element c in search rules
+times-product-requires : tie.Need-times-product-requires invariant-loop-b decreases-loop-b
+times-product-requires c κs = let e = element c in search rules
 
-times-requires-2 : tie.Need-times-requires-2 invariant-loop decreases-loop
-times-requires-2 c κs = let e = element c.before in search rules
+times-turned-requires : tie.Need-times-turned-requires invariant-loop-b decreases-loop-b
+times-turned-requires c κs = let e = element c.before in search rules
 
-add-found : tie.Need-overflow-add-found invariant-loop decreases-loop
-add-found c =
+overflow_add-found : tie.Need-overflow_add-found invariant-loop-b decreases-loop-b
+overflow_add-found c =
     let t = c.before.before.before in
     let e = element t in
-    omega (arith, limit t, t.before.loop.invariant.1, count_elements (t.before.loop.b - 1) (test t))
+    omega (arith, limit t, t.loop-b.invariant.1, count_elements (t.loop-b.b - 1) (test t))
 
-add-b : tie.Need-overflow-add-b invariant-loop decreases-loop
-add-b c = let t = c.before.before.before in let e = element t in omega (arith, limit t)
+overflow_add-b : tie.Need-overflow_add-b invariant-loop-b decreases-loop-b
+overflow_add-b c = let t = c.before.before.before in let e = element t in omega (arith, limit t)
 
-loop-less : tie.Need-loop-smaller invariant-loop decreases-loop
-loop-less c = let t = c.before.before.before in let e = element t in omega arith
+loop-b-smaller : tie.Need-loop-b-smaller invariant-loop-b decreases-loop-b
+loop-b-smaller c = let t = c.before.before.before in let e = element t in omega arith
 
-loop-again : tie.Need-loop-preserved invariant-loop decreases-loop
-loop-again c =
+loop-b-preserved : tie.Need-loop-b-preserved invariant-loop-b decreases-loop-b
+loop-b-preserved c =
     let second = c.before in
     let first = second.before in
     let t = first.before in
-    let l = t.before.loop in
+    let l = t.loop-b in
     let e = element t in
-    let row = first.times.ensures.0 in
-    let column = second.times2.ensures.0 in
+    let row = first.times-product.ensures.0 in
+    let column = second.times-turned.ensures.0 in
     ⊎_elim (λ w. omega (arith, count_element_hit (test t) l.b e.0 (eq-eqb _ _ (sym row ∙ w.0.true ∙ column))))
-    (λ w. omega (arith, count_element_miss (test t) l.b e.0 (ne_eqb _ _ (λ q. w.0.left (row ∙ q ∙ sym column))))) c.if1.branch
+    (λ w. omega (arith, count_element_miss (test t) l.b e.0 (ne_eqb _ _ (λ q. w.0.left (row ∙ q ∙ sym column))))) c.if-product-turned.branch
 
-returns : tie.Need-returns invariant-loop decreases-loop
+returns : tie.Need-returns invariant-loop-b decreases-loop-b
 unfolding commuting
 returns c =
-    let l = c.before.loop in
-    let a = c.before.before.before.args in
+    let l = c.loop-b in
+    let a = c.args in
     l.invariant.1 ∙ ap (λ (k : ℕ). count (commute (product a.n a.cells.now) a.a) (elements k)) (let z : l.b - 1 ≡ a.n = omega arith in z)
 
 pub commuting_spec : {M : Type 1} → statement M
 commuting_spec =
     tie.close
     (tie.spec
-    invariant-loop
-    decreases-loop
-    loop-holds
-    times-requires
-    times-requires-2
-    add-found
-    add-b
-    loop-less
-    loop-again
+    invariant-loop-b
+    decreases-loop-b
+    loop-b-init
+    times-product-requires
+    times-turned-requires
+    overflow_add-found
+    overflow_add-b
+    loop-b-smaller
+    loop-b-preserved
     returns)

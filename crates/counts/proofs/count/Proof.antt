@@ -7,60 +7,63 @@ use Rattle.products.specs.InnerCounting.{occurrences}
 use Rattle.products.proofs.Counting.{occurs_none, occurs, occurs_not}
 use Rattle.counts.proofs.count.Statement.{statement}
 use Rattle.counts.proofs.count.Tie as tie
+use Rattle.counts.proofs.count.Lts.{then-cells-i, else-cells-i}
 
-abbrev invariant-loop : tie.invariant-loop
-invariant-loop cells k step a found₀ i₀ found i = (i ≤ k) × (found ≤ i) × (found ≡ occurrences a step i cells)
+abbrev invariant-loop-i : tie.invariant-loop-i
+invariant-loop-i cells k step a found₀ i₀ found i = (i ≤ k) × (found ≤ i) × (found ≡ occurrences a step i cells)
 
-abbrev decreases-loop : tie.decreases-loop
-decreases-loop cells k step a found₀ i₀ found i = k - i
+abbrev decreases-loop-i : tie.decreases-loop-i
+decreases-loop-i cells k step a found₀ i₀ found i = k - i
 
-loop-holds : tie.Need-loop-init invariant-loop decreases-loop
-loop-holds c = let a = c.args in (omega arith, omega arith, sym (occurs_none a.a a.step a.cells.now))
+loop-i-init : tie.Need-loop-i-init invariant-loop-i decreases-loop-i
+loop-i-init c = let a = c.args in (omega arith, omega arith, sym (occurs_none a.a a.step a.cells.now))
 
-mul-if1 : tie.Need-overflow-mul-if1 invariant-loop decreases-loop
-mul-if1 c = omega (arith, c.before.before.requires c.before.loop.i c.loop-test.true)
+overflow_mul-i : tie.Need-overflow_mul-i invariant-loop-i decreases-loop-i
+overflow_mul-i c = omega (arith, c.requires c.loop-i.i c.loop-i-test.true)
 
-shared-slice-read-if1 : tie.Need-shared-slice-read-if1 invariant-loop decreases-loop
-shared-slice-read-if1 c = let t = c.before in omega (arith, t.before.before.requires t.before.loop.i t.loop-test.true)
+bounds-cells-i : tie.Need-bounds-cells-i invariant-loop-i decreases-loop-i
+bounds-cells-i c = let t = c in omega (arith, t.requires t.loop-i.i t.loop-i-test.true)
 
-cast-if1 : tie.Need-overflow-cast-if1 invariant-loop decreases-loop
-cast-if1 c = let t = c.before in omega (arith, c.shared-slice-known.given (t.before.loop.i * t.before.before.args.step))
+overflow_cast-cells : tie.Need-overflow_cast-cells invariant-loop-i decreases-loop-i
+overflow_cast-cells c = let t = c in omega (arith, c.shared_slice_known-1.given (t.loop-i.i * t.args.step))
 
-add-found : tie.Need-overflow-add-found invariant-loop decreases-loop
-add-found c = omega arith
+overflow_add-found : tie.Need-overflow_add-found invariant-loop-i decreases-loop-i
+overflow_add-found c = omega arith
 
-add-i : tie.Need-overflow-add-i invariant-loop decreases-loop
-add-i c = omega arith
+overflow_add-i : tie.Need-overflow_add-i invariant-loop-i decreases-loop-i
+overflow_add-i c = omega arith
 
-loop-less : tie.Need-loop-smaller invariant-loop decreases-loop
-loop-less c = omega arith
+loop-i-smaller : tie.Need-loop-i-smaller invariant-loop-i decreases-loop-i
+loop-i-smaller c = omega arith
 
-loop-again : tie.Need-loop-preserved invariant-loop decreases-loop
-loop-again c =
-    let t = c.before.before in
-    let l = t.before.loop in
-    let a = t.before.before.args in
-    ⊎_elim (λ w. omega (arith, occurs a.a a.step a.cells.now l.i w.0.true))
-    (λ w. omega (arith, occurs_not a.a a.step a.cells.now l.i w.0.left)) c.if1.branch
+loop-i-preserved : tie.Need-loop-i-preserved invariant-loop-i decreases-loop-i
+loop-i-preserved c =
+    let t = c in
+    let l = t.loop-i in
+    let a = t.args in
+    elim c.if-cells-i.branch [
+      then-cells-i w ↦ omega (arith, occurs a.a a.step a.cells.now l.i w.if-cells-i.true)
+    | else-cells-i w ↦ omega (arith, occurs_not a.a a.step a.cells.now l.i w.if-cells-i.false)
+    ]
 
-returns : tie.Need-returns invariant-loop decreases-loop
+returns : tie.Need-returns invariant-loop-i decreases-loop-i
 returns c =
-    let l = c.before.loop in
-    let a = c.before.before.args in
+    let l = c.loop-i in
+    let a = c.args in
     l.invariant.2 ∙ ap (λ (j : ℕ). occurrences a.a a.step j a.cells.now) (let z : l.i ≡ a.k = omega arith in z)
 
 pub count_spec : {M : Type 1} → statement M
 count_spec =
     tie.close
     (tie.spec
-    invariant-loop
-    decreases-loop
-    loop-holds
-    mul-if1
-    shared-slice-read-if1
-    cast-if1
-    add-found
-    add-i
-    loop-less
-    loop-again
+    invariant-loop-i
+    decreases-loop-i
+    loop-i-init
+    overflow_mul-i
+    bounds-cells-i
+    overflow_cast-cells
+    overflow_add-found
+    overflow_add-i
+    loop-i-smaller
+    loop-i-preserved
     returns)

@@ -11,59 +11,59 @@ use Rattle.light.proofs.Choice.{middle_next, middle_good, middle_bad}
 use Rattle.light.proofs.associative_at.Statement.{statement}
 use Rattle.light.proofs.associative_at.Tie as tie
 
-abbrev invariant-loop : tie.invariant-loop
-invariant-loop cells n j i₀ i = (1 ≤ i) × ((x : ℕ) → Element (i - 1) x → all (associates (product n cells) x j) (elements n) ≡ true)
+abbrev invariant-loop-i : tie.invariant-loop-i
+invariant-loop-i cells n j i₀ i = (1 ≤ i) × ((x : ℕ) → Element (i - 1) x → all (associates (product n cells) x j) (elements n) ≡ true)
 
-abbrev decreases-loop : tie.decreases-loop
-decreases-loop cells n j i₀ i = suc n - i
+abbrev decreases-loop-i : tie.decreases-loop-i
+decreases-loop-i cells n j i₀ i = suc n - i
 
-abbrev table : tie.Start invariant-loop decreases-loop → Product
+abbrev table : tie.Start invariant-loop-i decreases-loop-i → Product
 table c = product c.args.n c.args.cells.now
 
-loop-holds : tie.Need-loop-init invariant-loop decreases-loop
-loop-holds c = (search rules, λ x h. absurd (let z : ⊥ = omega arith in z))
+loop-i-init : tie.Need-loop-i-init invariant-loop-i decreases-loop-i
+loop-i-init c = (search rules, λ x h. absurd (let z : ⊥ = omega arith in z))
 
-failing-third-requires : tie.Need-failing-third-requires invariant-loop decreases-loop
-failing-third-requires c κs = search rules
+failing_third-third-requires : tie.Need-failing_third-third-requires invariant-loop-i decreases-loop-i
+failing_third-third-requires c κs = search rules
 
-enum_told : tie.Need-enum-told invariant-loop decreases-loop
-enum_told c = search rules
+enum_told-1 : tie.Need-enum_told-1 invariant-loop-i decreases-loop-i
+enum_told-1 c = search rules
 
-returns : tie.Need-returns invariant-loop decreases-loop
-returns c =
+returns-in-At : tie.Need-returns-in-At invariant-loop-i decreases-loop-i
+returns-in-At c =
     let l = c.before.before.before.before in
-    middle_bad _ (table l.before.before) _ _ _ (l.loop.invariant.0, c.before.before.before.loop-test.true) (sym c.before.before.failing-third.ensures ∙ ap place_option c.enum_told.given.1)
+    middle_bad _ (table l.before) _ _ _ (l.loop-i.invariant.0, c.loop-i-test.true) (sym c.failing_third-third.ensures ∙ ap place_option c.in-At.is)
 
-enum-told-2 : tie.Need-enum-told-2 invariant-loop decreases-loop
-enum-told-2 c = search rules
+enum_told-in_default : tie.Need-enum_told-in_default invariant-loop-i decreases-loop-i
+enum_told-in_default c = search rules
 
-add-i : tie.Need-overflow-add-i invariant-loop decreases-loop
-add-i c = omega arith
+overflow_add-i : tie.Need-overflow_add-i invariant-loop-i decreases-loop-i
+overflow_add-i c = omega arith
 
-loop-less : tie.Need-loop-smaller invariant-loop decreases-loop
-loop-less c = omega arith
+loop-i-smaller : tie.Need-loop-i-smaller invariant-loop-i decreases-loop-i
+loop-i-smaller c = omega arith
 
-loop-again : tie.Need-loop-preserved invariant-loop decreases-loop
-loop-again c =
+loop-i-preserved : tie.Need-loop-i-preserved invariant-loop-i decreases-loop-i
+loop-i-preserved c =
     let l = c.before.before.before.before in
-    let v = l.loop.invariant in
-    (omega arith, middle_next _ (table l.before.before) _ _ v.0 v.1 (sym c.before.before.failing-third.ensures ∙ ap place_option c.enum-told2.given.1))
+    let v = l.loop-i.invariant in
+    (omega arith, middle_next _ (table l.before.before) _ _ v.0 v.1 (sym c.failing_third-third.ensures ∙ ap place_option c.in_default.is))
 
-returns-2 : tie.Need-returns-2 invariant-loop decreases-loop
-returns-2 c = middle_good _ (table c.before.before.before) _ _ c.loop-test.false c.before.loop.invariant.1
+returns : tie.Need-returns invariant-loop-i decreases-loop-i
+returns c = middle_good _ (table c.before.before.before) _ _ c.loop-i-test.false c.loop-i.invariant.1
 
 pub associative_at_spec : {M : Type 1} → statement M
 associative_at_spec =
     tie.close
     (tie.spec
-    invariant-loop
-    decreases-loop
-    loop-holds
-    failing-third-requires
-    enum_told
-    returns
-    enum-told-2
-    add-i
-    loop-less
-    loop-again
-    returns-2)
+    invariant-loop-i
+    decreases-loop-i
+    loop-i-init
+    failing_third-third-requires
+    enum_told-1
+    returns-in-At
+    enum_told-in_default
+    overflow_add-i
+    loop-i-smaller
+    loop-i-preserved
+    returns)

@@ -13,61 +13,61 @@ use Rattle.light.proofs.Choice.{through_next, through_good, through_bad}
 use Rattle.light.proofs.associative_through.Statement.{statement}
 use Rattle.light.proofs.associative_through.Tie as tie
 
-abbrev invariant-loop : tie.invariant-loop
-invariant-loop cells n list q₀ q = (q ≤ length list) × ((i : ℕ) → i < q → good_middle n (product n cells) (get_or list i 0) ≡ true)
+abbrev invariant-loop-q : tie.invariant-loop-q
+invariant-loop-q cells n list q₀ q = (q ≤ length list) × ((i : ℕ) → i < q → good_middle n (product n cells) (get_or list i 0) ≡ true)
 
-abbrev decreases-loop : tie.decreases-loop
-decreases-loop cells n list q₀ q = length list - q
+abbrev decreases-loop-q : tie.decreases-loop-q
+decreases-loop-q cells n list q₀ q = length list - q
 
-loop-holds : tie.Need-loop-init invariant-loop decreases-loop
-loop-holds c = (search rules, λ i h. absurd (let z : ⊥ = omega arith in z))
+loop-q-init : tie.Need-loop-q-init invariant-loop-q decreases-loop-q
+loop-q-init c = (search rules, λ i h. absurd (let z : ⊥ = omega arith in z))
 
-shared-slice-read-j : tie.Need-shared-slice-read-j invariant-loop decreases-loop
-shared-slice-read-j c = omega arith
+bounds-list-q : tie.Need-bounds-list-q invariant-loop-q decreases-loop-q
+bounds-list-q c = omega arith
 
-cast-j : tie.Need-overflow-cast-j invariant-loop decreases-loop
-cast-j c = omega (arith, c.shared-slice-known3.given c.before.before.loop.q)
+overflow_cast-j : tie.Need-overflow_cast-j invariant-loop-q decreases-loop-q
+overflow_cast-j c = omega (arith, c.shared_slice_known-in-loop-q-1.given c.loop-q.q)
 
-associative-at-requires : tie.Need-associative-at-requires invariant-loop decreases-loop
-associative-at-requires c κs =
-    let p = c.before.before.before.before.before.requires in
-    (p.0, p.1 _ (place_mem 0 _ _ c.before.loop-test.true))
+associative_at-requires : tie.Need-associative_at-requires invariant-loop-q decreases-loop-q
+associative_at-requires c κs =
+    let p = c.requires in
+    (p.0, p.1 _ (place_mem 0 _ _ c.loop-q-test.true))
 
-returns : tie.Need-returns invariant-loop decreases-loop
+returns-then-not-associative_at : tie.Need-returns-then-not-associative_at invariant-loop-q decreases-loop-q
+returns-then-not-associative_at c =
+    let l = c in
+    let a = l.args in
+    through_bad a.n (product a.n a.cells.now) a.list.now _ c.loop-q-test.true (sym c.associative_at.ensures ∙ c.if-not-associative_at.true)
+
+overflow_add-q : tie.Need-overflow_add-q invariant-loop-q decreases-loop-q
+overflow_add-q c = omega arith
+
+loop-q-smaller : tie.Need-loop-q-smaller invariant-loop-q decreases-loop-q
+loop-q-smaller c = omega arith
+
+loop-q-preserved : tie.Need-loop-q-preserved invariant-loop-q decreases-loop-q
+loop-q-preserved c =
+    let l = c in
+    let a = l.args in
+    (omega arith, through_next a.n (product a.n a.cells.now) a.list.now _ l.loop-q.invariant.1 (sym c.associative_at.ensures ∙ c.if-not-associative_at.false))
+
+returns : tie.Need-returns invariant-loop-q decreases-loop-q
 returns c =
-    let l = c.before.before.before.before in
-    let a = l.before.before.before.args in
-    through_bad a.n (product a.n a.cells.now) a.list.now _ c.before.before.before.loop-test.true (sym c.before.associative-at.ensures ∙ not-true _ c.if1.true)
-
-add-q : tie.Need-overflow-add-q invariant-loop decreases-loop
-add-q c = omega arith
-
-loop-less : tie.Need-loop-smaller invariant-loop decreases-loop
-loop-less c = omega arith
-
-loop-again : tie.Need-loop-preserved invariant-loop decreases-loop
-loop-again c =
-    let l = c.before.before.before.before in
-    let a = l.before.before.before.args in
-    (omega arith, through_next a.n (product a.n a.cells.now) a.list.now _ l.loop.invariant.1 (sym c.before.associative-at.ensures ∙ not-false _ c.if1.false))
-
-returns-2 : tie.Need-returns-2 invariant-loop decreases-loop
-returns-2 c =
-    let a = c.before.before.before.before.args in
-    through_good a.n (product a.n a.cells.now) a.list.now _ c.loop-test.false c.before.loop.invariant.1
+    let a = c.args in
+    through_good a.n (product a.n a.cells.now) a.list.now _ c.loop-q-test.false c.loop-q.invariant.1
 
 pub associative_through_spec : {M : Type 1} → statement M
 associative_through_spec =
     tie.close
     (tie.spec
-    invariant-loop
-    decreases-loop
-    loop-holds
-    shared-slice-read-j
-    cast-j
-    associative-at-requires
-    returns
-    add-q
-    loop-less
-    loop-again
-    returns-2)
+    invariant-loop-q
+    decreases-loop-q
+    loop-q-init
+    bounds-list-q
+    overflow_cast-j
+    associative_at-requires
+    returns-then-not-associative_at
+    overflow_add-q
+    loop-q-smaller
+    loop-q-preserved
+    returns)

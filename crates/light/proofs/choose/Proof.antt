@@ -15,145 +15,145 @@ use Rattle.light.proofs.Choice.{products_nil, next_generator, first_none, chosen
 use Rattle.light.proofs.choose.Statement.{statement}
 use Rattle.light.proofs.choose.Tie as tie
 
-abbrev invariant-loop : tie.invariant-loop
-invariant-loop cells n counts list₀ found₀ marks₀ count₀ k₀ x₀ list found marks count k x = (k ≤ n / 4) × (length list ≡ 30) × RarestFirst n (product n cells) list k × FoundProducts (product n cells) (take k list) found marks count × NextGenerator n (product n cells) (take k list) x
+abbrev invariant-loop-x : tie.invariant-loop-x
+invariant-loop-x cells n counts list₀ found₀ marks₀ count₀ k₀ x₀ list found marks count k x = (k ≤ n / 4) × (length list ≡ 30) × RarestFirst n (product n cells) list k × FoundProducts (product n cells) (take k list) found marks count × NextGenerator n (product n cells) (take k list) x
 
-abbrev decreases-loop : tie.decreases-loop
-decreases-loop cells n counts list₀ found₀ marks₀ count₀ k₀ x₀ list found marks count k x = n / 4 - k
+abbrev decreases-loop-x : tie.decreases-loop-x
+decreases-loop-x cells n counts list₀ found₀ marks₀ count₀ k₀ x₀ list found marks count k x = n / 4 - k
 
 -- There is room for one entry more, which is the next generator.
-module _ (c : tie.Else1 invariant-loop decreases-loop) where
-  abbrev at : tie.At-loop invariant-loop decreases-loop
+module _ (c : tie.Else-n-k invariant-loop-x decreases-loop-x) where
+  abbrev at : tie.At-loop-x invariant-loop-x decreases-loop-x
   at = c.before.before
 
-  room : at.loop.k < length at.loop.list
+  room : at.loop-x.k < length at.loop-x.list
   room =
-      let o = at.before.before.before.before.before.before.requires.order in
-      let size = at.loop.invariant.1 in
-      let t = c.if1.false in
+      let o = at.requires.order in
+      let size = at.loop-x.invariant.1 in
+      let t = c.if-n-k.false in
       omega arith
 
-  more : at.loop.k + 1 ≤ length (set at.loop.list at.loop.k at.loop.x)
-  more = let h = room in omega (arith, length-set at.loop.list at.loop.k at.loop.x)
+  more : at.loop-x.k + 1 ≤ length (set at.loop-x.list at.loop-x.k at.loop-x.x)
+  more = let h = room in omega (arith, length-set at.loop-x.list at.loop-x.k at.loop-x.x)
 
-  so_many : length (take (at.loop.k + 1) (set at.loop.list at.loop.k at.loop.x)) ≡ at.loop.k + 1
-  so_many = length-take-le (at.loop.k + 1) (set at.loop.list at.loop.k at.loop.x) more
+  so_many : length (take (at.loop-x.k + 1) (set at.loop-x.list at.loop-x.k at.loop-x.x)) ≡ at.loop-x.k + 1
+  so_many = length-take-le (at.loop-x.k + 1) (set at.loop-x.list at.loop-x.k at.loop-x.x) more
 
   abbrev table : Product
-  table = product at.before.before.before.before.before.before.args.n at.before.before.before.before.before.before.args.cells.now
+  table = product at.args.n at.args.cells.now
 
-  chosen : Rarest at.before.before.before.before.before.before.args.n (frequency at.before.before.before.before.before.before.args.n table) (λ y. LeftProduct table (take at.loop.k at.loop.list) y → ⊥) at.loop.x
-  chosen = next_rarest at.loop.invariant.4 c.before.loop-test.true
+  chosen : Rarest at.args.n (frequency at.args.n table) (λ y. LeftProduct table (take at.loop-x.k at.loop-x.list) y → ⊥) at.loop-x.x
+  chosen = next_rarest at.loop-x.invariant.4 c.loop-x-test.true
 
-  longer : RarestFirst at.before.before.before.before.before.before.args.n table (set at.loop.list at.loop.k at.loop.x) (at.loop.k + 1)
-  longer = chosen_next at.loop.invariant.2 at.loop.x room chosen
+  longer : RarestFirst at.args.n table (set at.loop-x.list at.loop-x.k at.loop-x.x) (at.loop-x.k + 1)
+  longer = chosen_next at.loop-x.invariant.2 at.loop-x.x room chosen
 
-frequencies-requires : tie.Need-frequencies-requires invariant-loop decreases-loop
-frequencies-requires c κs = c.before.requires
+frequencies-counts-requires : tie.Need-frequencies-counts-requires invariant-loop-x decreases-loop-x
+frequencies-counts-requires c κs = c.requires
 
-rarest-requires : tie.Need-rarest-requires invariant-loop decreases-loop
-rarest-requires c κs = c.before.before.before.before.requires.order.1
+rarest-x-requires : tie.Need-rarest-x-requires invariant-loop-x decreases-loop-x
+rarest-x-requires c κs = c.requires.order.1
 
-loop-holds : tie.Need-loop-init invariant-loop decreases-loop
-loop-holds c =
-    let s = c.before.before.before.before.before in
+loop-x-init : tie.Need-loop-x-init invariant-loop-x decreases-loop-x
+loop-x-init c =
+    let s = c in
     let f = products_nil (product s.args.n s.args.cells.now) in
-    (omega arith, refl, first_none _ _, f, next_generator _ _ _ _ _ _ _ _ s.requires.order.1 c.before.before.before.frequencies.ensures f c.rarest.ensures)
+    (omega arith, refl, first_none _ _, f, next_generator _ _ _ _ _ _ _ _ s.requires.order.1 c.frequencies-counts.ensures f c.rarest-x.ensures)
 
-returns : tie.Need-returns invariant-loop decreases-loop
-returns c =
-    let l = c.before.before in
-    let v = l.loop.invariant in
+returns-then-n-k : tie.Need-returns-then-n-k invariant-loop-x decreases-loop-x
+returns-then-n-k c =
+    let l = c in
+    let v = l.loop-x.invariant in
     let low = v.0 in
-    let t = c.if1.true in
-    let r = next_rarest v.4 c.before.loop-test.true in
+    let t = c.if-n-k.true in
+    let r = next_rarest v.4 c.loop-x-test.true in
     record { few = low; rarest_first = v.2; enough = λ e. absurd (clash e refl); given_up = λ e. (omega arith, _, r.element, r.free) }
 
-cast-list : tie.Need-overflow-cast-list invariant-loop decreases-loop
-cast-list c =
+overflow_cast-list : tie.Need-overflow_cast-list invariant-loop-x decreases-loop-x
+overflow_cast-list c =
     let h = (chosen c).element in
-    let o = (at c).before.before.before.before.before.before.requires.order in
+    let o = (at c).requires.order in
     omega arith
 
-array-write-list : tie.Need-array-write-list invariant-loop decreases-loop
-array-write-list c =
-    let o = (at c).before.before.before.before.before.before.requires.order in
-    let t = c.if1.false in
+bounds-list-k : tie.Need-bounds-list-k invariant-loop-x decreases-loop-x
+bounds-list-k c =
+    let o = (at c).requires.order in
+    let t = c.if-n-k.false in
     omega arith
 
-add-k : tie.Need-overflow-add-k invariant-loop decreases-loop
-add-k c =
-    let o = (at c).before.before.before.before.before.before.requires.order in
-    let t = c.if1.false in
+overflow_add-k : tie.Need-overflow_add-k invariant-loop-x decreases-loop-x
+overflow_add-k c =
+    let o = (at c).requires.order in
+    let t = c.if-n-k.false in
     omega arith
 
-array-share-prefix-list : tie.Need-array-share-prefix-list invariant-loop decreases-loop
-array-share-prefix-list c = more c
+slice_bounds-list-end : tie.Need-slice_bounds-list-end invariant-loop-x decreases-loop-x
+slice_bounds-list-end c = more c
 
-slice-aggregate-reach : tie.Need-slice-aggregate-reach invariant-loop decreases-loop
-slice-aggregate-reach c = sym (so_many c.before)
+slice_bounds-reach-end : tie.Need-slice_bounds-reach-end invariant-loop-x decreases-loop-x
+slice_bounds-reach-end c = sym (so_many c.before)
 
-reach-requires : tie.Need-reach-requires invariant-loop decreases-loop
-reach-requires c κs =
+reach-count-requires : tie.Need-reach-count-requires invariant-loop-x decreases-loop-x
+reach-count-requires c κs =
     let d = c.before.before.before in
-    let v = (at d).loop.invariant in
-    let n = (at d).before.before.before.before.before.before.args.n in
-    let f = (at d).before.before.before.before.before.before.requires in (
+    let v = (at d).loop-x.invariant in
+    let n = (at d).args.n in
+    let f = (at d).requires in (
       f,
       (
         chosen_inside (longer d),
         (
           omega (arith, so_many d),
-          subst (λ (l : List ℕ). FoundProducts (product n (at d).before.before.before.before.before.before.args.cells.now) l (at d).loop.found (at d).loop.marks (at d).loop.count)
-              (sym (chosen_before (at d).loop.list (at d).loop.k (at d).loop.x (room d))) v.3,
+          subst (λ (l : List ℕ). FoundProducts (product n (at d).args.cells.now) l (at d).loop-x.found (at d).loop-x.marks (at d).loop-x.count)
+              (sym (chosen_before (at d).loop-x.list (at d).loop-x.k (at d).loop-x.x (room d))) v.3,
         ),
       ),
     )
 
-rarest-requires-2 : tie.Need-rarest-requires-2 invariant-loop decreases-loop
-rarest-requires-2 c κs = c.before.before.before.before.before.before.before.before.before.before.before.before.before.before.requires.order.1
+rarest-x-requires-in-loop-x : tie.Need-rarest-x-requires-in-loop-x invariant-loop-x decreases-loop-x
+rarest-x-requires-in-loop-x c κs = c.requires.order.1
 
-loop-less : tie.Need-loop-smaller invariant-loop decreases-loop
-loop-less c =
-    let t = c.before.before.before.before.before.before.before.if1.false in
+loop-x-smaller : tie.Need-loop-x-smaller invariant-loop-x decreases-loop-x
+loop-x-smaller c =
+    let t = c.if-n-k.false in
     omega arith
 
-loop-again : tie.Need-loop-preserved invariant-loop decreases-loop
-loop-again c =
+loop-x-preserved : tie.Need-loop-x-preserved invariant-loop-x decreases-loop-x
+loop-x-preserved c =
     let d = c.before.before.before.before.before.before.before in
-    let t = d.if1.false in
+    let t = d.if-n-k.false in
     let s = (at d).before.before.before.before.before.before in
-    let r = c.before.before.before.reach.ensures in (
+    let r = c.reach-count.ensures in (
       omega arith,
-      length-set (at d).loop.list (at d).loop.k (at d).loop.x ∙ (at d).loop.invariant.1,
+      length-set (at d).loop-x.list (at d).loop-x.k (at d).loop-x.x ∙ (at d).loop-x.invariant.1,
       longer d,
       r,
-      next_generator _ (table d) _ _ _ _ _ _ s.requires.order.1 (at d).before.before.before.before.frequencies.ensures r c.rarest2.ensures,
+      next_generator _ (table d) _ _ _ _ _ _ s.requires.order.1 (at d).frequencies-counts.ensures r c.rarest-x-in-loop-x.ensures,
     )
 
-returns-2 : tie.Need-returns-2 invariant-loop decreases-loop
-returns-2 c =
-    let l = c.before in
-    let v = l.loop.invariant in
-    record { few = v.0; rarest_first = v.2; enough = λ e. no_generator v.3 v.4 c.loop-test.false; given_up = λ e. absurd (clash refl e) }
+returns : tie.Need-returns invariant-loop-x decreases-loop-x
+returns c =
+    let l = c in
+    let v = l.loop-x.invariant in
+    record { few = v.0; rarest_first = v.2; enough = λ e. no_generator v.3 v.4 c.loop-x-test.false; given_up = λ e. absurd (clash refl e) }
 
 pub choose_spec : {M : Type 1} → statement M
 choose_spec =
     tie.close
     (tie.spec
-    invariant-loop
-    decreases-loop
-    frequencies-requires
-    rarest-requires
-    loop-holds
-    returns
-    cast-list
-    array-write-list
-    add-k
-    array-share-prefix-list
-    slice-aggregate-reach
-    reach-requires
-    rarest-requires-2
-    loop-less
-    loop-again
-    returns-2)
+    invariant-loop-x
+    decreases-loop-x
+    frequencies-counts-requires
+    rarest-x-requires
+    loop-x-init
+    returns-then-n-k
+    overflow_cast-list
+    bounds-list-k
+    overflow_add-k
+    slice_bounds-list-end
+    slice_bounds-reach-end
+    reach-count-requires
+    rarest-x-requires-in-loop-x
+    loop-x-smaller
+    loop-x-preserved
+    returns)

@@ -57,7 +57,7 @@ propagate-from-requires c κs =
     let z = start t in
     let a = z.args in
     let l = (at-loop t).loop in
-    (z.pre, next_element a.m (product a.m a.source.now) a.n (product a.n a.target.now) (closed z) z.requires.0.order.1 a.rows.now l.rows l.used l.l l.invariant t.loop-test.true)
+    (z.requires, next_element a.m (product a.m a.source.now) a.n (product a.n a.target.now) (closed z) z.requires.0.order.1 a.rows.now l.rows l.used l.l l.invariant t.loop-test.true)
 
 returns : tie.Need-returns invariant-loop decreases-loop
 returns c =

@@ -5,11 +5,11 @@ use Rattle.sheets.proofs.Steps.{bare_data, bare_other}
 use Rattle.scanning.proofs.bare_step.Statement.{statement}
 use Rattle.scanning.proofs.bare_step.Tie as tie
 
-returns : tie.Need-returns
-returns c = bare_data _ _ (sym c.before.is-text-data.ensures ∙ c.if1.true)
+returns-then-is_text_data : tie.Need-returns-then-is_text_data
+returns-then-is_text_data c = bare_data _ _ (sym c.is_text_data.ensures ∙ c.if-is_text_data.true)
 
-returns-2 : tie.Need-returns-2
-returns-2 c = c.after-field.ensures ∙ bare_other _ _ (sym c.before.before.is-text-data.ensures ∙ c.before.if1.false)
+returns : tie.Need-returns
+returns c = c.after_field.ensures ∙ bare_other _ _ (sym c.is_text_data.ensures ∙ c.if-is_text_data.false)
 
 pub bare_step_spec : {M : Type 1} → statement M
-bare_step_spec = tie.close (tie.spec (λ c κs. search rules) returns (λ c κs. search rules) returns-2)
+bare_step_spec = tie.close (tie.spec (λ c κs. search rules) returns-then-is_text_data (λ c κs. search rules) returns)

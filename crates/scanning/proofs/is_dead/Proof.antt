@@ -6,36 +6,36 @@ use Rattle.sheets.specs.InnerAutomaton.{is_dead}
 use Rattle.scanning.proofs.is_dead.Statement.{statement}
 use Rattle.scanning.proofs.is_dead.Tie as tie
 
-returns : tie.Need-returns
+returns-in-Opening : tie.Need-returns-in-Opening
 unfolding is_dead
-returns c = rw c.enum_told.given.1 refl
+returns-in-Opening c = rw c.in-Opening.is refl
 
-returns-2 : tie.Need-returns-2
+returns-in-Bare : tie.Need-returns-in-Bare
 unfolding is_dead
-returns-2 c = rw c.enum-told2.given.1 refl
+returns-in-Bare c = rw c.in-Bare.is refl
 
-returns-3 : tie.Need-returns-3
+returns-in-Quoted : tie.Need-returns-in-Quoted
 unfolding is_dead
-returns-3 c = rw c.enum-told3.given.1 refl
+returns-in-Quoted c = rw c.in-Quoted.is refl
 
-returns-4 : tie.Need-returns-4
+returns-in-Shut : tie.Need-returns-in-Shut
 unfolding is_dead
-returns-4 c = rw c.enum-told4.given.1 refl
+returns-in-Shut c = rw c.in-Shut.is refl
 
-returns-5 : tie.Need-returns-5
+returns-in-Cr : tie.Need-returns-in-Cr
 unfolding is_dead
-returns-5 c = rw c.enum-told5.given.1 refl
+returns-in-Cr c = rw c.in-Cr.is refl
 
-returns-6 : tie.Need-returns-6
+returns-in-Line : tie.Need-returns-in-Line
 unfolding is_dead
-returns-6 c = rw c.enum-told6.given.1 refl
+returns-in-Line c = rw c.in-Line.is refl
 
-returns-7 : tie.Need-returns-7
+returns-in-Dead : tie.Need-returns-in-Dead
 unfolding is_dead
-returns-7 c = rw c.enum-told7.given.1 refl
+returns-in-Dead c = rw c.in-Dead.is refl
 
 pub is_dead_spec : {M : Type 1} → statement M
 is_dead_spec =
     tie.close
     (tie.spec (λ c. search rules) (λ c. search rules) (λ c. search rules) (λ c. search rules) (λ c. search rules)
-    (λ c. search rules) (λ c. search rules) returns returns-2 returns-3 returns-4 returns-5 returns-6 returns-7)
+    (λ c. search rules) (λ c. search rules) returns-in-Opening returns-in-Bare returns-in-Quoted returns-in-Shut returns-in-Cr returns-in-Line returns-in-Dead)

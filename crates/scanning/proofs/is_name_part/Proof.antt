@@ -6,13 +6,13 @@ use Rattle.sheets.specs.InnerAutomaton.{accepting}
 use Rattle.scanning.proofs.is_name_part.Statement.{statement}
 use Rattle.scanning.proofs.is_name_part.Tie as tie
 
-returns : tie.Need-returns
+returns-in-Number : tie.Need-returns-in-Number
 unfolding accepting
-returns c = rw c.enum_told.given.1 refl
+returns-in-Number c = rw c.in-Number.is refl
 
-returns-2 : tie.Need-returns-2
+returns-in-Name : tie.Need-returns-in-Name
 unfolding accepting
-returns-2 c = rw c.enum-told2.given.1 refl
+returns-in-Name c = rw c.in-Name.is refl
 
 pub is_name_part_spec : {M : Type 1} → statement M
-is_name_part_spec = tie.close (tie.spec (λ c. search rules) (λ c. search rules) returns returns-2)
+is_name_part_spec = tie.close (tie.spec (λ c. search rules) (λ c. search rules) returns-in-Number returns-in-Name)

@@ -5,14 +5,14 @@ use Rattle.sheets.proofs.Steps.{printable_in, printable_low, printable_high}
 use Rattle.scanning.proofs.is_printable.Statement.{statement}
 use Rattle.scanning.proofs.is_printable.Tie as tie
 
-returns : tie.Need-returns
-returns c = printable_in _ c.before.if1.false (let u = c.if2.true in omega arith)
+returns-in-32-to-126 : tie.Need-returns-in-32-to-126
+returns-in-32-to-126 c = printable_in _ c.if-b-lt32.false (let u = c.if-b-lt127.true in omega arith)
 
-returns-2 : tie.Need-returns-2
-returns-2 c = printable_low _ c.if1.true
+returns-in_default : tie.Need-returns-in_default
+returns-in_default c = printable_low _ c.if-b-lt32.true
 
-returns-3 : tie.Need-returns-3
-returns-3 c = printable_high _ c.if2.false
+returns-in_default-2 : tie.Need-returns-in_default-2
+returns-in_default-2 c = printable_high _ c.if-b-lt127.false
 
 pub is_printable_spec : {M : Type 1} → statement M
-is_printable_spec = tie.close (tie.spec returns returns-2 returns-3)
+is_printable_spec = tie.close (tie.spec returns-in-32-to-126 returns-in_default returns-in_default-2)

@@ -6,20 +6,20 @@ use Rattle.sheets.proofs.Steps.{quotable_lf, quotable_cr, quotable_quote, quotab
 use Rattle.scanning.proofs.is_quotable.Statement.{statement}
 use Rattle.scanning.proofs.is_quotable.Tie as tie
 
-is-printable-requires : tie.Need-is-printable-requires
-is-printable-requires c κs = search rules
+is_printable-requires : tie.Need-is_printable-requires
+is_printable-requires c κs = search rules
 
-returns : tie.Need-returns
-returns c = quotable_lf _ c.match.keys1
+returns-in-10 : tie.Need-returns-in-10
+returns-in-10 c = quotable_lf _ c.in-10.is
 
-returns-2 : tie.Need-returns-2
-returns-2 c = quotable_cr _ c.match.keys2
+returns-in-13 : tie.Need-returns-in-13
+returns-in-13 c = quotable_cr _ c.in-13.is
 
-returns-3 : tie.Need-returns-3
-returns-3 c = quotable_quote _ c.match.keys3
+returns-in-34 : tie.Need-returns-in-34
+returns-in-34 c = quotable_quote _ c.in-34.is
 
-returns-4 : tie.Need-returns-4
-returns-4 c = c.is-printable.ensures ∙ quotable_other _ c.before.match.rest.0.0.1 c.before.match.rest.0.1 c.before.match.rest.1
+returns-in_default : tie.Need-returns-in_default
+returns-in_default c = c.is_printable.ensures ∙ quotable_other _ c.in_default.in_default-own.rest.0.0.1 c.in_default.in_default-own.rest.0.1 c.in_default.in_default-own.rest.1
 
 pub is_quotable_spec : {M : Type 1} → statement M
-is_quotable_spec = tie.close (tie.spec is-printable-requires returns returns-2 returns-3 returns-4)
+is_quotable_spec = tie.close (tie.spec is_printable-requires returns-in-10 returns-in-13 returns-in-34 returns-in_default)

@@ -8,38 +8,38 @@ use Rattle.scanning.specs.InnerStates.{part_of}
 use Rattle.scanning.proofs.may_end.Statement.{statement}
 use Rattle.scanning.proofs.may_end.Tie as tie
 
-returns : tie.Need-returns
-returns c =
-    let s = c.before.before.state.given in
-    rw s.1 (c.is-name-part.ensures ∙ opening_ends (part_of s.0.0))
+returns-in-Opening : tie.Need-returns-in-Opening
+returns-in-Opening c =
+    let s = c.state-1.given in
+    rw s.1 (c.is_name_part.ensures ∙ opening_ends (part_of s.0.0))
 
-returns-2 : tie.Need-returns-2
-returns-2 c = rw c.before.before.state2.given.1 c.is-name-part2.ensures
+returns-in-Bare : tie.Need-returns-in-Bare
+returns-in-Bare c = rw c.in-Bare.is c.is_name_part-in-Bare.ensures
 
-returns-3 : tie.Need-returns-3
+returns-in-Quoted : tie.Need-returns-in-Quoted
 unfolding accepting
-returns-3 c = rw c.enum_told.given.1 refl
+returns-in-Quoted c = rw c.in-Quoted.is refl
 
-returns-4 : tie.Need-returns-4
-returns-4 c =
-    let s = c.before.before.state3.given in
-    rw s.1 (c.is-name-part3.ensures ∙ shut_ends (part_of s.0.0))
+returns-in-Shut : tie.Need-returns-in-Shut
+returns-in-Shut c =
+    let s = c.state-in-Shut-1.given in
+    rw s.1 (c.is_name_part-in-Shut.ensures ∙ shut_ends (part_of s.0.0))
 
-returns-5 : tie.Need-returns-5
+returns-in-Cr : tie.Need-returns-in-Cr
 unfolding accepting
-returns-5 c = rw c.enum-told2.given.1 refl
+returns-in-Cr c = rw c.in-Cr.is refl
 
-returns-6 : tie.Need-returns-6
+returns-in-Line : tie.Need-returns-in-Line
 unfolding accepting
-returns-6 c = rw c.enum-told3.given.1 refl
+returns-in-Line c = rw c.in-Line.is refl
 
-returns-7 : tie.Need-returns-7
+returns-in-Dead : tie.Need-returns-in-Dead
 unfolding accepting
-returns-7 c = rw c.enum-told4.given.1 refl
+returns-in-Dead c = rw c.in-Dead.is refl
 
 pub may_end_spec : {M : Type 1} → statement M
 may_end_spec =
     tie.close
     (tie.spec (λ c. search rules) (λ c κs. search rules) (λ c. search rules) (λ c κs. search rules) (λ c. search rules)
-    (λ c. search rules) (λ c κs. search rules) (λ c. search rules) (λ c. search rules) (λ c. search rules) returns returns-2
-    returns-3 returns-4 returns-5 returns-6 returns-7)
+    (λ c. search rules) (λ c κs. search rules) (λ c. search rules) (λ c. search rules) (λ c. search rules) returns-in-Opening returns-in-Bare
+    returns-in-Quoted returns-in-Shut returns-in-Cr returns-in-Line returns-in-Dead)

@@ -6,14 +6,14 @@ use Rattle.sheets.proofs.Steps.{opening_quote, opening_other}
 use Rattle.scanning.proofs.opening_step.Statement.{statement}
 use Rattle.scanning.proofs.opening_step.Tie as tie
 
+returns-then-b-eq34 : tie.Need-returns-then-b-eq34
+returns-then-b-eq34 c = opening_quote _ _ c.if-b-eq34.true
+
+bare_step-requires : tie.Need-bare_step-requires
+bare_step-requires c κs = search rules
+
 returns : tie.Need-returns
-returns c = opening_quote _ _ c.if1.true
-
-bare-step-requires : tie.Need-bare-step-requires
-bare-step-requires c κs = search rules
-
-returns-2 : tie.Need-returns-2
-returns-2 c = c.bare_step.ensures ∙ opening_other _ _ c.before.if1.false
+returns c = c.bare_step.ensures ∙ opening_other _ _ c.if-b-eq34.false
 
 pub opening_step_spec : {M : Type 1} → statement M
-opening_step_spec = tie.close (tie.spec returns bare-step-requires returns-2)
+opening_step_spec = tie.close (tie.spec returns-then-b-eq34 bare_step-requires returns)

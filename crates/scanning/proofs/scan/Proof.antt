@@ -10,54 +10,54 @@ use Rattle.scanning.specs.InnerStates.{state_of}
 use Rattle.scanning.proofs.scan.Statement.{statement}
 use Rattle.scanning.proofs.scan.Tie as tie
 
-abbrev invariant-loop : tie.invariant-loop
-invariant-loop text state₀ i₀ state i = Scanning text i (state_of state)
+abbrev invariant-loop-i : tie.invariant-loop-i
+invariant-loop-i text state₀ i₀ state i = Scanning text i (state_of state)
 
-abbrev decreases-loop : tie.decreases-loop
-decreases-loop text state₀ i₀ state i = length text - i
+abbrev decreases-loop-i : tie.decreases-loop-i
+decreases-loop-i text state₀ i₀ state i = length text - i
 
-loop-holds : tie.Need-loop-init invariant-loop decreases-loop
-loop-holds c = scan_first _
+loop-i-init : tie.Need-loop-i-init invariant-loop-i decreases-loop-i
+loop-i-init c = scan_first _
 
-shared-slice-read-step : tie.Need-shared-slice-read-step invariant-loop decreases-loop
-shared-slice-read-step c = omega arith
+bounds-text-i : tie.Need-bounds-text-i invariant-loop-i decreases-loop-i
+bounds-text-i c = omega arith
 
-step-requires : tie.Need-step-requires invariant-loop decreases-loop
-step-requires c κs = tt
+step-next-requires : tie.Need-step-next-requires invariant-loop-i decreases-loop-i
+step-next-requires c κs = tt
 
-is-dead-requires : tie.Need-is-dead-requires invariant-loop decreases-loop
-is-dead-requires c κs = tt
+is_dead-requires : tie.Need-is_dead-requires invariant-loop-i decreases-loop-i
+is_dead-requires c κs = tt
 
-returns : tie.Need-returns invariant-loop decreases-loop
+returns-then-is_dead : tie.Need-returns-then-is_dead invariant-loop-i decreases-loop-i
+returns-then-is_dead c =
+    let s = c.before.before in
+    let l = s in
+    sym (scan_dead _ _ _ l.loop-i.invariant s.loop-i-test.true (sym s.step-next.ensures ∙ dead_same _ (sym c.is_dead.ensures ∙ c.if-is_dead.true)))
+
+overflow_add-i : tie.Need-overflow_add-i invariant-loop-i decreases-loop-i
+overflow_add-i c = omega arith
+
+loop-i-smaller : tie.Need-loop-i-smaller invariant-loop-i decreases-loop-i
+loop-i-smaller c = omega arith
+
+loop-i-preserved : tie.Need-loop-i-preserved invariant-loop-i decreases-loop-i
+loop-i-preserved c =
+    let s = c.before.before in
+    let l = s in
+    scan_next _ _ _ l.loop-i.invariant s.loop-i-test.true _ s.step-next.ensures (sym c.is_dead.ensures ∙ c.if-is_dead.false)
+
+may_end-requires : tie.Need-may_end-requires invariant-loop-i decreases-loop-i
+may_end-requires c κs = tt
+
+returns-then-may_end : tie.Need-returns-then-may_end invariant-loop-i decreases-loop-i
+returns-then-may_end c =
+    let l = c in
+    sym (scan_sheet _ _ _ l.loop-i.invariant l.loop-i-test.false (sym c.may_end.ensures ∙ c.if-may_end.true))
+
+returns : tie.Need-returns invariant-loop-i decreases-loop-i
 returns c =
-    let s = c.before.before in
-    let l = s.before.before.before in
-    sym (scan_dead _ _ _ l.loop.invariant s.before.before.loop-test.true (sym s.step.ensures ∙ dead_same _ (sym c.before.is-dead.ensures ∙ c.if1.true)))
-
-add-i : tie.Need-overflow-add-i invariant-loop decreases-loop
-add-i c = omega arith
-
-loop-less : tie.Need-loop-smaller invariant-loop decreases-loop
-loop-less c = omega arith
-
-loop-again : tie.Need-loop-preserved invariant-loop decreases-loop
-loop-again c =
-    let s = c.before.before in
-    let l = s.before.before.before in
-    scan_next _ _ _ l.loop.invariant s.before.before.loop-test.true _ s.step.ensures (sym c.before.is-dead.ensures ∙ c.if1.false)
-
-may-end-requires : tie.Need-may-end-requires invariant-loop decreases-loop
-may-end-requires c κs = tt
-
-returns-2 : tie.Need-returns-2 invariant-loop decreases-loop
-returns-2 c =
-    let l = c.before.before in
-    sym (scan_sheet _ _ _ l.before.loop.invariant l.loop-test.false (sym c.before.may-end.ensures ∙ c.if2.true))
-
-returns-3 : tie.Need-returns-3 invariant-loop decreases-loop
-returns-3 c =
-    let l = c.before.before in
-    sym (scan_open _ _ _ l.before.loop.invariant l.loop-test.false (sym c.before.may-end.ensures ∙ c.if2.false))
+    let l = c in
+    sym (scan_open _ _ _ l.loop-i.invariant l.loop-i-test.false (sym c.may_end.ensures ∙ c.if-may_end.false))
 
 pub scan_spec : {M : Type 1} → statement M
-scan_spec = tie.close (tie.spec invariant-loop decreases-loop loop-holds shared-slice-read-step step-requires is-dead-requires returns add-i loop-less loop-again may-end-requires returns-2 returns-3)
+scan_spec = tie.close (tie.spec invariant-loop-i decreases-loop-i loop-i-init bounds-text-i step-next-requires is_dead-requires returns-then-is_dead overflow_add-i loop-i-smaller loop-i-preserved may_end-requires returns-then-may_end returns)

@@ -6,35 +6,35 @@ use Rattle.sheets.specs.InnerAutomaton.{state_after}
 use Rattle.scanning.proofs.step.Statement.{statement}
 use Rattle.scanning.proofs.step.Tie as tie
 
-returns : tie.Need-returns
+returns-in-Opening : tie.Need-returns-in-Opening
 unfolding state_after
-returns c = rw c.before.before.state.given.1 c.opening-step.ensures
+returns-in-Opening c = rw c.in-Opening.is c.opening_step.ensures
 
-returns-2 : tie.Need-returns-2
+returns-in-Bare : tie.Need-returns-in-Bare
 unfolding state_after
-returns-2 c = rw c.before.before.state2.given.1 c.bare_step.ensures
+returns-in-Bare c = rw c.in-Bare.is c.bare_step.ensures
 
-returns-3 : tie.Need-returns-3
-returns-3 c = rw c.before.before.state3.given.1 c.quoted-step.ensures
+returns-in-Quoted : tie.Need-returns-in-Quoted
+returns-in-Quoted c = rw c.in-Quoted.is c.quoted_step.ensures
 
-returns-4 : tie.Need-returns-4
-returns-4 c = rw c.before.before.state4.given.1 c.shut-step.ensures
+returns-in-Shut : tie.Need-returns-in-Shut
+returns-in-Shut c = rw c.in-Shut.is c.shut_step.ensures
 
-returns-5 : tie.Need-returns-5
-returns-5 c = rw c.before.enum_told.given.1 c.cr-step.ensures
+returns-in-Cr : tie.Need-returns-in-Cr
+returns-in-Cr c = rw c.in-Cr.is c.cr_step.ensures
 
-returns-6 : tie.Need-returns-6
+returns-in-Line : tie.Need-returns-in-Line
 unfolding state_after
-returns-6 c = rw c.before.enum-told2.given.1 c.opening-step2.ensures
+returns-in-Line c = rw c.in-Line.is c.opening_step-in-Line.ensures
 
-returns-7 : tie.Need-returns-7
+returns-in-Dead : tie.Need-returns-in-Dead
 unfolding state_after
-returns-7 c = rw c.enum-told3.given.1 refl
+returns-in-Dead c = rw c.in-Dead.is refl
 
 pub step_spec : {M : Type 1} → statement M
 step_spec =
     tie.close
     (tie.spec (λ c. search rules) (λ c κs. search rules) (λ c. search rules) (λ c κs. search rules) (λ c. search rules)
     (λ c κs. search rules) (λ c. search rules) (λ c κs. search rules) (λ c. search rules) (λ c κs. search rules)
-    (λ c. search rules) (λ c κs. search rules) (λ c. search rules) returns returns-2 returns-3 returns-4 returns-5 returns-6
-    returns-7)
+    (λ c. search rules) (λ c κs. search rules) (λ c. search rules) returns-in-Opening returns-in-Bare returns-in-Quoted returns-in-Shut returns-in-Cr returns-in-Line
+    returns-in-Dead)

@@ -8,37 +8,37 @@ use Rattle.rfc4180.proofs.Judging.{Counting, count_first, count_turn, count_more
 use Rattle.text.proofs.columns.Statement.{statement}
 use Rattle.text.proofs.columns.Tie as tie
 
-abbrev invariant-loop : tie.invariant-loop
-invariant-loop text n₀ at₀ comma₀ n at comma = Counting text n at comma
+abbrev invariant-loop-comma : tie.invariant-loop-comma
+invariant-loop-comma text n₀ at₀ comma₀ n at comma = Counting text n at comma
 
-abbrev decreases-loop : tie.decreases-loop
-decreases-loop text n₀ at₀ comma₀ n at comma = length text + 1 - at
+abbrev decreases-loop-comma : tie.decreases-loop-comma
+decreases-loop-comma text n₀ at₀ comma₀ n at comma = length text + 1 - at
 
-loop-holds : tie.Need-loop-init invariant-loop decreases-loop
-loop-holds c = count_first c.before.requires.0 c.before.requires.1
+loop-comma-init : tie.Need-loop-comma-init invariant-loop-comma decreases-loop-comma
+loop-comma-init c = count_first c.requires.0 c.requires.1
 
-next-field-requires : tie.Need-next-field-requires invariant-loop decreases-loop
-next-field-requires c κs = (count_turn c.before.loop.invariant c.loop-test.true).inside
+next_field-field-requires : tie.Need-next_field-field-requires invariant-loop-comma decreases-loop-comma
+next_field-field-requires c κs = (count_turn c.loop-comma.invariant c.loop-comma-test.true).inside
 
-add-n : tie.Need-overflow-add-n invariant-loop decreases-loop
-add-n c =
-    let l = c.before.before in
-    omega (arith, (count_turn l.loop.invariant c.before.loop-test.true).inside, l.loop.invariant.few)
+overflow_add-n : tie.Need-overflow_add-n invariant-loop-comma decreases-loop-comma
+overflow_add-n c =
+    let l = c in
+    omega (arith, (count_turn l.loop-comma.invariant c.loop-comma-test.true).inside, l.loop-comma.invariant.few)
 
-loop-less : tie.Need-loop-smaller invariant-loop decreases-loop
-loop-less c =
-    let f = c.next_field.ensures in
-    rw f (turn_forward (count_turn c.before.before.loop.invariant c.before.loop-test.true))
+loop-comma-smaller : tie.Need-loop-comma-smaller invariant-loop-comma decreases-loop-comma
+loop-comma-smaller c =
+    let f = c.next_field-field.ensures in
+    rw f (turn_forward (count_turn c.loop-comma.invariant c.loop-comma-test.true))
 
-loop-again : tie.Need-loop-preserved invariant-loop decreases-loop
-loop-again c =
-    let f = c.next_field.ensures in
-    rw f (count_more c.before.before.loop.invariant c.before.loop-test.true)
+loop-comma-preserved : tie.Need-loop-comma-preserved invariant-loop-comma decreases-loop-comma
+loop-comma-preserved c =
+    let f = c.next_field-field.ensures in
+    rw f (count_more c.loop-comma.invariant c.loop-comma-test.true)
 
-returns : tie.Need-returns invariant-loop decreases-loop
-returns c = count_last c.before.loop.invariant c.loop-test.false
+returns : tie.Need-returns invariant-loop-comma decreases-loop-comma
+returns c = count_last c.loop-comma.invariant c.loop-comma-test.false
 
 pub columns_spec : {M : Type 1} → statement M
 columns_spec =
     tie.close
-    (tie.spec invariant-loop decreases-loop loop-holds next-field-requires add-n loop-less loop-again returns)
+    (tie.spec invariant-loop-comma decreases-loop-comma loop-comma-init next_field-field-requires overflow_add-n loop-comma-smaller loop-comma-preserved returns)

@@ -16,17 +16,17 @@ not_below : (b : ℕ) → 48 ≤ b → leb b 57 ≡ is_digit b
 unfolding is_digit
 not_below b h = simp (le-leb 48 b h)
 
+returns-then-text-at : tie.Need-returns-then-text-at
+returns-then-text-at c = sym (past_digits c.args.text.now c.args.at c.if-text-at.true)
+
+bounds-text-at : tie.Need-bounds-text-at
+bounds-text-at c = search rules
+
+returns-then-b-lt48 : tie.Need-returns-then-b-lt48
+returns-then-b-lt48 c = sym (below_digit (get_or c.args.text.now c.args.at 0) c.if-b-lt48.true)
+
 returns : tie.Need-returns
-returns c = sym (past_digits c.before.args.text.now c.before.args.at c.if1.true)
-
-shared-slice-read-b : tie.Need-shared-slice-read-b
-shared-slice-read-b c = search rules
-
-returns-2 : tie.Need-returns-2
-returns-2 c = sym (below_digit (get_or c.before.before.before.args.text.now c.before.before.before.args.at 0) c.if2.true)
-
-returns-3 : tie.Need-returns-3
-returns-3 c = not_below (get_or c.before.before.before.args.text.now c.before.before.before.args.at 0) c.if2.false
+returns c = not_below (get_or c.args.text.now c.args.at 0) c.if-b-lt48.false
 
 pub digit_stands_spec : {M : Type 1} → statement M
-digit_stands_spec = tie.close (tie.spec returns shared-slice-read-b returns-2 returns-3)
+digit_stands_spec = tie.close (tie.spec returns-then-text-at bounds-text-at returns-then-b-lt48 returns)

@@ -8,58 +8,58 @@ use Rattle.rfc4180.proofs.Fields.{is_digit_law, below_digit, above_digit, digits
 use Rattle.text.proofs.digits_end.Statement.{statement}
 use Rattle.text.proofs.digits_end.Tie as tie
 
-abbrev invariant-loop : tie.invariant-loop
-invariant-loop text at i₀ i = (i ≤ length text) × (at + length (digits (drop at text)) ≡ i + length (digits (drop i text)))
+abbrev invariant-loop-i : tie.invariant-loop-i
+invariant-loop-i text at i₀ i = (i ≤ length text) × (at + length (digits (drop at text)) ≡ i + length (digits (drop i text)))
 
-abbrev decreases-loop : tie.decreases-loop
-decreases-loop text at i₀ i = length text - i
+abbrev decreases-loop-i : tie.decreases-loop-i
+decreases-loop-i text at i₀ i = length text - i
 
-loop-holds : tie.Need-loop-init invariant-loop decreases-loop
-loop-holds c = omega arith
+loop-i-init : tie.Need-loop-i-init invariant-loop-i decreases-loop-i
+loop-i-init c = omega arith
 
-shared-slice-read-b : tie.Need-shared-slice-read-b invariant-loop decreases-loop
-shared-slice-read-b c = omega arith
+bounds-text-i : tie.Need-bounds-text-i invariant-loop-i decreases-loop-i
+bounds-text-i c = omega arith
 
-returns : tie.Need-returns invariant-loop decreases-loop
+returns-then-b-lt48 : tie.Need-returns-then-b-lt48 invariant-loop-i decreases-loop-i
+returns-then-b-lt48 c =
+    let h = c in
+    let t = h.args.text.now in
+    omega (arith, ap length (digits_none t h.loop-i.i h.loop-i-test.true (below_digit _ c.if-b-lt48.true)))
+
+returns-then-b-gt57 : tie.Need-returns-then-b-gt57 invariant-loop-i decreases-loop-i
+returns-then-b-gt57 c =
+    let h = c in
+    let t = h.args.text.now in
+    omega (arith, ap length (digits_none t h.loop-i.i h.loop-i-test.true (above_digit _ c.if-b-gt57.true)))
+
+overflow_add-i : tie.Need-overflow_add-i invariant-loop-i decreases-loop-i
+overflow_add-i c = omega arith
+
+loop-i-smaller : tie.Need-loop-i-smaller invariant-loop-i decreases-loop-i
+loop-i-smaller c = omega arith
+
+loop-i-preserved : tie.Need-loop-i-preserved invariant-loop-i decreases-loop-i
+loop-i-preserved c =
+    let h = c in
+    let t = h.args.text.now in
+    omega (arith, ap length (digits_more t h.loop-i.i h.loop-i-test.true (is_digit_law _ c.if-b-lt48.false c.if-b-gt57.false)))
+
+returns : tie.Need-returns invariant-loop-i decreases-loop-i
 returns c =
-    let h = c.before.before in
-    let t = h.before.before.args.text.now in
-    omega (arith, ap length (digits_none t h.before.loop.i h.loop-test.true (below_digit _ c.if1.true)))
-
-returns-2 : tie.Need-returns-2 invariant-loop decreases-loop
-returns-2 c =
-    let h = c.before.before.before in
-    let t = h.before.before.args.text.now in
-    omega (arith, ap length (digits_none t h.before.loop.i h.loop-test.true (above_digit _ c.if2.true)))
-
-add-i : tie.Need-overflow-add-i invariant-loop decreases-loop
-add-i c = omega arith
-
-loop-less : tie.Need-loop-smaller invariant-loop decreases-loop
-loop-less c = omega arith
-
-loop-again : tie.Need-loop-preserved invariant-loop decreases-loop
-loop-again c =
-    let h = c.before.before.before in
-    let t = h.before.before.args.text.now in
-    omega (arith, ap length (digits_more t h.before.loop.i h.loop-test.true (is_digit_law _ c.before.if1.false c.if2.false)))
-
-returns-3 : tie.Need-returns-3 invariant-loop decreases-loop
-returns-3 c =
-    let t = c.before.before.args.text.now in
-    omega (arith, ap length (digits_past t c.before.loop.i c.loop-test.false))
+    let t = c.args.text.now in
+    omega (arith, ap length (digits_past t c.loop-i.i c.loop-i-test.false))
 
 pub digits_end_spec : {M : Type 1} → statement M
 digits_end_spec =
     tie.close
     (tie.spec
-    invariant-loop
-    decreases-loop
-    loop-holds
-    shared-slice-read-b
-    returns
-    returns-2
-    add-i
-    loop-less
-    loop-again
-    returns-3)
+    invariant-loop-i
+    decreases-loop-i
+    loop-i-init
+    bounds-text-i
+    returns-then-b-lt48
+    returns-then-b-gt57
+    overflow_add-i
+    loop-i-smaller
+    loop-i-preserved
+    returns)

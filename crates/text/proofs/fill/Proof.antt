@@ -14,85 +14,85 @@ use Rattle.rfc4180.proofs.Filling.{Filling, here, fill_first, fill_done, fill_le
 use Rattle.text.proofs.fill.Statement.{statement}
 use Rattle.text.proofs.fill.Tie as tie
 
-abbrev invariant-loop : tie.invariant-loop
-invariant-loop text cells₀ at₀ more₀ k₀ cells at more k = Filling text cells₀ cells at k more
+abbrev invariant-loop-more : tie.invariant-loop-more
+invariant-loop-more text cells₀ at₀ more₀ k₀ cells at more k = Filling text cells₀ cells at k more
 
-abbrev decreases-loop : tie.decreases-loop
-decreases-loop text cells₀ at₀ more₀ k₀ cells at more k = length text + 1 - at
+abbrev decreases-loop-more : tie.decreases-loop-more
+decreases-loop-more text cells₀ at₀ more₀ k₀ cells at more k = length text + 1 - at
 
 -- What is known in a turn.
-module _ (c : tie.After-next-field invariant-loop decreases-loop) where
-  abbrev at-loop : tie.At-loop invariant-loop decreases-loop
+module _ (c : tie.After-next_field-field invariant-loop-more decreases-loop-more) where
+  abbrev at-loop : tie.At-loop-more invariant-loop-more decreases-loop-more
   at-loop = c.before.before
 
-  abbrev start : tie.Start invariant-loop decreases-loop
+  abbrev start : tie.Start invariant-loop-more decreases-loop-more
   start = at-loop.before.before.before
 
-  abbrev inv : Filling start.args.text.now start.args.cells.now at-loop.loop.cells at-loop.loop.at at-loop.loop.k at-loop.loop.more
-  inv = at-loop.loop.invariant
+  abbrev inv : Filling start.args.text.now start.args.cells.now at-loop.loop-more.cells at-loop.loop-more.at at-loop.loop-more.k at-loop.loop-more.more
+  inv = at-loop.loop-more.invariant
 
-  abbrev goes_on : at-loop.loop.more ≡ true
-  goes_on = c.before.loop-test.true
+  abbrev goes_on : at-loop.loop-more.more ≡ true
+  goes_on = c.loop-more-test.true
 
   abbrev room : length (cells_of start.args.text.now) ≤ length start.args.cells.now
   room = start.requires.1.1.1
 
-  passes : Number (digits (drop at-loop.loop.at start.args.text.now))
+  passes : Number (digits (drop at-loop.loop-more.at start.args.text.now))
   passes = field_passed _ (fill_field inv goes_on)
 
-loop-holds : tie.Need-loop-init invariant-loop decreases-loop
-loop-holds c =
-    let s = c.before.before in
+loop-more-init : tie.Need-loop-more-init invariant-loop-more decreases-loop-more
+loop-more-init c =
+    let s = c in
     fill_first s.requires.0 s.requires.1.0 s.requires.1.1.0
 
-next-field-requires : tie.Need-next-field-requires invariant-loop decreases-loop
-next-field-requires c κs = (here c.before.loop.invariant c.loop-test.true).inside
+next_field-field-requires : tie.Need-next_field-field-requires invariant-loop-more decreases-loop-more
+next_field-field-requires c κs = (here c.loop-more.invariant c.loop-more-test.true).inside
 
-read-number-requires : tie.Need-read-number-requires invariant-loop decreases-loop
-read-number-requires c κs =
-    let f = c.next_field.ensures in
+read_number-requires : tie.Need-read_number-requires invariant-loop-more decreases-loop-more
+read_number-requires c κs =
+    let f = c.next_field-field.ensures in
     (rw f, ((passes c).some_byte, (passes c).short))
 
-cast-cells : tie.Need-overflow-cast-cells invariant-loop decreases-loop
-cast-cells c = omega (arith, (passes c.before).small, c.read_number.ensures)
+overflow_cast-cells : tie.Need-overflow_cast-cells invariant-loop-more decreases-loop-more
+overflow_cast-cells c = omega (arith, (passes c.before).small, c.read_number.ensures)
 
-slice-write-cells : tie.Need-slice-write-cells invariant-loop decreases-loop
-slice-write-cells c = fill_room (inv c.before) (goes_on c.before) (room c.before)
+bounds-cells-k : tie.Need-bounds-cells-k invariant-loop-more decreases-loop-more
+bounds-cells-k c = fill_room (inv c.before) (goes_on c.before) (room c.before)
 
-add-k : tie.Need-overflow-add-k invariant-loop decreases-loop
-add-k c = omega (arith, fill_room (inv c.before) (goes_on c.before) (room c.before), fill_length (inv c.before))
+overflow_add-k : tie.Need-overflow_add-k invariant-loop-more decreases-loop-more
+overflow_add-k c = omega (arith, fill_room (inv c.before) (goes_on c.before) (room c.before), fill_length (inv c.before))
 
-loop-less : tie.Need-loop-smaller invariant-loop decreases-loop
-loop-less c =
+loop-more-smaller : tie.Need-loop-more-smaller invariant-loop-more decreases-loop-more
+loop-more-smaller c =
     let x = c.before in
-    let f = x.next_field.ensures in
+    let f = x.next_field-field.ensures in
     rw f (turn_forward (here (inv x) (goes_on x)))
 
-loop-again : tie.Need-loop-preserved invariant-loop decreases-loop
-loop-again c =
+loop-more-preserved : tie.Need-loop-more-preserved invariant-loop-more decreases-loop-more
+loop-more-preserved c =
     let x = c.before in
-    let f = x.next_field.ensures in
+    let f = x.next_field-field.ensures in
     rw f (fill_next (inv x) (goes_on x) c.read_number.ensures)
 
-same_length : tie.Need-same-length invariant-loop decreases-loop
-same_length c = fill_length c.before.loop.invariant
+shape_of-cells : tie.Need-shape_of-cells invariant-loop-more decreases-loop-more
+shape_of-cells c = fill_length c.loop-more.invariant
 
-returns : tie.Need-returns invariant-loop decreases-loop
-returns c = fill_done c.before.loop.invariant c.before.before.before.before.requires.1.1.1 c.loop-test.false
+returns : tie.Need-returns invariant-loop-more decreases-loop-more
+returns c = fill_done c.loop-more.invariant c.requires.1.1.1 c.loop-more-test.false
 
 pub fill_spec : {M : Type 1} → statement M
 fill_spec =
     tie.close
     (tie.spec
-    invariant-loop
-    decreases-loop
-    loop-holds
-    next-field-requires
-    read-number-requires
-    cast-cells
-    slice-write-cells
-    add-k
-    loop-less
-    loop-again
-    same_length
+    invariant-loop-more
+    decreases-loop-more
+    loop-more-init
+    next_field-field-requires
+    read_number-requires
+    overflow_cast-cells
+    bounds-cells-k
+    overflow_add-k
+    loop-more-smaller
+    loop-more-preserved
+    shape_of-cells
     returns)

@@ -10,114 +10,114 @@ use Rattle.rfc4180.proofs.Scan.{other_from, begun, begin, begin_clear, pass, fai
 use Rattle.text.proofs.judge_bytes.Statement.{statement}
 use Rattle.text.proofs.judge_bytes.Tie as tie
 
-abbrev invariant-loop : tie.invariant-loop
-invariant-loop text i₀ i = (begun text i ≡ false) × (first_other text ≡ other_from text i)
+abbrev invariant-loop-i : tie.invariant-loop-i
+invariant-loop-i text i₀ i = (begun text i ≡ false) × (first_other text ≡ other_from text i)
 
-abbrev decreases-loop : tie.decreases-loop
-decreases-loop text i₀ i = length text - i
+abbrev decreases-loop-i : tie.decreases-loop-i
+decreases-loop-i text i₀ i = length text - i
 
-loop-holds : tie.Need-loop-init invariant-loop decreases-loop
-loop-holds c = (begin_clear _, begin _)
+loop-i-init : tie.Need-loop-i-init invariant-loop-i decreases-loop-i
+loop-i-init c = (begin_clear _, begin _)
 
-shared-slice-read-b : tie.Need-shared-slice-read-b invariant-loop decreases-loop
-shared-slice-read-b c = omega arith
+bounds-text-i : tie.Need-bounds-text-i invariant-loop-i decreases-loop-i
+bounds-text-i c = omega arith
 
-add-i : tie.Need-overflow-add-i invariant-loop decreases-loop
-add-i c = omega arith
+overflow_add-i : tie.Need-overflow_add-i invariant-loop-i decreases-loop-i
+overflow_add-i c = omega arith
 
-loop-less : tie.Need-loop-smaller invariant-loop decreases-loop
-loop-less c = omega arith
+loop-i-smaller-in-44 : tie.Need-loop-i-smaller-in-44 invariant-loop-i decreases-loop-i
+loop-i-smaller-in-44 c = omega arith
 
-loop-again : tie.Need-loop-preserved invariant-loop decreases-loop
-loop-again c =
-    let h = c.before.before in
-    (clear _ _ (λ e. omega (arith, c.match.keys1)), h.before.loop.invariant.1 ∙ pass _ _ h.loop-test.true (comma _ _ c.match.keys1))
+loop-i-preserved-in-44 : tie.Need-loop-i-preserved-in-44 invariant-loop-i decreases-loop-i
+loop-i-preserved-in-44 c =
+    let h = c in
+    (clear _ _ (λ e. omega (arith, c.in-44.is)), h.loop-i.invariant.1 ∙ pass _ _ h.loop-i-test.true (comma _ _ c.in-44.is))
 
-sub-if1 : tie.Need-overflow-sub-if1 invariant-loop decreases-loop
-sub-if1 c = omega arith
+overflow_sub-text : tie.Need-overflow_sub-text invariant-loop-i decreases-loop-i
+overflow_sub-text c = omega arith
 
-returns : tie.Need-returns invariant-loop decreases-loop
-returns c =
-    let h = c.before.before.before in
-    let v = h.before.loop.invariant in
-    other_refused _ _ (v.1 ∙ fail _ _ h.loop-test.true (lone_last _ _ v.0 c.if1.true c.before.match.keys2))
+returns-then-text-i-lt2 : tie.Need-returns-then-text-i-lt2 invariant-loop-i decreases-loop-i
+returns-then-text-i-lt2 c =
+    let h = c in
+    let v = h.loop-i.invariant in
+    other_refused _ _ (v.1 ∙ fail _ _ h.loop-i-test.true (lone_last _ _ v.0 c.if-text-i-lt2.true c.in-13.is))
 
-add-if2 : tie.Need-overflow-add-if2 invariant-loop decreases-loop
-add-if2 c = omega arith
+overflow_add-i-in-13 : tie.Need-overflow_add-i-in-13 invariant-loop-i decreases-loop-i
+overflow_add-i-in-13 c = omega arith
 
-shared-slice-read-if2 : tie.Need-shared-slice-read-if2 invariant-loop decreases-loop
-shared-slice-read-if2 c = omega arith
+bounds-text-i-in-13 : tie.Need-bounds-text-i-in-13 invariant-loop-i decreases-loop-i
+bounds-text-i-in-13 c = omega arith
 
-returns-2 : tie.Need-returns-2 invariant-loop decreases-loop
-returns-2 c =
-    let h = c.before.before.before.before.before in
-    let v = h.before.loop.invariant in
-    let k = c.before.before.before in
-    other_refused _ _ (v.1 ∙ fail _ _ h.loop-test.true (lone_inside _ _ v.0 k.match.keys2 c.if2.true))
+returns-then-text-i-ne10 : tie.Need-returns-then-text-i-ne10 invariant-loop-i decreases-loop-i
+returns-then-text-i-ne10 c =
+    let h = c in
+    let v = h.loop-i.invariant in
+    let k = c in
+    other_refused _ _ (v.1 ∙ fail _ _ h.loop-i-test.true (lone_inside _ _ v.0 k.in-13.is c.if-text-i-ne10.true))
 
-add-i-2 : tie.Need-overflow-add-i-2 invariant-loop decreases-loop
-add-i-2 c = omega arith
+overflow_add-i-in-13-2 : tie.Need-overflow_add-i-in-13-2 invariant-loop-i decreases-loop-i
+overflow_add-i-in-13-2 c = omega arith
 
-loop-less-2 : tie.Need-loop-smaller-2 invariant-loop decreases-loop
-loop-less-2 c = omega arith
+loop-i-smaller-in-13 : tie.Need-loop-i-smaller-in-13 invariant-loop-i decreases-loop-i
+loop-i-smaller-in-13 c = omega arith
 
-loop-again-2 : tie.Need-loop-preserved-2 invariant-loop decreases-loop
-loop-again-2 c =
-    let h = c.before.before.before.before.before in
-    let k = c.before.before.before in
-    (clear_pair _ _ c.if2.false, h.before.loop.invariant.1 ∙ pass_pair _ _ (omega arith) k.match.keys2 c.if2.false)
+loop-i-preserved-in-13 : tie.Need-loop-i-preserved-in-13 invariant-loop-i decreases-loop-i
+loop-i-preserved-in-13 c =
+    let h = c in
+    let k = c in
+    (clear_pair _ _ c.if-text-i-ne10.false, h.loop-i.invariant.1 ∙ pass_pair _ _ (omega arith) k.in-13.is c.if-text-i-ne10.false)
 
-add-i-3 : tie.Need-overflow-add-i-3 invariant-loop decreases-loop
-add-i-3 c = omega arith
+overflow_add-i-in-48-to-57 : tie.Need-overflow_add-i-in-48-to-57 invariant-loop-i decreases-loop-i
+overflow_add-i-in-48-to-57 c = omega arith
 
-loop-less-3 : tie.Need-loop-smaller-3 invariant-loop decreases-loop
-loop-less-3 c = omega arith
+loop-i-smaller : tie.Need-loop-i-smaller invariant-loop-i decreases-loop-i
+loop-i-smaller c = omega arith
 
-loop-again-3 : tie.Need-loop-preserved-3 invariant-loop decreases-loop
-loop-again-3 c =
+loop-i-preserved : tie.Need-loop-i-preserved invariant-loop-i decreases-loop-i
+loop-i-preserved c =
     let r = c.before.before in
-    let h = r.before.before in
-    (clear _ _ r.match.rest.1, h.before.loop.invariant.1 ∙ pass _ _ h.loop-test.true (digit _ _ c.before.if3.false (omega arith)))
+    let h = r in
+    (clear _ _ r.in_default-1.rest.1, h.loop-i.invariant.1 ∙ pass _ _ h.loop-i-test.true (digit _ _ c.if-b-lt48.false (omega arith)))
 
-returns-3 : tie.Need-returns-3 invariant-loop decreases-loop
-returns-3 c =
+returns-in_default : tie.Need-returns-in_default invariant-loop-i decreases-loop-i
+returns-in_default c =
     let r = c.before in
-    let h = r.before.before in
-    let v = h.before.loop.invariant in
-    other_refused _ _ (v.1 ∙ fail _ _ h.loop-test.true (low _ _ v.0 c.if3.true r.match.rest.0.1 r.match.rest.1))
+    let h = r in
+    let v = h.loop-i.invariant in
+    other_refused _ _ (v.1 ∙ fail _ _ h.loop-i-test.true (low _ _ v.0 c.if-b-lt48.true r.in_default-1.rest.0.1 r.in_default-1.rest.1))
 
-returns-4 : tie.Need-returns-4 invariant-loop decreases-loop
-returns-4 c =
+returns-in_default-2 : tie.Need-returns-in_default-2 invariant-loop-i decreases-loop-i
+returns-in_default-2 c =
     let r = c.before.before in
-    let h = r.before.before in
-    let v = h.before.loop.invariant in
-    other_refused _ _ (v.1 ∙ fail _ _ h.loop-test.true (high _ _ v.0 c.if4.false r.match.rest.0.1 r.match.rest.1))
+    let h = r in
+    let v = h.loop-i.invariant in
+    other_refused _ _ (v.1 ∙ fail _ _ h.loop-i-test.true (high _ _ v.0 c.if-b-lt58.false r.in_default-1.rest.0.1 r.in_default-1.rest.1))
 
-returns-5 : tie.Need-returns-5 invariant-loop decreases-loop
-returns-5 c = none_refused _ (c.before.loop.invariant.1 ∙ finish _ _ c.loop-test.false)
+returns : tie.Need-returns invariant-loop-i decreases-loop-i
+returns c = none_refused _ (c.loop-i.invariant.1 ∙ finish _ _ c.loop-i-test.false)
 
 pub judge_bytes_spec : {M : Type 1} → statement M
 judge_bytes_spec =
     tie.close
     (tie.spec
-    invariant-loop
-    decreases-loop
-    loop-holds
-    shared-slice-read-b
-    add-i
-    loop-less
-    loop-again
-    sub-if1
-    returns
-    add-if2
-    shared-slice-read-if2
-    returns-2
-    add-i-2
-    loop-less-2
-    loop-again-2
-    add-i-3
-    loop-less-3
-    loop-again-3
-    returns-3
-    returns-4
-    returns-5)
+    invariant-loop-i
+    decreases-loop-i
+    loop-i-init
+    bounds-text-i
+    overflow_add-i
+    loop-i-smaller-in-44
+    loop-i-preserved-in-44
+    overflow_sub-text
+    returns-then-text-i-lt2
+    overflow_add-i-in-13
+    bounds-text-i-in-13
+    returns-then-text-i-ne10
+    overflow_add-i-in-13-2
+    loop-i-smaller-in-13
+    loop-i-preserved-in-13
+    overflow_add-i-in-48-to-57
+    loop-i-smaller
+    loop-i-preserved
+    returns-in_default
+    returns-in_default-2
+    returns)

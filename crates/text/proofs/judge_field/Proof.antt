@@ -12,7 +12,7 @@ use Rattle.text.proofs.judge_field.Statement.{statement}
 use Rattle.text.proofs.judge_field.Tie as tie
 
 -- The field, where it has a byte.
-module _ (c : tie.Else1) where
+module _ (c : tie.Else-end-at-lt1) where
   abbrev start : tie.Start
   start = c.before.before
 
@@ -26,62 +26,62 @@ module _ (c : tie.Else1) where
   first = digits_first start.args.text.now start.args.at one
 
 -- Past the second test the field does not start with 0.
-leading : (c : tie.Else2) → get_or (field c.before.before) 0 0 ≡ 48 → ⊥
-leading c e = c.if2.false (sym (first c.before.before) ∙ e)
+leading : (c : tie.Else-text-at-eq48) → get_or (field c.before.before) 0 0 ≡ 48 → ⊥
+leading c e = c.if-text-at-eq48.false (sym (first c.before.before) ∙ e)
 
-sub-if1 : tie.Need-overflow-sub-if1
-sub-if1 c = search rules
+overflow_sub-end : tie.Need-overflow_sub-end
+overflow_sub-end c = search rules
 
-returns : tie.Need-returns
-returns c =
-    let s = c.before.before in
+returns-then-end-at-lt1 : tie.Need-returns-then-end-at-lt1
+returns-then-end-at-lt1 c =
+    let s = c in
     let whole = s.requires.1 in
     field_empty (digits (drop s.args.at s.args.text.now)) (omega arith)
 
-shared-slice-read-if2 : tie.Need-shared-slice-read-if2
-shared-slice-read-if2 c =
+bounds-text-at : tie.Need-bounds-text-at
+bounds-text-at c =
     let s = start c.before in
     (digit_here s.args.text.now s.args.at (one c.before)).0
 
-returns-2 : tie.Need-returns-2
-returns-2 c =
+returns-then-text-at-eq48 : tie.Need-returns-then-text-at-eq48
+returns-then-text-at-eq48 c =
     let x = c.before.before in
-    field_zero (field x) (first x ∙ c.if2.true)
+    field_zero (field x) (first x ∙ c.if-text-at-eq48.true)
 
-sub-if3 : tie.Need-overflow-sub-if3
-sub-if3 c = search rules
+overflow_sub-end-2 : tie.Need-overflow_sub-end-2
+overflow_sub-end-2 c = search rules
 
-returns-3 : tie.Need-returns-3
-returns-3 c =
+returns-then-end-at-gt3 : tie.Need-returns-then-end-at-gt3
+returns-then-end-at-gt3 c =
     let x = c.before.before.before in
     let whole = (start x).requires.1 in
     field_long (field x) (leading c.before) (omega arith)
 
-read-number-requires : tie.Need-read-number-requires
-read-number-requires c κs = search rules
+read_number-requires : tie.Need-read_number-requires
+read_number-requires c κs = search rules
 
-returns-4 : tie.Need-returns-4
-returns-4 c =
+returns-then-read_number-gt-ORDER : tie.Need-returns-then-read_number-gt-ORDER
+returns-then-read_number-gt-ORDER c =
     let x = c.before.before.before.before.before in
     let whole = (start x).requires.1 in
-    field_large (field x) (leading c.before.before.before) (one x) (omega arith) (rw c.before.read_number.ensures at c.if4.true)
+    field_large (field x) (leading c.before.before.before) (one x) (omega arith) (rw c.read_number.ensures at c.if-read_number-gt-ORDER.true)
 
-returns-5 : tie.Need-returns-5
-returns-5 c =
+returns : tie.Need-returns
+returns c =
     let x = c.before.before.before.before.before in
     let whole = (start x).requires.1 in
-    field_passes (field x) (leading c.before.before.before) (one x) (omega arith) (rw c.before.read_number.ensures at c.if4.false)
+    field_passes (field x) (leading c.before.before.before) (one x) (omega arith) (rw c.read_number.ensures at c.if-read_number-gt-ORDER.false)
 
 pub judge_field_spec : {M : Type 1} → statement M
 judge_field_spec =
     tie.close
     (tie.spec
-    sub-if1
-    returns
-    shared-slice-read-if2
-    returns-2
-    sub-if3
-    returns-3
-    read-number-requires
-    returns-4
-    returns-5)
+    overflow_sub-end
+    returns-then-end-at-lt1
+    bounds-text-at
+    returns-then-text-at-eq48
+    overflow_sub-end-2
+    returns-then-end-at-gt3
+    read_number-requires
+    returns-then-read_number-gt-ORDER
+    returns)

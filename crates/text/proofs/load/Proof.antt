@@ -16,84 +16,84 @@ use Rattle.text.proofs.load.Statement.{statement}
 use Rattle.text.proofs.load.Tie as tie
 
 -- What is known once 21, and 23 to 26 have passed.
-module _ (c : tie.After-enum-told) where
-  abbrev sized : tie.Else2
-  sized = c.before.before.before
+module _ (c : tie.In_default) where
+  abbrev sized : tie.Else-text-gt-TEXT
+  sized = c.before.before
 
   abbrev text_of : List ℕ
-  text_of = sized.before.before.before.before.args.text.now
+  text_of = sized.args.text.now
 
   abbrev some : 1 ≤ length text_of
-  some = sized.before.if1.left
+  some = sized.if-text-lt1.false
 
   bytes_pass : bytes_refusal text_of ≡ none
-  bytes_pass = sym c.before.before.judge-bytes.ensures ∙ ap judged_refusal c.enum_told.given.1
+  bytes_pass = sym c.judge_bytes-bytes.ensures ∙ ap judged_refusal c.in_default.is
 
-module _ (c : tie.After-enum-told2) where
-  abbrev counted : tie.After-columns
-  counted = c.before.before.before
+module _ (c : tie.In_default-fields) where
+  abbrev counted : tie.After-columns-n
+  counted = c.before.before
 
-  abbrev bytes-told : tie.After-enum-told
+  abbrev bytes-told : tie.In_default
   bytes-told = counted.before
 
-  grid_pass : grid_refusal counted.columns.result (text_of bytes-told) ≡ none
-  grid_pass = sym c.before.before.judge-fields.ensures ∙ ap judged_refusal c.enum-told2.given.1
+  grid_pass : grid_refusal counted.columns-n.result (text_of bytes-told) ≡ none
+  grid_pass = sym c.judge_fields-fields.ensures ∙ ap judged_refusal c.in_default-fields.is
 
-returns : tie.Need-returns
-returns c = load_refused _ _ (too_short _ _ c.if1.true)
+returns-then-text-lt1 : tie.Need-returns-then-text-lt1
+returns-then-text-lt1 c = load_refused _ _ (too_short _ _ c.if-text-lt1.true)
 
-returns-2 : tie.Need-returns-2
-returns-2 c = load_refused _ _ (too_long _ _ c.if2.true)
+returns-then-text-gt-TEXT : tie.Need-returns-then-text-gt-TEXT
+returns-then-text-gt-TEXT c = load_refused _ _ (too_long _ _ c.if-text-gt-TEXT.true)
 
-judge-bytes-requires : tie.Need-judge-bytes-requires
-judge-bytes-requires c κs = search rules
+judge_bytes-bytes-requires : tie.Need-judge_bytes-bytes-requires
+judge_bytes-bytes-requires c κs = search rules
 
-enum-known-bytes : tie.Need-enum-known-bytes
-enum-known-bytes c = search rules
+enum_known-bytes : tie.Need-enum_known-bytes
+enum_known-bytes c = search rules
 
-returns-3 : tie.Need-returns-3
-returns-3 c =
-    let s = c.before.before.before.before in
+returns-in-Failed : tie.Need-returns-in-Failed
+returns-in-Failed c =
+    let s = c in
     load_refused _ _
-    (bad_byte _ _ s.before.if1.false s.if2.false (sym c.before.before.before.judge-bytes.ensures ∙ ap judged_refusal c.before.bytes.given.1))
+    (bad_byte _ _ s.if-text-lt1.false s.if-text-gt-TEXT.false (sym c.judge_bytes-bytes.ensures ∙ ap judged_refusal c.in-Failed.is))
 
-enum_told : tie.Need-enum-told
-enum_told c = search rules
+enum_told-1 : tie.Need-enum_told-1
+enum_told-1 c = search rules
 
-columns-requires : tie.Need-columns-requires
-columns-requires c κs = (some c, bytes_pass c)
+columns-n-requires : tie.Need-columns-n-requires
+columns-n-requires c κs = (some c, bytes_pass c)
 
-judge-fields-requires : tie.Need-judge-fields-requires
-judge-fields-requires c κs = (some c.before, bytes_pass c.before)
+judge_fields-fields-requires : tie.Need-judge_fields-fields-requires
+judge_fields-fields-requires c κs = (some c.before, bytes_pass c.before)
 
-enum-known-fields : tie.Need-enum-known-fields
-enum-known-fields c = search rules
+enum_known-fields : tie.Need-enum_known-fields
+enum_known-fields c = search rules
 
-returns-4 : tie.Need-returns-4
-returns-4 c =
+returns-in-Failed-fields : tie.Need-returns-in-Failed-fields
+returns-in-Failed-fields c =
     let x = c.before.before.before.before.before in
     load_refused _ _
-    (bad_grid _ _ (some x) (sized x).if2.false (bytes_pass x) c.before.before.before.before.columns.ensures
-    (sym c.before.before.before.judge-fields.ensures ∙ ap judged_refusal c.before.fields.given.1))
+    (bad_grid _ _ (some x) (sized x).if-text-gt-TEXT.false (bytes_pass x) c.columns-n.ensures
+    (sym c.judge_fields-fields.ensures ∙ ap judged_refusal c.in-Failed-fields.is))
 
-enum-told-2 : tie.Need-enum-told-2
-enum-told-2 c = search rules
+enum_told-in_default-fields : tie.Need-enum_told-in_default-fields
+enum_told-in_default-fields c = search rules
 
-returns-5 : tie.Need-returns-5
-returns-5 c =
+returns-then-n-gt-ORDER : tie.Need-returns-then-n-gt-ORDER
+returns-then-n-gt-ORDER c =
     let y = c.before in
     let x = bytes-told y in
-    load_refused _ _ (bad_order _ _ (some x) (sized x).if2.left (bytes_pass x) (counted y).columns.ensures (grid_pass y) c.if3.true)
+    load_refused _ _ (bad_order _ _ (some x) (sized x).if-text-gt-TEXT.false (bytes_pass x) (counted y).columns-n.ensures (grid_pass y) c.if-n-gt-ORDER.true)
 
-mul-if4 : tie.Need-overflow-mul-if4
-mul-if4 c = omega (arith, square_small _ c.if3.false)
+overflow_mul-n : tie.Need-overflow_mul-n
+overflow_mul-n c = omega (arith, square_small _ c.if-n-gt-ORDER.false)
 
-returns-6 : tie.Need-returns-6
-returns-6 c =
+returns-then-cells-n : tie.Need-returns-then-cells-n
+returns-then-cells-n c =
     let y = c.before.before in
     let x = bytes-told y in
     load_refused _ _
-    (bad_room _ _ (some x) (sized x).if2.left (bytes_pass x) (counted y).columns.ensures (grid_pass y) c.before.if3.false c.if4.true)
+    (bad_room _ _ (some x) (sized x).if-text-gt-TEXT.false (bytes_pass x) (counted y).columns-n.ensures (grid_pass y) c.if-n-gt-ORDER.false c.if-cells-n.true)
 
 fill-requires : tie.Need-fill-requires
 fill-requires c κs =
@@ -102,38 +102,38 @@ fill-requires c κs =
     let g = grid_passed _ _ (grid_pass y) in
     (some x, (bytes_pass x, (g.numbers, omega (arith, cells_length _ _ g))))
 
-same_length : tie.Need-same-length
-same_length c = search rules
+shape_of-cells : tie.Need-shape_of-cells
+shape_of-cells c = search rules
 
-returns-7 : tie.Need-returns-7
-returns-7 c =
+returns : tie.Need-returns
+returns c =
     let y = c.before.before.before.before.before.before in
     let x = bytes-told y in
-    let n = (counted y).columns.ensures in
+    let n = (counted y).columns-n.ensures in
     let given =
     load_given _ _
-    (loads _ _ (some x) (sized x).if2.left (bytes_pass x) n (grid_pass y) c.before.before.before.before.before.if3.false
-    c.before.before.before.before.if4.false) in
-    (ap {B = Answer ℕ} gives n ∙ given.0, c.before.before.fill.ensures ∙ given.1)
+    (loads _ _ (some x) (sized x).if-text-gt-TEXT.false (bytes_pass x) n (grid_pass y) c.if-n-gt-ORDER.false
+    c.if-cells-n.false) in
+    (ap {B = Answer ℕ} gives n ∙ given.0, c.fill.ensures ∙ given.1)
 
 pub load_spec : {M : Type 1} → statement M
 load_spec =
     tie.close
     (tie.spec
-    returns
-    returns-2
-    judge-bytes-requires
-    enum-known-bytes
-    returns-3
-    enum_told
-    columns-requires
-    judge-fields-requires
-    enum-known-fields
-    returns-4
-    enum-told-2
-    returns-5
-    mul-if4
-    returns-6
+    returns-then-text-lt1
+    returns-then-text-gt-TEXT
+    judge_bytes-bytes-requires
+    enum_known-bytes
+    returns-in-Failed
+    enum_told-1
+    columns-n-requires
+    judge_fields-fields-requires
+    enum_known-fields
+    returns-in-Failed-fields
+    enum_told-in_default-fields
+    returns-then-n-gt-ORDER
+    overflow_mul-n
+    returns-then-cells-n
     fill-requires
-    same_length
-    returns-7)
+    shape_of-cells
+    returns)

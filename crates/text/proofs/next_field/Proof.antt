@@ -15,43 +15,43 @@ goes : {t : List ℕ} {at end next : ℕ} {comma more : Bool} → Goes t at end 
     → ◌≡◌ {A = Field} (record { end = end; next = next; comma = comma; more = more }) (field_at t at)
 goes g = cc (g.ending, g.place, g.same_record, g.further)
 
-field-end-requires : tie.Need-field-end-requires
-field-end-requires c κs = search rules
+field_end-end-requires : tie.Need-field_end-end-requires
+field_end-end-requires c κs = search rules
 
-add-t6 : tie.Need-overflow-add-t6
-add-t6 c = let s = c.before.before.before in omega (arith, end_inside s.args.text.now s.args.at s.requires)
+overflow_add-result : tie.Need-overflow_add-result
+overflow_add-result c = let s = c in omega (arith, end_inside s.args.text.now s.args.at s.requires)
+
+returns-then-text-end : tie.Need-returns-then-text-end
+returns-then-text-end c = goes (nothing_follows _ _ c.field_end-end.ensures c.if-text-end.true)
+
+bounds-text-end : tie.Need-bounds-text-end
+bounds-text-end c = search rules
+
+overflow_add-result-then-text-end-eq44 : tie.Need-overflow_add-result-then-text-end-eq44
+overflow_add-result-then-text-end-eq44 c = search rules
+
+returns-then-text-end-eq44 : tie.Need-returns-then-text-end-eq44
+returns-then-text-end-eq44 c = goes (comma_follows_law _ _ c.field_end-end.ensures c.if-text-end-eq44.true)
+
+overflow_add-result-2 : tie.Need-overflow_add-result-2
+overflow_add-result-2 c = search rules
+
+overflow_add-result-3 : tie.Need-overflow_add-result-3
+overflow_add-result-3 c = search rules
 
 returns : tie.Need-returns
-returns c = goes (nothing_follows _ _ c.before.field-end.ensures c.if1.true)
-
-shared-slice-read-if2 : tie.Need-shared-slice-read-if2
-shared-slice-read-if2 c = search rules
-
-add-t9 : tie.Need-overflow-add-t9
-add-t9 c = search rules
-
-returns-2 : tie.Need-returns-2
-returns-2 c = goes (comma_follows_law _ _ c.before.before.before.field-end.ensures c.if2.true)
-
-add-t4 : tie.Need-overflow-add-t4
-add-t4 c = search rules
-
-add-t10 : tie.Need-overflow-add-t10
-add-t10 c = search rules
-
-returns-3 : tie.Need-returns-3
-returns-3 c = goes (break_follows _ _ c.before.before.before.field-end.ensures c.if2.false)
+returns c = goes (break_follows _ _ c.field_end-end.ensures c.if-text-end-eq44.false)
 
 pub next_field_spec : {M : Type 1} → statement M
 next_field_spec =
     tie.close
     (tie.spec
-    field-end-requires
-    add-t6
-    returns
-    shared-slice-read-if2
-    add-t9
-    returns-2
-    add-t4
-    add-t10
-    returns-3)
+    field_end-end-requires
+    overflow_add-result
+    returns-then-text-end
+    bounds-text-end
+    overflow_add-result-then-text-end-eq44
+    returns-then-text-end-eq44
+    overflow_add-result-2
+    overflow_add-result-3
+    returns)
