@@ -12,7 +12,9 @@ ghost use Rattle.judging.specs.InnerTally.{tally_line};
 
 use comparisons::small;
 use judging::tally::{Tally, put_line};
-use libc::STDOUT_FILENO;
+
+// The descriptor of standard output.
+const STDOUT: i32 = 1;
 
 // Prints the line of a group. Returns its length.
 fn print(group: &[u8], tally: Tally) -> usize
@@ -21,7 +23,7 @@ fn print(group: &[u8], tally: Tally) -> usize
 {
     let mut out = [0u8; 100];
     let written = put_line(&mut out, group, tally);
-    io::write_all(STDOUT_FILENO, &out[..written]);
+    io::write_all(STDOUT, &out[..written]);
     written
 }
 

@@ -4,24 +4,47 @@
 
 #![tactic(auto)]
 
-use libc::STDOUT_FILENO;
+ghost use Rattle.std.specs.Prelude.{◌≡◌, ◌<◌, length};
+ghost use Rattle.io.specs.Counts.{IsPrefixLen};
+ghost use Rattle.rfc4180.specs.Questions.{longest_text};
+
 use progress::{Classifier, file_name};
+use reading::{Reading, descriptor, read_file};
+use std::fs;
+use std::str;
 use tables::limits::{CELLS, FILE};
 
-fn main() {
+// The descriptor of standard output.
+const STDOUT: i32 = 1;
+
+// Reads file k into `text`. A name that is no text, which no file has, counts as not opened.
+fn read_numbered(rt: &HostRuntime, k: usize, text: &mut [u8]) -> Reading
+    requires room { longest_text < length text.old }
+    ensures count { IsPrefixLen result.length text.new }
+    ensures size { length text.new ≡ length text.old }
+{
+    let name = file_name(k);
+    match str::from_utf8(&name) {
+        Ok(path) => {
+            let file = fs::open(rt, path);
+            read_file(descriptor(&file), text)
+        }
+        Err(_) => read_file(-1, text),
+    }
+}
+
+fn main(rt: HostRuntime) {
     let mut text = [0u8; FILE];
     let mut cells = [0u8; CELLS];
     let mut out = [0u8; 1700];
     let mut classifier = Classifier::start();
     let mut wanted = classifier.wanted();
     while wanted != 0 {
-        let name = file_name(wanted);
-        let fd = os::open_read(&name);
-        let reading = reading::read_file(fd, &mut text);
+        let reading = read_numbered(&rt, wanted, &mut text);
         let length = reading.length;
         classifier = classification::step(classifier, reading.opened, &text[..length], &mut cells);
         wanted = classifier.wanted();
     }
     let written = classification::put(classifier, &mut out);
-    io::write_all(STDOUT_FILENO, &out[..written]);
+    io::write_all(STDOUT, &out[..written]);
 }

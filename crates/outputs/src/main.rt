@@ -7,8 +7,11 @@
 ghost use Rattle.std.specs.Prelude.{◌≡◌, [], ◌∷◌, length};
 ghost use Rattle.output.specs.Program.{recue_output};
 
-use libc::{STDIN_FILENO, STDOUT_FILENO};
 use tables::limits::OUTPUT;
+
+// The descriptors of standard input and output.
+const STDIN: i32 = 0;
+const STDOUT: i32 = 1;
 
 // Prints the output for two files with these bytes. Returns its length.
 fn show(source: &[u8], target: &[u8]) -> usize
@@ -16,7 +19,7 @@ fn show(source: &[u8], target: &[u8]) -> usize
 {
     let mut out = [0u8; OUTPUT];
     let written = output::recue(source, target, &mut out);
-    io::write_all(STDOUT_FILENO, &out[..written]);
+    io::write_all(STDOUT, &out[..written]);
     written
 }
 
@@ -56,7 +59,7 @@ fn main() {
     refused(b"121\r\n");
     refused(b"1,1\r\n");
     let mut wide = [0u8; 29403];
-    let length = io::read_full(STDIN_FILENO, &mut wide);
+    let length = io::read_full(STDIN, &mut wide);
     refused(&wide[..length]);
     refused(b"2\r\n");
     refused(b"2,1\r\n1,1\r\n");

@@ -2,10 +2,14 @@
 
 #![tactic(auto)]
 
-ghost use Rattle.std.specs.Prelude.{◌≡◌, false, ◌<◌, length};
+ghost use Rattle.std.specs.Prelude.{◌≡◌, false, ◌<◌, length, IsErr};
 ghost use Rattle.io.specs.Counts.{IsPrefixLen};
 ghost use Rattle.rfc4180.specs.Questions.{longest_text};
 ghost use Rattle.reading.specs.Opened.{is_open};
+
+use std::fs::File;
+use std::io::Error;
+use std::os::fd::AsRawFd;
 
 // The result of reading a file: whether it could be opened, and how many bytes were read.
 #[derive(Clone, Copy)]
@@ -14,7 +18,17 @@ pub struct Reading {
     pub length: usize,
 }
 
-// Reads the file with this descriptor into `text` and closes it. Returns whether it was opened, which it was unless the descriptor is negative, and how many
+// Returns the descriptor of a file that a program tried to open, or -1 if it could not be opened.
+pub fn descriptor(file: &Result<File, Error>) -> i32
+    ensures unopened { IsErr file.now → is_open result ≡ false }
+{
+    match file {
+        Ok(opened) => opened.as_raw_fd(),
+        Err(_) => -1,
+    }
+}
+
+// Reads the file with this descriptor into `text`. Returns whether it was opened, which it was unless the descriptor is negative, and how many
 // bytes were read: 0 if it was not opened; if reading fails, those read until then.
 pub fn read_file(fd: i32, text: &mut [u8]) -> Reading
     requires room { longest_text < length text.old }
@@ -30,7 +44,6 @@ pub fn read_file(fd: i32, text: &mut [u8]) -> Reading
         };
     }
     let length = io::read_full(fd, text);
-    libc::close(fd);
     Reading {
         opened: true,
         length,

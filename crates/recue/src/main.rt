@@ -3,17 +3,23 @@
 
 #![tactic(auto)]
 
-use libc::STDOUT_FILENO;
+use reading::{descriptor, read_file};
+use std::fs;
 use tables::limits::{FILE, OUTPUT};
 
-fn main() {
+// The descriptor of standard output.
+const STDOUT: i32 = 1;
+
+fn main(rt: HostRuntime) {
     let mut source = [0u8; FILE];
     let mut target = [0u8; FILE];
     let mut out = [0u8; OUTPUT];
-    let first = reading::read_file(os::open_read(b"source.csv"), &mut source);
-    let second = reading::read_file(os::open_read(b"target.csv"), &mut target);
+    let source_file = fs::open(&rt, "source.csv");
+    let target_file = fs::open(&rt, "target.csv");
+    let first = read_file(descriptor(&source_file), &mut source);
+    let second = read_file(descriptor(&target_file), &mut target);
     let source_length = first.length;
     let target_length = second.length;
     let written = output::recue(&source[..source_length], &target[..target_length], &mut out);
-    io::write_all(STDOUT_FILENO, &out[..written]);
+    io::write_all(STDOUT, &out[..written]);
 }
