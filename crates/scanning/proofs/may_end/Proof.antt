@@ -9,9 +9,7 @@ use Rattle.scanning.proofs.may_end.Statement.{statement}
 use Rattle.scanning.proofs.may_end.Tie as tie
 
 returns-in-Opening : tie.Need-returns-in-Opening
-returns-in-Opening c =
-    let s = c.state-1.given in
-    rw s.1 (c.is_name_part.ensures ∙ opening_ends (part_of s.0.0))
+returns-in-Opening c = rw c.in-Opening.is (c.is_name_part.ensures ∙ opening_ends (part_of c.in-Opening.part))
 
 returns-in-Bare : tie.Need-returns-in-Bare
 returns-in-Bare c = rw c.in-Bare.is c.is_name_part-in-Bare.ensures
@@ -21,9 +19,7 @@ unfolding accepting
 returns-in-Quoted c = rw c.in-Quoted.is refl
 
 returns-in-Shut : tie.Need-returns-in-Shut
-returns-in-Shut c =
-    let s = c.state-in-Shut-1.given in
-    rw s.1 (c.is_name_part-in-Shut.ensures ∙ shut_ends (part_of s.0.0))
+returns-in-Shut c = rw c.in-Shut.is (c.is_name_part-in-Shut.ensures ∙ shut_ends (part_of c.in-Shut.part))
 
 returns-in-Cr : tie.Need-returns-in-Cr
 unfolding accepting
