@@ -6,7 +6,6 @@ use Prim.Native.Nat.{ℕ, ◌+◌}
 use native.Mathlib.Omega.{arith}
 use lib.ListN.{get_or}
 use borrow.Author.Rules.{rules}
-use borrow.Author.Tests.{not-true, not-false}
 use Rattle.rfc4180.specs.Decimals.{is_digit}
 use Rattle.text.proofs.Digits.{digits_from, none_from, digit_inside, one_more}
 use Rattle.text.proofs.field_end.Statement.{statement}

@@ -75,23 +75,17 @@ loop-i-smaller c = omega arith
 
 loop-i-preserved : tie.Need-loop-i-preserved invariant-loop-i decreases-loop-i
 loop-i-preserved c =
-    let r = c.before.before in
-    let h = r in
-    (clear _ _ r.in_default-1.rest.1, h.loop-i.invariant.1 ∙ pass _ _ h.loop-i-test.true (digit _ _ c.if-b-lt48.false (omega arith)))
+    (clear _ _ (λ e. omega (arith, e)), c.loop-i.invariant.1 ∙ pass _ _ c.loop-i-test.true (digit _ _ (omega arith) (omega arith)))
 
 returns-in_default : tie.Need-returns-in_default invariant-loop-i decreases-loop-i
 returns-in_default c =
-    let r = c.before in
-    let h = r in
-    let v = h.loop-i.invariant in
-    other_refused _ _ (v.1 ∙ fail _ _ h.loop-i-test.true (low _ _ v.0 c.if-b-lt48.true r.in_default-1.rest.0.1 r.in_default-1.rest.1))
+    let v = c.loop-i.invariant in
+    other_refused _ _ (v.1 ∙ fail _ _ c.loop-i-test.true (low _ _ v.0 (omega arith) (λ e. omega (arith, e)) (λ e. omega (arith, e))))
 
 returns-in_default-2 : tie.Need-returns-in_default-2 invariant-loop-i decreases-loop-i
 returns-in_default-2 c =
-    let r = c.before.before in
-    let h = r in
-    let v = h.loop-i.invariant in
-    other_refused _ _ (v.1 ∙ fail _ _ h.loop-i-test.true (high _ _ v.0 c.if-b-lt58.false r.in_default-1.rest.0.1 r.in_default-1.rest.1))
+    let v = c.loop-i.invariant in
+    other_refused _ _ (v.1 ∙ fail _ _ c.loop-i-test.true (high _ _ v.0 (omega arith) (λ e. omega (arith, e)) (λ e. omega (arith, e))))
 
 returns : tie.Need-returns invariant-loop-i decreases-loop-i
 returns c = none_refused _ (c.loop-i.invariant.1 ∙ finish _ _ c.loop-i-test.false)

@@ -3,7 +3,6 @@
 use mathlib.Core.Path.{◌≡◌, ap, sym, ◌∙◌}
 use mathlib.Core.Bool.{not, true, false}
 use mathlib.Core.Option.{none}
-use mathlib.Core.Logic.{⊎_elim}
 use mathlib.Core.List.{List}
 use Prim.Native.Nat.{ℕ, ◌+◌, ◌-◌}
 use native.Mathlib.Omega.{arith}
@@ -18,6 +17,7 @@ use Rattle.text.specs.Answers.{judged_refusal}
 use Rattle.rfc4180.proofs.Reading.{turn_forward}
 use Rattle.rfc4180.proofs.Judging.{Judging, here, judge_first, judge_refused, judge_comma, judge_break, judge_uneven, says_field, end_uneven, end_many, end_square}
 use Rattle.text.proofs.judge_fields.Statement.{statement}
+use Rattle.text.proofs.judge_fields.Lts.{then-column-n, else-column-n}
 use Rattle.text.proofs.judge_fields.Tie as tie
 
 abbrev invariant-loop-more : tie.invariant-loop-more
@@ -93,9 +93,10 @@ loop-more-preserved-then-not-field c =
     let f = field x in
     let comma : comma_follows (text_of x) (at-loop x).loop-more.at ≡ false = sym (ap (λ (r : Field). r.comma) f) ∙ not-true _ c.if-not-field.true in
     rw f
-    (⊎_elim (λ w. rw w.1 (judge_uneven (inv x) (goes_on x) (passes x) comma w.0.true))
-    (λ w. rw w.1 (judge_break (inv x) (goes_on x) (passes x) comma w.0.left))
-    c.if-column-n.branch)
+    (elim c.if-column-n.branch
+    [ then-column-n w ↦ rw w.square-is (judge_uneven (inv x) (goes_on x) (passes x) comma w.if-column-n.true)
+    | else-column-n w ↦ rw w.square-is (judge_break (inv x) (goes_on x) (passes x) comma w.if-column-n.false)
+    ])
 
 loop-more-smaller : tie.Need-loop-more-smaller invariant-loop-more decreases-loop-more
 loop-more-smaller c =

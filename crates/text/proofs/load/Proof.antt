@@ -71,7 +71,7 @@ enum_known-fields c = search rules
 
 returns-in-Failed-fields : tie.Need-returns-in-Failed-fields
 returns-in-Failed-fields c =
-    let x = c.before.before.before.before.before in
+    let x = c.before.before.before in
     load_refused _ _
     (bad_grid _ _ (some x) (sized x).if-text-gt-TEXT.false (bytes_pass x) c.columns-n.ensures
     (sym c.judge_fields-fields.ensures ∙ ap judged_refusal c.in-Failed-fields.is))
