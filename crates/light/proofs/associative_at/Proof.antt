@@ -5,7 +5,7 @@ use Prim.Native.Nat.{ℕ, suc, ◌-◌, ◌≤◌}
 use native.Mathlib.Omega.{arith}
 use borrow.Author.Rules.{rules}
 use Rattle.semigroups.specs.Lists.{elements, all}
-use Rattle.semigroups.specs.Tables.{Product, Element, product, associates}
+use Rattle.semigroups.specs.Tables.{Element, product, associates}
 use Rattle.answers.specs.Answers.{place_option}
 use Rattle.light.proofs.Choice.{middle_next, middle_good, middle_bad}
 use Rattle.light.proofs.associative_at.Statement.{statement}
@@ -16,9 +16,6 @@ invariant-loop-i cells n j i₀ i = (1 ≤ i) × ((x : ℕ) → Element (i - 1) 
 
 abbrev decreases-loop-i : tie.decreases-loop-i
 decreases-loop-i cells n j i₀ i = suc n - i
-
-abbrev table : tie.Start invariant-loop-i decreases-loop-i → Product
-table c = product c.args.n c.args.cells.now
 
 loop-i-init : tie.Need-loop-i-init invariant-loop-i decreases-loop-i
 loop-i-init c = (search rules, λ x h. absurd (let z : ⊥ = omega arith in z))
@@ -31,8 +28,7 @@ enum_told-1 c = search rules
 
 returns-in-At : tie.Need-returns-in-At invariant-loop-i decreases-loop-i
 returns-in-At c =
-    let l = c.before.before.before.before in
-    middle_bad _ (table l.before) _ _ _ (l.loop-i.invariant.0, c.loop-i-test.true) (sym c.failing_third-third.ensures ∙ ap place_option c.in-At.is)
+    middle_bad _ (product c.args.n c.args.cells.now) _ _ _ (c.loop-i.invariant.0, c.loop-i-test.true) (sym c.failing_third-third.ensures ∙ ap place_option c.in-At.is)
 
 enum_told-in_default : tie.Need-enum_told-in_default invariant-loop-i decreases-loop-i
 enum_told-in_default c = search rules
@@ -45,12 +41,11 @@ loop-i-smaller c = omega arith
 
 loop-i-preserved : tie.Need-loop-i-preserved invariant-loop-i decreases-loop-i
 loop-i-preserved c =
-    let l = c.before.before.before.before in
-    let v = l.loop-i.invariant in
-    (omega arith, middle_next _ (table l.before.before) _ _ v.0 v.1 (sym c.failing_third-third.ensures ∙ ap place_option c.in_default.is))
+    let v = c.loop-i.invariant in
+    (omega arith, middle_next _ (product c.args.n c.args.cells.now) _ _ v.0 v.1 (sym c.failing_third-third.ensures ∙ ap place_option c.in_default.is))
 
 returns : tie.Need-returns invariant-loop-i decreases-loop-i
-returns c = middle_good _ (table c.before.before.before) _ _ c.loop-i-test.false c.loop-i.invariant.1
+returns c = middle_good _ (product c.args.n c.args.cells.now) _ _ c.loop-i-test.false c.loop-i.invariant.1
 
 pub associative_at_spec : {M : Type 1} → statement M
 associative_at_spec =

@@ -4,7 +4,6 @@ use mathlib.Core.Bool.{true}
 use Prim.Native.Nat.{ℕ, suc, ◌-◌, ◌≤◌}
 use native.Mathlib.Omega.{arith}
 use borrow.Author.Rules.{rules}
-use borrow.Author.Tests.{not-true, not-false}
 use Rattle.semigroups.specs.Tables.{Product, Element, product}
 use Rattle.light.specs.InnerChoice.{good_middle}
 use Rattle.light.proofs.Choice.{everywhere_next, everywhere_good, everywhere_bad}

@@ -71,19 +71,19 @@ returns-then-n-k c =
 
 overflow_cast-list : tie.Need-overflow_cast-list invariant-loop-x decreases-loop-x
 overflow_cast-list c =
-    let h = (chosen c).element in
-    let o = (at c).requires.order in
+    let h = (next_rarest c.loop-x.invariant.4 c.loop-x-test.true).element in
+    let o = c.requires.order in
     omega arith
 
 bounds-list-k : tie.Need-bounds-list-k invariant-loop-x decreases-loop-x
 bounds-list-k c =
-    let o = (at c).requires.order in
+    let o = c.requires.order in
     let t = c.if-n-k.false in
     omega arith
 
 overflow_add-k : tie.Need-overflow_add-k invariant-loop-x decreases-loop-x
 overflow_add-k c =
-    let o = (at c).requires.order in
+    let o = c.requires.order in
     let t = c.if-n-k.false in
     omega arith
 

@@ -34,7 +34,7 @@ bounds-found-place c =
 
 overflow_cast-x : tie.Need-overflow_cast-x invariant-loop-i decreases-loop-i
 overflow_cast-x c =
-    let s = c.before.before.before in
+    let s = c.before.before.before.before in
     let o = s.requires.0.order in
     let x = x_element s in
     omega arith
@@ -54,7 +54,7 @@ overflow_cast-y c = omega (arith, c.shared_slice_known-in-loop-i-1.given c.loop-
 times-xy-requires : tie.Need-times-xy-requires invariant-loop-i decreases-loop-i
 times-xy-requires c κs =
     let l = c.before.before in
-    let s = l.before.before.before.before in
+    let s = l.before.before.before.before.before in
     (s.requires.0, (x_element s, s.requires.1.0 _ (place_mem 0 _ _ c.loop-i-test.true)))
 
 add-known-requires : tie.Need-add-known-requires invariant-loop-i decreases-loop-i

@@ -1,12 +1,8 @@
 -- `rarest` meets its contract. The invariant: what is chosen is the rarest of the elements so far that have no mark. Assumes nothing.
-use mathlib.Core.Path.{◌≡◌, sym, subst}
-use mathlib.Core.Logic.{⊎_elim}
-use Prim.Native.Nat.{ℕ, suc, ◌+◌, ◌-◌, ◌≤◌}
-use native.Mathlib.Omega.{arith}
-use borrow.Author.Rules.{rules}
+use mathlib.Core.Path.{◌≡◌}
+use Prim.Native.Nat.{suc, ◌+◌, ◌-◌, ◌≤◌}
 use lib.ListN.{get_or}
 use Rattle.light.specs.InnerChoice.{RarestOrNone}
-use Rattle.light.proofs.Choice.{rarest_start, rarest_at_most, rarest_skip, rarest_first, rarest_better, rarest_keep, rarest_end}
 use Rattle.light.proofs.rarest.Given as goal
 
 abbrev pub invariant-loop-x : goal.invariant-loop-x
