@@ -1,6 +1,5 @@
 -- `near_fits` meets its contract: the pair of the newest element and the next one is tested. Assumes nothing.
 use mathlib.Core.Path.{◌≡◌, sym, ap, ◌∙◌}
-use mathlib.Core.Logic.{⊎_elim}
 use Prim.Native.Nat.{ℕ, ◌+◌, max}
 use native.Mathlib.Nat.{max-eq_right}
 use native.Mathlib.Omega.{arith}
@@ -9,6 +8,7 @@ use Rattle.constraints.proofs.Constraints.{near_is}
 use Rattle.constraints.proofs.Placing.{next_length}
 use Rattle.constraints.proofs.near_fits.Statement.{statement}
 use Rattle.constraints.proofs.near_fits.Tie as tie
+use Rattle.constraints.proofs.near_fits.Lts.{then-len-eq0, else-len-eq0}
 
 -- What is known once the newest element is known.
 module _ (k : tie.Joined-len-eq0) where
@@ -20,10 +20,10 @@ module _ (k : tie.Joined-len-eq0) where
 
   is_newest : (max 1 z.args.len ≡ newest) × Element (z.args.len + 1) newest
   is_newest =
-      ⊎_elim
-      (λ w. (ap (max 1) w.0.true ∙ sym w.1, omega (arith, w.0.true, w.1)))
-      (λ w. (max-eq_right (omega (arith, w.0.left)) ∙ sym w.1, omega (arith, w.0.left, w.1)))
-      k.if-len-eq0.came
+      elim k.if-len-eq0.branch [
+        then-len-eq0 w ↦ (ap (max 1) w.if-len-eq0.true ∙ sym w.newest-is, omega (arith, w.if-len-eq0.true, w.newest-is))
+      | else-len-eq0 w ↦ (max-eq_right (omega (arith, w.if-len-eq0.false)) ∙ sym w.newest-is, omega (arith, w.if-len-eq0.false, w.newest-is))
+      ]
 
 overflow_add-len : tie.Need-overflow_add-len
 overflow_add-len c = let r = c.requires.1.0.room in omega arith

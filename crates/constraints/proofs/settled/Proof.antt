@@ -1,6 +1,5 @@
 -- `settled` meets its contract: both constraints are looked at. Assumes nothing.
 use mathlib.Core.Path.{sym, ◌∙◌}
-use borrow.Author.Tests.{not-true, not-false}
 use borrow.Author.Rules.{rules}
 use Rattle.constraints.proofs.settled.Statement.{statement}
 use Rattle.constraints.proofs.settled.Tie as tie
