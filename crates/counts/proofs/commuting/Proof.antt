@@ -4,7 +4,6 @@ use native.Mathlib.Omega.{arith}
 use Prim.Native.Nat.{ℕ, ◌+◌, ◌-◌, ◌≤◌}
 use mathlib.Core.Path.{◌≡◌, sym, ap, ◌∙◌}
 use mathlib.Core.Bool.{Bool}
-use mathlib.Core.Logic.{⊎_elim}
 use borrow.Author.Rules.{rules}
 use borrow.Author.Tests.{eq-eqb, ne_eqb}
 use lib.Dec.{eqb}
@@ -14,6 +13,7 @@ use Rattle.semigroups.specs.Invariants.{commuting}
 use Rattle.counts.proofs.Counts.{count_elements_none, count_element_hit, count_element_miss, count_elements}
 use Rattle.counts.proofs.commuting.Statement.{statement}
 use Rattle.counts.proofs.commuting.Tie as tie
+use Rattle.counts.proofs.commuting.Lts.{then-product-turned, else-product-turned}
 
 -- Whether b commutes with a.
 abbrev commute : Product → ℕ → ℕ → Bool
@@ -69,8 +69,10 @@ loop-b-preserved c =
     let e = element t in
     let row = first.times-product.ensures.0 in
     let column = second.times-turned.ensures.0 in
-    ⊎_elim (λ w. omega (arith, count_element_hit (test t) l.b e.0 (eq-eqb _ _ (sym row ∙ w.0.true ∙ column))))
-    (λ w. omega (arith, count_element_miss (test t) l.b e.0 (ne_eqb _ _ (λ q. w.0.left (row ∙ q ∙ sym column))))) c.if-product-turned.branch
+    elim c.if-product-turned.branch [
+      then-product-turned w ↦ omega (arith, w.found-is, count_element_hit (test t) l.b e.0 (eq-eqb _ _ (sym row ∙ w.if-product-turned.true ∙ column)))
+    | else-product-turned w ↦ omega (arith, w.found-is, count_element_miss (test t) l.b e.0 (ne_eqb _ _ (λ q. w.if-product-turned.false (row ∙ q ∙ sym column))))
+    ]
 
 returns : tie.Need-returns invariant-loop-b decreases-loop-b
 unfolding commuting

@@ -2,7 +2,6 @@
 use native.Mathlib.Omega.{arith}
 use Prim.Native.Nat.{ℕ, ◌-◌, ◌*◌, ◌≤◌}
 use mathlib.Core.Path.{◌≡◌, sym, ap, ◌∙◌}
-use mathlib.Core.Logic.{⊎_elim}
 use Rattle.products.specs.InnerCounting.{occurrences}
 use Rattle.products.proofs.Counting.{occurs_none, occurs, occurs_not}
 use Rattle.counts.proofs.count.Statement.{statement}
