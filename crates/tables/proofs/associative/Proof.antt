@@ -18,17 +18,17 @@ use Rattle.tables.proofs.associative.Tie as tie
 abbrev refusal : Option (List ℕ) → Option Refusal
 refusal o = map (λ l. no 4 l) o
 
-abbrev invariant-loop2 : tie.invariant-loop2
-invariant-loop2 cells n verdict₀ i j ij k₀ verdict k = (1 ≤ k) × (verdict ≡ Accepted) × (bad_triple n (product n cells) ≡ from_triple (fails (product n cells)) n i j k)
+abbrev invariant-loop-k : tie.invariant-loop-k
+invariant-loop-k cells n verdict₀ i j ij k₀ verdict k = (1 ≤ k) × (verdict ≡ Accepted) × (bad_triple n (product n cells) ≡ from_triple (fails (product n cells)) n i j k)
 
-abbrev decreases-loop2 : tie.decreases-loop2
-decreases-loop2 cells n verdict₀ i j ij k₀ verdict k = suc n - k
+abbrev decreases-loop-k : tie.decreases-loop-k
+decreases-loop-k cells n verdict₀ i j ij k₀ verdict k = suc n - k
 
-abbrev invariant-loop : tie.invariant-loop
-invariant-loop cells n verdict₀ i j₀ verdict j = (1 ≤ j) × (verdict ≡ Accepted) × (bad_triple n (product n cells) ≡ from_pair (fails (product n cells)) n i j)
+abbrev invariant-loop-j : tie.invariant-loop-j
+invariant-loop-j cells n verdict₀ i j₀ verdict j = (1 ≤ j) × (verdict ≡ Accepted) × (bad_triple n (product n cells) ≡ from_pair (fails (product n cells)) n i j)
 
-abbrev decreases-loop : tie.decreases-loop
-decreases-loop cells n verdict₀ i j₀ verdict j = suc n - j
+abbrev decreases-loop-j : tie.decreases-loop-j
+decreases-loop-j cells n verdict₀ i j₀ verdict j = suc n - j
 
 abbrev invariant-triples : tie.invariant-triples
 invariant-triples cells n verdict₀ i₀ verdict i = (1 ≤ i) × (verdict ≡ Accepted) × (bad_triple n (product n cells) ≡ from_first (fails (product n cells)) n i)
@@ -36,107 +36,107 @@ invariant-triples cells n verdict₀ i₀ verdict i = (1 ≤ i) × (verdict ≡ 
 abbrev decreases-triples : tie.decreases-triples
 decreases-triples cells n verdict₀ i₀ verdict i = suc n - i
 
-triples-holds : tie.Need-triples-init invariant-loop2 decreases-loop2 invariant-loop decreases-loop invariant-triples decreases-triples
+triples-init : tie.Need-triples-init invariant-loop-k decreases-loop-k invariant-loop-j decreases-loop-j invariant-triples decreases-triples
 unfolding bad_triple
-triples-holds c = (search rules, refl, triples_begin _ _)
+triples-init c = (search rules, refl, triples_begin _ _)
 
-loop-holds : tie.Need-loop-init invariant-loop2 decreases-loop2 invariant-loop decreases-loop invariant-triples decreases-triples
-loop-holds c =
-    let v = c.before.triples.invariant in
+loop-j-init : tie.Need-loop-j-init invariant-loop-k decreases-loop-k invariant-loop-j decreases-loop-j invariant-triples decreases-triples
+loop-j-init c =
+    let v = c.triples.invariant in
     (search rules, v.1, v.2 ∙ first_enter _ _ _ c.triples-test.true)
 
-times-requires : tie.Need-times-requires invariant-loop2 decreases-loop2 invariant-loop decreases-loop invariant-triples decreases-triples
+times-ij-requires : tie.Need-times-ij-requires invariant-loop-k decreases-loop-k invariant-loop-j decreases-loop-j invariant-triples decreases-triples
+times-ij-requires c κs = search rules
+
+loop-k-init : tie.Need-loop-k-init invariant-loop-k decreases-loop-k invariant-loop-j decreases-loop-j invariant-triples decreases-triples
+loop-k-init c =
+    let v = c.loop-j.invariant in
+    (search rules, v.1, v.2 ∙ pair_enter _ _ _ _ c.loop-j-test.true)
+
+times-jk-requires :
+    tie.Need-times-jk-requires invariant-loop-k decreases-loop-k invariant-loop-j decreases-loop-j invariant-triples decreases-triples
+times-jk-requires c κs = search rules
+
+times-requires :
+    tie.Need-times-requires invariant-loop-k decreases-loop-k invariant-loop-j decreases-loop-j invariant-triples decreases-triples
 times-requires c κs = search rules
 
-loop2-holds : tie.Need-loop2-init invariant-loop2 decreases-loop2 invariant-loop decreases-loop invariant-triples decreases-triples
-loop2-holds c =
-    let v = c.before.before.loop.invariant in
-    (search rules, v.1, v.2 ∙ pair_enter _ _ _ _ c.before.loop-test.true)
+times-requires-in-loop-k :
+    tie.Need-times-requires-in-loop-k invariant-loop-k decreases-loop-k invariant-loop-j decreases-loop-j invariant-triples decreases-triples
+times-requires-in-loop-k c κs = search rules
 
-times-requires-2 :
-    tie.Need-times-requires-2 invariant-loop2 decreases-loop2 invariant-loop decreases-loop invariant-triples decreases-triples
-times-requires-2 c κs = search rules
+overflow_add-k : tie.Need-overflow_add-k invariant-loop-k decreases-loop-k invariant-loop-j decreases-loop-j invariant-triples decreases-triples
+overflow_add-k c = omega arith
 
-times-requires-3 :
-    tie.Need-times-requires-3 invariant-loop2 decreases-loop2 invariant-loop decreases-loop invariant-triples decreases-triples
-times-requires-3 c κs = search rules
+loop-k-smaller : tie.Need-loop-k-smaller invariant-loop-k decreases-loop-k invariant-loop-j decreases-loop-j invariant-triples decreases-triples
+loop-k-smaller c = omega arith
 
-times-requires-4 :
-    tie.Need-times-requires-4 invariant-loop2 decreases-loop2 invariant-loop decreases-loop invariant-triples decreases-triples
-times-requires-4 c κs = search rules
+loop-k-preserved : tie.Need-loop-k-preserved invariant-loop-k decreases-loop-k invariant-loop-j decreases-loop-j invariant-triples decreases-triples
+loop-k-preserved c =
+    let h = c in
+    let v = h.loop-k.invariant in
+    let w = compared _ _ _ _ _ _ _ _ _ h.times-ij.ensures.0 c.times-jk.ensures.0 c.times.ensures.0 c.times-in-loop-k.ensures.0 in
+    (omega arith, v.1, v.2 ∙ triple_pass _ _ _ _ _ h.loop-k-test.true (no_failing _ _ _ _ (sym w.0 ∙ c.if-times.false ∙ w.1)))
 
-add-k : tie.Need-overflow-add-k invariant-loop2 decreases-loop2 invariant-loop decreases-loop invariant-triples decreases-triples
-add-k c = omega arith
+overflow_add-j : tie.Need-overflow_add-j invariant-loop-k decreases-loop-k invariant-loop-j decreases-loop-j invariant-triples decreases-triples
+overflow_add-j c = omega arith
 
-loop2-less : tie.Need-loop2-smaller invariant-loop2 decreases-loop2 invariant-loop decreases-loop invariant-triples decreases-triples
-loop2-less c = omega arith
+loop-j-smaller : tie.Need-loop-j-smaller invariant-loop-k decreases-loop-k invariant-loop-j decreases-loop-j invariant-triples decreases-triples
+loop-j-smaller c = omega arith
 
-loop2-again : tie.Need-loop2-preserved invariant-loop2 decreases-loop2 invariant-loop decreases-loop invariant-triples decreases-triples
-loop2-again c =
-    let h = c.before.before.before.before in
-    let v = h.before.loop2.invariant in
-    let w = compared _ _ _ _ _ _ _ _ _ h.before.before.times.ensures.0 c.before.before.before.times2.ensures.0 c.before.before.times3.ensures.0 c.before.times4.ensures.0 in
-    (omega arith, v.1, v.2 ∙ triple_pass _ _ _ _ _ h.loop2-test.true (no_failing _ _ _ _ (sym w.0 ∙ c.if1.false ∙ w.1)))
+loop-j-preserved : tie.Need-loop-j-preserved invariant-loop-k decreases-loop-k invariant-loop-j decreases-loop-j invariant-triples decreases-triples
+loop-j-preserved c =
+    let v = c.loop-k.invariant in
+    (omega arith, v.1, v.2 ∙ triple_leave _ _ _ _ _ c.loop-k-test.false)
 
-add-j : tie.Need-overflow-add-j invariant-loop2 decreases-loop2 invariant-loop decreases-loop invariant-triples decreases-triples
-add-j c = omega arith
+overflow_add-i : tie.Need-overflow_add-i invariant-loop-k decreases-loop-k invariant-loop-j decreases-loop-j invariant-triples decreases-triples
+overflow_add-i c = omega arith
 
-loop-less : tie.Need-loop-smaller invariant-loop2 decreases-loop2 invariant-loop decreases-loop invariant-triples decreases-triples
-loop-less c = omega arith
+triples-smaller : tie.Need-triples-smaller invariant-loop-k decreases-loop-k invariant-loop-j decreases-loop-j invariant-triples decreases-triples
+triples-smaller c = omega arith
 
-loop-again : tie.Need-loop-preserved invariant-loop2 decreases-loop2 invariant-loop decreases-loop invariant-triples decreases-triples
-loop-again c =
-    let v = c.before.loop2.invariant in
-    (omega arith, v.1, v.2 ∙ triple_leave _ _ _ _ _ c.loop2-test.false)
+triples-preserved : tie.Need-triples-preserved invariant-loop-k decreases-loop-k invariant-loop-j decreases-loop-j invariant-triples decreases-triples
+triples-preserved c =
+    let v = c.loop-j.invariant in
+    (omega arith, v.1, v.2 ∙ pair_leave _ _ _ _ c.loop-j-test.false)
 
-add-i : tie.Need-overflow-add-i invariant-loop2 decreases-loop2 invariant-loop decreases-loop invariant-triples decreases-triples
-add-i c = omega arith
-
-triples-less : tie.Need-triples-smaller invariant-loop2 decreases-loop2 invariant-loop decreases-loop invariant-triples decreases-triples
-triples-less c = omega arith
-
-triples-again : tie.Need-triples-preserved invariant-loop2 decreases-loop2 invariant-loop decreases-loop invariant-triples decreases-triples
-triples-again c =
-    let v = c.before.loop.invariant in
-    (omega arith, v.1, v.2 ∙ pair_leave _ _ _ _ c.loop-test.false)
-
-returns : tie.Need-returns invariant-loop2 decreases-loop2 invariant-loop decreases-loop invariant-triples decreases-triples
-returns c =
-    let v = c.before.triples.invariant in
+returns-after-triples : tie.Need-returns-after-triples invariant-loop-k decreases-loop-k invariant-loop-j decreases-loop-j invariant-triples decreases-triples
+returns-after-triples c =
+    let v = c.triples.invariant in
     ap verdict_refusal v.1 ∙ sym (ap refusal (v.2 ∙ triples_end _ _ _ c.triples-test.false))
 
-returns-2 : tie.Need-returns-2 invariant-loop2 decreases-loop2 invariant-loop decreases-loop invariant-triples decreases-triples
-returns-2 c =
-    let h = c.before.before.before.before in
-    let v = h.before.loop2.invariant in
-    let w = compared _ _ _ _ _ _ _ _ _ h.before.before.times.ensures.0 c.before.before.before.times2.ensures.0 c.before.before.times3.ensures.0 c.before.times4.ensures.0 in
-    sym (ap refusal (v.2 ∙ triple_hit _ _ _ _ _ h.loop2-test.true (failing _ _ _ _ (λ e. c.if1.true (w.0 ∙ e ∙ sym w.1)))))
+returns-then-times : tie.Need-returns-then-times invariant-loop-k decreases-loop-k invariant-loop-j decreases-loop-j invariant-triples decreases-triples
+returns-then-times c =
+    let h = c in
+    let v = h.loop-k.invariant in
+    let w = compared _ _ _ _ _ _ _ _ _ h.times-ij.ensures.0 c.times-jk.ensures.0 c.times.ensures.0 c.times-in-loop-k.ensures.0 in
+    sym (ap refusal (v.2 ∙ triple_hit _ _ _ _ _ h.loop-k-test.true (failing _ _ _ _ (λ e. c.if-times.true (w.0 ∙ e ∙ sym w.1)))))
 
 pub associative_spec : {M : Type 1} → statement M
 associative_spec =
     tie.close
     (tie.spec
-    invariant-loop2
-    decreases-loop2
-    invariant-loop
-    decreases-loop
+    invariant-loop-k
+    decreases-loop-k
+    invariant-loop-j
+    decreases-loop-j
     invariant-triples
     decreases-triples
-    triples-holds
-    loop-holds
+    triples-init
+    loop-j-init
+    times-ij-requires
+    loop-k-init
+    times-jk-requires
     times-requires
-    loop2-holds
-    times-requires-2
-    times-requires-3
-    times-requires-4
-    add-k
-    loop2-less
-    loop2-again
-    add-j
-    loop-less
-    loop-again
-    add-i
-    triples-less
-    triples-again
-    returns
-    returns-2)
+    times-requires-in-loop-k
+    overflow_add-k
+    loop-k-smaller
+    loop-k-preserved
+    overflow_add-j
+    loop-j-smaller
+    loop-j-preserved
+    overflow_add-i
+    triples-smaller
+    triples-preserved
+    returns-after-triples
+    returns-then-times)

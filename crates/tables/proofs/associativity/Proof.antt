@@ -13,16 +13,16 @@ use Rattle.tables.proofs.associativity.Tie as tie
 accept-requires : tie.Need-accept-requires
 accept-requires c κs = search rules
 
-returns : tie.Need-returns
-returns c =
-    let s = c.before.before.before in
-    sym (ap (map (λ l. no 4 l)) (no_bad_triple _ _ (lights_yes _ _ (filled_closed _ _ s.requires) (subst (LightsAnswer s.args.n (product s.args.n s.args.cells.now)) c.if1.true c.before.accept.ensures))))
+returns-then-accept : tie.Need-returns-then-accept
+returns-then-accept c =
+    let s = c in
+    sym (ap (map (λ l. no 4 l)) (no_bad_triple _ _ (lights_yes _ _ (filled_closed _ _ s.requires) (subst (LightsAnswer s.args.n (product s.args.n s.args.cells.now)) c.if-accept.true c.accept.ensures))))
 
 associative-requires : tie.Need-associative-requires
 associative-requires c κs = search rules
 
-returns-2 : tie.Need-returns-2
-returns-2 c = search rules
+returns : tie.Need-returns
+returns c = search rules
 
 pub associativity_spec : {M : Type 1} → statement M
-associativity_spec = tie.close (tie.spec accept-requires returns associative-requires returns-2)
+associativity_spec = tie.close (tie.spec accept-requires returns-then-accept associative-requires returns)

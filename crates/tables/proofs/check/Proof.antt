@@ -7,35 +7,35 @@ use Rattle.tables.proofs.Questions.{cells_refused, cells_pass}
 use Rattle.tables.proofs.check.Statement.{statement}
 use Rattle.tables.proofs.check.Tie as tie
 
-check-cells-requires : tie.Need-check-cells-requires
-check-cells-requires c κs = search rules
+check_cells-requires : tie.Need-check_cells-requires
+check_cells-requires c κs = search rules
 
-enum-known-fault : tie.Need-enum-known-fault
-enum-known-fault c = search rules
+enum_known-fault : tie.Need-enum_known-fault
+enum_known-fault c = search rules
 
-enum_told : tie.Need-enum-told
-enum_told c = search rules
+enum_told-1 : tie.Need-enum_told-1
+enum_told-1 c = search rules
 
 associativity-requires : tie.Need-associativity-requires
-associativity-requires c κs = filled _ _ (sym c.before.before.check-cells.ensures ∙ ap verdict_refusal c.enum_told.given.1)
+associativity-requires c κs = filled _ _ (sym c.check_cells.ensures ∙ ap verdict_refusal c.in-Accepted.is)
 
-returns : tie.Need-returns
-returns c =
-    let v = c.before in
-    sym (cells_refused _ _ _ (sym v.before.before.check-cells.ensures ∙ ap verdict_refusal v.fault.given.1))
+returns-in-Refused : tie.Need-returns-in-Refused
+returns-in-Refused c =
+    let v = c in
+    sym (cells_refused _ _ _ (sym v.check_cells.ensures ∙ ap verdict_refusal v.in-Refused.is))
 
-returns-2 : tie.Need-returns-2
-returns-2 c =
-    let v = c.before in
-    c.associativity.ensures ∙ sym (cells_pass _ _ (sym v.before.before.check-cells.ensures ∙ ap verdict_refusal v.enum_told.given.1))
+returns-in-Accepted : tie.Need-returns-in-Accepted
+returns-in-Accepted c =
+    let v = c in
+    c.associativity.ensures ∙ sym (cells_pass _ _ (sym v.check_cells.ensures ∙ ap verdict_refusal v.in-Accepted.is))
 
 pub check_spec : {M : Type 1} → statement M
 check_spec =
     tie.close
     (tie.spec
-    check-cells-requires
-    enum-known-fault
-    enum_told
+    check_cells-requires
+    enum_known-fault
+    enum_told-1
     associativity-requires
-    returns
-    returns-2)
+    returns-in-Refused
+    returns-in-Accepted)

@@ -8,50 +8,50 @@ use Rattle.tables.proofs.Questions.{order_low, order_high, wrong_size, right_siz
 use Rattle.tables.proofs.check_cells.Statement.{statement}
 use Rattle.tables.proofs.check_cells.Tie as tie
 
-returns : tie.Need-returns
-returns c = sym (order_low _ _ c.if1.true)
+returns-then-n-lt1 : tie.Need-returns-then-n-lt1
+returns-then-n-lt1 c = sym (order_low _ _ c.if-n-lt1.true)
 
-returns-2 : tie.Need-returns-2
-returns-2 c = sym (order_high _ _ c.before.if1.false c.if2.true)
+returns-then-n-gt-ORDER : tie.Need-returns-then-n-gt-ORDER
+returns-then-n-gt-ORDER c = sym (order_high _ _ c.if-n-lt1.false c.if-n-gt-ORDER.true)
 
-mul-if3 : tie.Need-overflow-mul-if3
-mul-if3 c = omega (arith, square_small _ c.if2.false)
+overflow_mul-n : tie.Need-overflow_mul-n
+overflow_mul-n c = omega (arith, square_small _ c.if-n-gt-ORDER.false)
 
-returns-3 : tie.Need-returns-3
-returns-3 c = sym (wrong_size _ _ c.before.before.if1.false c.before.if2.false c.if3.true)
+returns-then-cells-n : tie.Need-returns-then-cells-n
+returns-then-cells-n c = sym (wrong_size _ _ c.if-n-lt1.false c.if-n-gt-ORDER.false c.if-cells-n.true)
 
 outside-requires : tie.Need-outside-requires
 outside-requires c κs = search rules
 
-enum-known-cell : tie.Need-enum-known-cell
-enum-known-cell c = search rules
+enum_known-cell : tie.Need-enum_known-cell
+enum_known-cell c = search rules
 
-enum_told : tie.Need-enum-told
-enum_told c = search rules
+enum_told-1 : tie.Need-enum_told-1
+enum_told-1 c = search rules
 
-returns-4 : tie.Need-returns-4
-returns-4 c =
+returns-in-At : tie.Need-returns-in-At
+returns-in-At c =
     let k = c.before in
     let r = k.before.before in
-    let h = r.before in
-    sym (right_size _ _ h.before.before.if1.false h.before.if2.false h.if3.false _ (sym r.outside.ensures ∙ ap place_option k.cell.given.1))
+    let h = r in
+    sym (right_size _ _ h.if-n-lt1.false h.if-n-gt-ORDER.false k.if-cells-n.false _ (sym k.outside.ensures ∙ ap place_option c.in-At.is))
 
-returns-5 : tie.Need-returns-5
-returns-5 c =
+returns-in-Nothing : tie.Need-returns-in-Nothing
+returns-in-Nothing c =
     let r = c.before.before in
-    let h = r.before in
-    sym (right_size _ _ h.before.before.if1.false h.before.if2.false h.if3.false _ (sym r.outside.ensures ∙ ap place_option c.enum_told.given.1))
+    let h = r in
+    sym (right_size _ _ h.if-n-lt1.false h.if-n-gt-ORDER.false h.if-cells-n.false _ (sym c.outside.ensures ∙ ap place_option c.in-Nothing.is))
 
 pub check_cells_spec : {M : Type 1} → statement M
 check_cells_spec =
     tie.close
     (tie.spec
-    returns
-    returns-2
-    mul-if3
-    returns-3
+    returns-then-n-lt1
+    returns-then-n-gt-ORDER
+    overflow_mul-n
+    returns-then-cells-n
     outside-requires
-    enum-known-cell
-    enum_told
-    returns-4
-    returns-5)
+    enum_known-cell
+    enum_told-1
+    returns-in-At
+    returns-in-Nothing)

@@ -6,55 +6,55 @@ use Rattle.tables.proofs.Questions.{source_refused, target_refused, both_pass}
 use Rattle.tables.proofs.check_pair.Statement.{statement}
 use Rattle.tables.proofs.check_pair.Tie as tie
 
-check-requires : tie.Need-check-requires
-check-requires c κs = search rules
+check-first-requires : tie.Need-check-first-requires
+check-first-requires c κs = search rules
 
-enum-known-first : tie.Need-enum-known-first
-enum-known-first c = search rules
+enum_known-first : tie.Need-enum_known-first
+enum_known-first c = search rules
 
-returns : tie.Need-returns
-returns c =
+returns-in-Refused : tie.Need-returns-in-Refused
+returns-in-Refused c =
     let k = c.before in
-    let a = k.before.before in
-    sym (source_refused _ _ _ _ _ (sym a.check.ensures ∙ ap verdict_refusal k.first.given.1))
+    let a = k in
+    sym (source_refused _ _ _ _ _ (sym a.check-first.ensures ∙ ap verdict_refusal c.in-Refused.is))
 
-enum_told : tie.Need-enum-told
-enum_told c = search rules
+enum_told-1 : tie.Need-enum_told-1
+enum_told-1 c = search rules
 
-check-requires-2 : tie.Need-check-requires-2
-check-requires-2 c κs = search rules
+check-second-requires : tie.Need-check-second-requires
+check-second-requires c κs = search rules
 
-enum-known-second : tie.Need-enum-known-second
-enum-known-second c = search rules
+enum_known-second : tie.Need-enum_known-second
+enum_known-second c = search rules
 
-returns-2 : tie.Need-returns-2
-returns-2 c =
+returns-in-Refused-second : tie.Need-returns-in-Refused-second
+returns-in-Refused-second c =
     let k = c.before in
     let b = k.before.before in
     let e = b.before in
-    let a = e.before.before in
-    sym (target_refused _ _ _ _ _ (sym a.check.ensures ∙ ap verdict_refusal e.enum_told.given.1) (sym b.check2.ensures ∙ ap verdict_refusal k.second.given.1))
+    let a = e in
+    sym (target_refused _ _ _ _ _ (sym b.check-first.ensures ∙ ap verdict_refusal k.in_default.is) (sym k.check-second.ensures ∙ ap verdict_refusal c.in-Refused-second.is))
 
-enum-told-2 : tie.Need-enum-told-2
-enum-told-2 c = search rules
+enum_told-in_default-second : tie.Need-enum_told-in_default-second
+enum_told-in_default-second c = search rules
 
-returns-3 : tie.Need-returns-3
-returns-3 c =
+returns : tie.Need-returns
+returns c =
     let b = c.before.before in
     let e = b.before in
-    let a = e.before.before in
-    sym (both_pass _ _ _ _ (sym a.check.ensures ∙ ap verdict_refusal e.enum_told.given.1) (sym b.check2.ensures ∙ ap verdict_refusal c.enum-told2.given.1))
+    let a = e in
+    sym (both_pass _ _ _ _ (sym a.check-first.ensures ∙ ap verdict_refusal b.in_default.is) (sym c.check-second.ensures ∙ ap verdict_refusal c.in_default-second.is))
 
 pub check_pair_spec : {M : Type 1} → statement M
 check_pair_spec =
     tie.close
     (tie.spec
-    check-requires
-    enum-known-first
-    returns
-    enum_told
-    check-requires-2
-    enum-known-second
-    returns-2
-    enum-told-2
-    returns-3)
+    check-first-requires
+    enum_known-first
+    returns-in-Refused
+    enum_told-1
+    check-second-requires
+    enum_known-second
+    returns-in-Refused-second
+    enum_told-in_default-second
+    returns)

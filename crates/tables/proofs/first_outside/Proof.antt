@@ -9,61 +9,61 @@ use Rattle.tables.proofs.Questions.{bad_from, cell_begin, cell_pass, cell_low, c
 use Rattle.tables.proofs.first_outside.Statement.{statement}
 use Rattle.tables.proofs.first_outside.Tie as tie
 
-abbrev invariant-loop : tie.invariant-loop
-invariant-loop cells n place₀ place = (1 ≤ place) × (bad_cell n cells ≡ bad_from n cells place)
+abbrev invariant-loop-place : tie.invariant-loop-place
+invariant-loop-place cells n place₀ place = (1 ≤ place) × (bad_cell n cells ≡ bad_from n cells place)
 
-abbrev decreases-loop : tie.decreases-loop
-decreases-loop cells n place₀ place = suc (length cells) - place
+abbrev decreases-loop-place : tie.decreases-loop-place
+decreases-loop-place cells n place₀ place = suc (length cells) - place
 
-loop-holds : tie.Need-loop-init invariant-loop decreases-loop
-loop-holds c = (search rules, cell_begin _ _)
+loop-place-init : tie.Need-loop-place-init invariant-loop-place decreases-loop-place
+loop-place-init c = (search rules, cell_begin _ _)
 
-sub-cell : tie.Need-overflow-sub-cell invariant-loop decreases-loop
-sub-cell c = search rules
+overflow_sub-cell : tie.Need-overflow_sub-cell invariant-loop-place decreases-loop-place
+overflow_sub-cell c = search rules
 
-shared-slice-read-cell : tie.Need-shared-slice-read-cell invariant-loop decreases-loop
-shared-slice-read-cell c = omega arith
+bounds-cells-place : tie.Need-bounds-cells-place invariant-loop-place decreases-loop-place
+bounds-cells-place c = omega arith
 
-cast-cell : tie.Need-overflow-cast-cell invariant-loop decreases-loop
-cast-cell c = omega (arith, c.shared-slice-known.given (c.before.before.loop.place - 1))
+overflow_cast-cell : tie.Need-overflow_cast-cell invariant-loop-place decreases-loop-place
+overflow_cast-cell c = omega (arith, c.shared_slice_known-1.given (c.loop-place.place - 1))
 
-returns : tie.Need-returns invariant-loop decreases-loop
-returns c =
-    let h = c.before.before in
-    sym (h.before.loop.invariant.1 ∙ cell_low _ _ _ h.loop-test.true c.if1.true)
+returns-then-cell-lt1 : tie.Need-returns-then-cell-lt1 invariant-loop-place decreases-loop-place
+returns-then-cell-lt1 c =
+    let h = c in
+    sym (h.loop-place.invariant.1 ∙ cell_low _ _ _ h.loop-place-test.true c.if-cell-lt1.true)
 
-returns-2 : tie.Need-returns-2 invariant-loop decreases-loop
-returns-2 c =
-    let h = c.before.before.before in
-    sym (h.before.loop.invariant.1 ∙ cell_high _ _ _ h.loop-test.true c.before.if1.false c.if2.true)
+returns-then-n-cell : tie.Need-returns-then-n-cell invariant-loop-place decreases-loop-place
+returns-then-n-cell c =
+    let h = c in
+    sym (h.loop-place.invariant.1 ∙ cell_high _ _ _ h.loop-place-test.true c.if-cell-lt1.false c.if-n-cell.true)
 
-add-place : tie.Need-overflow-add-place invariant-loop decreases-loop
-add-place c = omega arith
+overflow_add-place : tie.Need-overflow_add-place invariant-loop-place decreases-loop-place
+overflow_add-place c = omega arith
 
-loop-less : tie.Need-loop-smaller invariant-loop decreases-loop
-loop-less c = omega arith
+loop-place-smaller : tie.Need-loop-place-smaller invariant-loop-place decreases-loop-place
+loop-place-smaller c = omega arith
 
-loop-again : tie.Need-loop-preserved invariant-loop decreases-loop
-loop-again c =
-    let h = c.before.before.before in
-    (omega arith, h.before.loop.invariant.1 ∙ cell_pass _ _ _ h.loop-test.true c.before.if1.false c.if2.false)
+loop-place-preserved : tie.Need-loop-place-preserved invariant-loop-place decreases-loop-place
+loop-place-preserved c =
+    let h = c in
+    (omega arith, h.loop-place.invariant.1 ∙ cell_pass _ _ _ h.loop-place-test.true c.if-cell-lt1.false c.if-n-cell.false)
 
-returns-3 : tie.Need-returns-3 invariant-loop decreases-loop
-returns-3 c = sym (c.before.loop.invariant.1 ∙ cell_end _ _ _ c.loop-test.false)
+returns : tie.Need-returns invariant-loop-place decreases-loop-place
+returns c = sym (c.loop-place.invariant.1 ∙ cell_end _ _ _ c.loop-place-test.false)
 
 pub first_outside_spec : {M : Type 1} → statement M
 first_outside_spec =
     tie.close
     (tie.spec
-    invariant-loop
-    decreases-loop
-    loop-holds
-    sub-cell
-    shared-slice-read-cell
-    cast-cell
-    returns
-    returns-2
-    add-place
-    loop-less
-    loop-again
-    returns-3)
+    invariant-loop-place
+    decreases-loop-place
+    loop-place-init
+    overflow_sub-cell
+    bounds-cells-place
+    overflow_cast-cell
+    returns-then-cell-lt1
+    returns-then-n-cell
+    overflow_add-place
+    loop-place-smaller
+    loop-place-preserved
+    returns)

@@ -10,59 +10,59 @@ use Rattle.tables.proofs.Cells.{Bounded, bounded_first, bounded_next, bounded_la
 use Rattle.tables.proofs.inside.Statement.{statement}
 use Rattle.tables.proofs.inside.Tie as tie
 
-abbrev invariant-loop : tie.invariant-loop
-invariant-loop cells n least₀ most₀ place₀ least most place = Bounded n cells least most place × (most ≤ 255)
+abbrev invariant-loop-place : tie.invariant-loop-place
+invariant-loop-place cells n least₀ most₀ place₀ least most place = Bounded n cells least most place × (most ≤ 255)
 
-abbrev decreases-loop : tie.decreases-loop
-decreases-loop cells n least₀ most₀ place₀ least most place = length cells - place
+abbrev decreases-loop-place : tie.decreases-loop-place
+decreases-loop-place cells n least₀ most₀ place₀ least most place = length cells - place
 
-loop-holds : tie.Need-loop-init invariant-loop decreases-loop
-loop-holds c = (bounded_first _ _, omega arith)
+loop-place-init : tie.Need-loop-place-init invariant-loop-place decreases-loop-place
+loop-place-init c = (bounded_first _ _, omega arith)
 
-shared-slice-read-cell : tie.Need-shared-slice-read-cell invariant-loop decreases-loop
-shared-slice-read-cell c = omega arith
+bounds-cells-place : tie.Need-bounds-cells-place invariant-loop-place decreases-loop-place
+bounds-cells-place c = omega arith
 
-smaller-requires : tie.Need-smaller-requires invariant-loop decreases-loop
-smaller-requires c κs = search rules
+smaller-least-requires : tie.Need-smaller-least-requires invariant-loop-place decreases-loop-place
+smaller-least-requires c κs = search rules
 
-larger-requires : tie.Need-larger-requires invariant-loop decreases-loop
-larger-requires c κs = search rules
+larger-most-requires : tie.Need-larger-most-requires invariant-loop-place decreases-loop-place
+larger-most-requires c κs = search rules
 
-add-place : tie.Need-overflow-add-place invariant-loop decreases-loop
-add-place c = omega arith
+overflow_add-place : tie.Need-overflow_add-place invariant-loop-place decreases-loop-place
+overflow_add-place c = omega arith
 
-loop-less : tie.Need-loop-smaller invariant-loop decreases-loop
-loop-less c = omega arith
+loop-place-smaller : tie.Need-loop-place-smaller invariant-loop-place decreases-loop-place
+loop-place-smaller c = omega arith
 
-loop-again : tie.Need-loop-preserved invariant-loop decreases-loop
-loop-again c =
-    let l = c.before.before.before.before in
-    let s = c.before.smaller.ensures in
-    let b = c.larger.ensures in
-    (rw (s, b) (bounded_next _ _ l.loop.invariant.0 c.before.before.before.loop-test.true), omega (arith, b, c.before.before.shared-slice-known2.given l.loop.place))
+loop-place-preserved : tie.Need-loop-place-preserved invariant-loop-place decreases-loop-place
+loop-place-preserved c =
+    let l = c in
+    let s = c.smaller-least.ensures in
+    let b = c.larger-most.ensures in
+    (rw (s, b) (bounded_next _ _ l.loop-place.invariant.0 c.loop-place-test.true), omega (arith, b, c.shared_slice_known-in-loop-place-1.given l.loop-place.place))
 
-returns : tie.Need-returns invariant-loop decreases-loop
-returns c = sym (bounded_last _ _ c.before.before.loop.invariant.0 c.before.loop-test.false ∙ rw (lt-leb 1 c.before.before.loop.least c.if1.true))
+returns-then-least-lt1 : tie.Need-returns-then-least-lt1 invariant-loop-place decreases-loop-place
+returns-then-least-lt1 c = sym (bounded_last _ _ c.loop-place.invariant.0 c.loop-place-test.false ∙ rw (lt-leb 1 c.loop-place.least c.if-least-lt1.true))
 
-cast-result : tie.Need-overflow-cast-result invariant-loop decreases-loop
-cast-result c = omega (arith, c.before.before.loop.invariant.1)
+overflow_cast-result : tie.Need-overflow_cast-result invariant-loop-place decreases-loop-place
+overflow_cast-result c = omega (arith, c.loop-place.invariant.1)
 
-returns-2 : tie.Need-returns-2 invariant-loop decreases-loop
-returns-2 c = sym (bounded_last _ _ c.before.before.loop.invariant.0 c.before.loop-test.false ∙ rw (le-leb 1 c.before.before.loop.least c.if1.false))
+returns : tie.Need-returns invariant-loop-place decreases-loop-place
+returns c = sym (bounded_last _ _ c.loop-place.invariant.0 c.loop-place-test.false ∙ rw (le-leb 1 c.loop-place.least c.if-least-lt1.false))
 
 pub inside_spec : {M : Type 1} → statement M
 inside_spec =
     tie.close
     (tie.spec
-    invariant-loop
-    decreases-loop
-    loop-holds
-    shared-slice-read-cell
-    smaller-requires
-    larger-requires
-    add-place
-    loop-less
-    loop-again
-    returns
-    cast-result
-    returns-2)
+    invariant-loop-place
+    decreases-loop-place
+    loop-place-init
+    bounds-cells-place
+    smaller-least-requires
+    larger-most-requires
+    overflow_add-place
+    loop-place-smaller
+    loop-place-preserved
+    returns-then-least-lt1
+    overflow_cast-result
+    returns)

@@ -8,14 +8,14 @@ use Rattle.tables.proofs.outside.Tie as tie
 inside-requires : tie.Need-inside-requires
 inside-requires c κs = search rules
 
+returns-then-inside : tie.Need-returns-then-inside
+returns-then-inside c = sym (none_outside _ _ (sym c.inside.ensures ∙ c.if-inside.true))
+
+first_outside-requires : tie.Need-first_outside-requires
+first_outside-requires c κs = search rules
+
 returns : tie.Need-returns
-returns c = sym (none_outside _ _ (sym c.before.inside.ensures ∙ c.if1.true))
-
-first-outside-requires : tie.Need-first-outside-requires
-first-outside-requires c κs = search rules
-
-returns-2 : tie.Need-returns-2
-returns-2 c = search rules
+returns c = search rules
 
 pub outside_spec : {M : Type 1} → statement M
-outside_spec = tie.close (tie.spec inside-requires returns first-outside-requires returns-2)
+outside_spec = tie.close (tie.spec inside-requires returns-then-inside first_outside-requires returns)

@@ -15,7 +15,7 @@ use Rattle.placing.proofs.Partial.tried.Tie as tie
 
 place-requires : tie.Need-place-requires
 place-requires c κs =
-    let z = c.before.before in
+    let z = c in
     let h = z.requires.1 in
     let room = h.1.1 in
     let m = z.requires.0.0.order in
@@ -23,7 +23,7 @@ place-requires c κs =
 
 test-requires : tie.Need-test-requires
 test-requires c κs =
-    let z = c.before.before.before in
+    let z = c in
     let a = z.args in
     let s = product a.m a.source.now in
     let t = product a.n a.target.now in
@@ -36,9 +36,9 @@ test-requires c κs =
 
 returns : tie.Need-returns
 returns c =
-    let z = c.before.before.before.before in
+    let z = c in
     let a = z.args in
-    let w = c.before.place in
+    let w = c.place in
     let r = c.test.ensures in
     let more = w.ensures.1.0 in
     let same = sym r.1 in (
