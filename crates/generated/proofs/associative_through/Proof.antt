@@ -23,11 +23,11 @@ use Rattle.generated.proofs.associative_through.Tie as tie
 abbrev refusal : Option (List ℕ) → Option Refusal
 refusal o = map (λ l. no 4 l) o
 
-abbrev invariant-loop : tie.invariant-loop
-invariant-loop cells n list middles verdict₀ i j₀ verdict j = (1 ≤ j) × (verdict ≡ Accepted) × (bad_triple_through n (product n cells) list ≡ from_pair (fails_through (product n cells) list) n i j)
+abbrev invariant-loop-j : tie.invariant-loop-j
+invariant-loop-j cells n list middles verdict₀ i j₀ verdict j = (1 ≤ j) × (verdict ≡ Accepted) × (bad_triple_through n (product n cells) list ≡ from_pair (fails_through (product n cells) list) n i j)
 
-abbrev decreases-loop : tie.decreases-loop
-decreases-loop cells n list middles verdict₀ i j₀ verdict j = suc n - j
+abbrev decreases-loop-j : tie.decreases-loop-j
+decreases-loop-j cells n list middles verdict₀ i j₀ verdict j = suc n - j
 
 abbrev invariant-triples : tie.invariant-triples
 invariant-triples cells n list middles verdict₀ i₀ verdict i = (1 ≤ i) × (verdict ≡ Accepted) × (bad_triple_through n (product n cells) list ≡ from_first (fails_through (product n cells) list) n i)
@@ -35,124 +35,124 @@ invariant-triples cells n list middles verdict₀ i₀ verdict i = (1 ≤ i) × 
 abbrev decreases-triples : tie.decreases-triples
 decreases-triples cells n list middles verdict₀ i₀ verdict i = suc n - i
 
-abbrev table : tie.Start invariant-loop decreases-loop invariant-triples decreases-triples → Product
+abbrev table : tie.Start invariant-loop-j decreases-loop-j invariant-triples decreases-triples → Product
 table s = product s.args.n s.args.cells.now
 
-marked-requires : tie.Need-marked-requires invariant-loop decreases-loop invariant-triples decreases-triples
-marked-requires c κs =
-    let p = c.before.before.requires in
+marked-middles-requires : tie.Need-marked-middles-requires invariant-loop-j decreases-loop-j invariant-triples decreases-triples
+marked-middles-requires c κs =
+    let p = c.requires in
     let o = p.0.order in
     λ x m. let e = p.1 x m in let z : Element 120 x = omega arith in z
 
-triples-holds : tie.Need-triples-init invariant-loop decreases-loop invariant-triples decreases-triples
+triples-init : tie.Need-triples-init invariant-loop-j decreases-loop-j invariant-triples decreases-triples
 unfolding bad_triple_through
-triples-holds c = (search rules, refl, triples_begin _ _)
+triples-init c = (search rules, refl, triples_begin _ _)
 
-loop-holds : tie.Need-loop-init invariant-loop decreases-loop invariant-triples decreases-triples
-loop-holds c =
-    let v = c.before.triples.invariant in
+loop-j-init : tie.Need-loop-j-init invariant-loop-j decreases-loop-j invariant-triples decreases-triples
+loop-j-init c =
+    let v = c.triples.invariant in
     (search rules, v.1, v.2 ∙ first_enter _ _ _ c.triples-test.true)
 
-array-read-if1 : tie.Need-array-read-if1 invariant-loop decreases-loop invariant-triples decreases-triples
-array-read-if1 c =
-    let o = c.before.before.before.before.before.before.before.requires.0.order in
+bounds-middles-j : tie.Need-bounds-middles-j invariant-loop-j decreases-loop-j invariant-triples decreases-triples
+bounds-middles-j c =
+    let o = c.requires.0.order in
     omega arith
 
-failing-third-requires : tie.Need-failing-third-requires invariant-loop decreases-loop invariant-triples decreases-triples
-failing-third-requires c κs =
-    let p = c.before.before.before.before.before.before.before.before.requires in
-    let a = c.before.before.before.before.triples.invariant in
-    let b = c.before.before.loop.invariant in
-    (p.0, ((a.0, c.before.before.before.triples-test.true), (b.0, c.before.loop-test.true)))
+failing_third-third-requires : tie.Need-failing_third-third-requires invariant-loop-j decreases-loop-j invariant-triples decreases-triples
+failing_third-third-requires c κs =
+    let p = c.requires in
+    let a = c.triples.invariant in
+    let b = c.loop-j.invariant in
+    (p.0, ((a.0, c.triples-test.true), (b.0, c.loop-j-test.true)))
 
-enum-known-third : tie.Need-enum-known-third invariant-loop decreases-loop invariant-triples decreases-triples
-enum-known-third c = search rules
+enum_known-third : tie.Need-enum_known-third invariant-loop-j decreases-loop-j invariant-triples decreases-triples
+enum_known-third c = search rules
 
-enum_told : tie.Need-enum-told invariant-loop decreases-loop invariant-triples decreases-triples
-enum_told c = search rules
+enum_told-1 : tie.Need-enum_told-1 invariant-loop-j decreases-loop-j invariant-triples decreases-triples
+enum_told-1 c = search rules
 
-add-j : tie.Need-overflow-add-j invariant-loop decreases-loop invariant-triples decreases-triples
-add-j c =
-    let o = c.before.before.before.before.before.before.before.before.requires.0.order in
-    let t = c.before.loop-test.true in
+overflow_add-j : tie.Need-overflow_add-j invariant-loop-j decreases-loop-j invariant-triples decreases-triples
+overflow_add-j c =
+    let o = c.requires.0.order in
+    let t = c.loop-j-test.true in
     omega arith
 
-loop-less : tie.Need-loop-smaller invariant-loop decreases-loop invariant-triples decreases-triples
-loop-less c =
-    let t = c.before.loop-test.true in
+loop-j-smaller : tie.Need-loop-j-smaller invariant-loop-j decreases-loop-j invariant-triples decreases-triples
+loop-j-smaller c =
+    let t = c.loop-j-test.true in
     omega arith
 
-loop-again : tie.Need-loop-preserved invariant-loop decreases-loop invariant-triples decreases-triples
-loop-again c =
+loop-j-preserved : tie.Need-loop-j-preserved invariant-loop-j decreases-loop-j invariant-triples decreases-triples
+loop-j-preserved c =
     let l = c.before.before in
     let s = l.before.before.before.before.before.before in
     let o = s.requires.0.order in
-    let v = l.loop.invariant in
-    let t = c.before.loop-test.true in
-    let i = l.before.before.triples.i in
-    let j = l.loop.j in
+    let v = l.loop-j.invariant in
+    let t = c.loop-j-test.true in
+    let i = l.triples.i in
+    let j = l.loop-j.j in
     let list = s.args.list.now in
     ⊎_elim
     (λ w. (omega arith, v.1, v.2 ∙ pair_skip _ _ _ _ t (λ k h. no_failing_through (table s) list i j k (third_none (table s) _ i j (sym w.1.ensures ∙ ap place_option w.3.given.1) k h))))
-    (λ w. (omega arith, v.1, v.2 ∙ pair_skip _ _ _ _ t (λ k h. unlisted (table s) list i j k (unmarked list _ (omega arith) (sym (ap (λ (m : List ℕ). get_or m j 0) l.before.before.before.marked.ensures) ∙ w.left)))))
-    c.if1.branch
+    (λ w. (omega arith, v.1, v.2 ∙ pair_skip _ _ _ _ t (λ k h. unlisted (table s) list i j k (unmarked list _ (omega arith) (sym (ap (λ (m : List ℕ). get_or m j 0) l.marked-middles.ensures) ∙ w.left)))))
+    c.if-middles-j-ne0.branch
 
-add-i : tie.Need-overflow-add-i invariant-loop decreases-loop invariant-triples decreases-triples
-add-i c =
-    let o = c.before.before.before.before.before.before.before.requires.0.order in
-    let t = c.before.before.triples-test.true in
+overflow_add-i : tie.Need-overflow_add-i invariant-loop-j decreases-loop-j invariant-triples decreases-triples
+overflow_add-i c =
+    let o = c.requires.0.order in
+    let t = c.triples-test.true in
     omega arith
 
-triples-less : tie.Need-triples-smaller invariant-loop decreases-loop invariant-triples decreases-triples
-triples-less c =
-    let t = c.before.before.triples-test.true in
+triples-smaller : tie.Need-triples-smaller invariant-loop-j decreases-loop-j invariant-triples decreases-triples
+triples-smaller c =
+    let t = c.triples-test.true in
     omega arith
 
-triples-again : tie.Need-triples-preserved invariant-loop decreases-loop invariant-triples decreases-triples
-triples-again c =
-    let v = c.before.loop.invariant in
-    (omega arith, v.1, v.2 ∙ pair_leave _ _ _ _ c.loop-test.false)
+triples-preserved : tie.Need-triples-preserved invariant-loop-j decreases-loop-j invariant-triples decreases-triples
+triples-preserved c =
+    let v = c.loop-j.invariant in
+    (omega arith, v.1, v.2 ∙ pair_leave _ _ _ _ c.loop-j-test.false)
 
-returns : tie.Need-returns invariant-loop decreases-loop invariant-triples decreases-triples
-returns c =
-    let v = c.before.triples.invariant in
+returns-after-triples : tie.Need-returns-after-triples invariant-loop-j decreases-loop-j invariant-triples decreases-triples
+returns-after-triples c =
+    let v = c.triples.invariant in
     ap verdict_refusal v.1 ∙ sym (ap refusal (v.2 ∙ triples_end _ _ _ c.triples-test.false))
 
-returns-2 : tie.Need-returns-2 invariant-loop decreases-loop invariant-triples decreases-triples
-returns-2 c =
+returns-in-At : tie.Need-returns-in-At invariant-loop-j decreases-loop-j invariant-triples decreases-triples
+returns-in-At c =
     let d = c.before.before.before.before in
     let l = d.before.before in
-    let s = l.before.before.before.before.before.before in
+    let s = l.before.before in
     let o = s.requires.0.order in
-    let t = d.before.loop-test.true in
-    let i = l.before.before.triples.i in
-    let j = l.loop.j in
+    let t = c.loop-j-test.true in
+    let i = l.triples.i in
+    let j = d.loop-j.j in
     let list = s.args.list.now in
-    let m = is_marked_law list _ (omega arith) (λ e. d.if1.true (ap (λ (m : List ℕ). get_or m j 0) l.before.before.before.marked.ensures ∙ e)) in
-    let e = sym c.before.before.before.failing-third.ensures ∙ ap place_option c.before.third.given.1 in
+    let m = is_marked_law list _ (omega arith) (λ e. c.if-middles-j-ne0.true (ap (λ (m : List ℕ). get_or m j 0) l.marked-middles.ensures ∙ e)) in
+    let e = sym c.failing_third-third.ensures ∙ ap place_option c.in-At.is in
     let k = third_some (table s) _ i j _ e in
-    sym (ap refusal (l.loop.invariant.2 ∙ pair_hit _ _ _ _ _ t k.0 (λ x h. no_failing_through (table s) list i j x (third_before (table s) _ i j _ e x h)) (failing_through (table s) list i j _ m k.1)))
+    sym (ap refusal (l.loop-j.invariant.2 ∙ pair_hit _ _ _ _ _ t k.0 (λ x h. no_failing_through (table s) list i j x (third_before (table s) _ i j _ e x h)) (failing_through (table s) list i j _ m k.1)))
 
 pub associative_through_spec : {M : Type 1} → statement M
 associative_through_spec =
     tie.close
     (tie.spec
-    invariant-loop
-    decreases-loop
+    invariant-loop-j
+    decreases-loop-j
     invariant-triples
     decreases-triples
-    marked-requires
-    triples-holds
-    loop-holds
-    array-read-if1
-    failing-third-requires
-    enum-known-third
-    enum_told
-    add-j
-    loop-less
-    loop-again
-    add-i
-    triples-less
-    triples-again
-    returns
-    returns-2)
+    marked-middles-requires
+    triples-init
+    loop-j-init
+    bounds-middles-j
+    failing_third-third-requires
+    enum_known-third
+    enum_told-1
+    overflow_add-j
+    loop-j-smaller
+    loop-j-preserved
+    overflow_add-i
+    triples-smaller
+    triples-preserved
+    returns-after-triples
+    returns-in-At)

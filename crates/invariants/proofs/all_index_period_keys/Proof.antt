@@ -14,19 +14,19 @@ use Rattle.products.proofs.PerElement.{fill_start, fill_step, fill_end}
 use Rattle.invariants.proofs.all_index_period_keys.Statement.{statement}
 use Rattle.invariants.proofs.all_index_period_keys.Tie as tie
 
-abbrev invariant-loop : tie.invariant-loop
-invariant-loop cells n index₀ period₀ a₀ index period a =
+abbrev invariant-loop-a : tie.invariant-loop-a
+invariant-loop-a cells n index₀ period₀ a₀ index period a =
     Element (n + 1) a × (index ≡ per_element (a - 1) (marks.index n (product n cells))) × (period ≡ per_element (a - 1) (marks.period n (product n cells)))
 
-abbrev decreases-loop : tie.decreases-loop
-decreases-loop cells n index₀ period₀ a₀ index period a = n + 1 - a
+abbrev decreases-loop-a : tie.decreases-loop-a
+decreases-loop-a cells n index₀ period₀ a₀ index period a = n + 1 - a
 
 -- What is known after the walk of one element.
-module _ (c : tie.After-index-period-of invariant-loop decreases-loop) where
-  abbrev head : tie.At-loop invariant-loop decreases-loop
+module _ (c : tie.After-index_period_of-powers invariant-loop-a decreases-loop-a) where
+  abbrev head : tie.At-loop-a invariant-loop-a decreases-loop-a
   head = c.before.before
 
-  abbrev start : tie.Start invariant-loop decreases-loop
+  abbrev start : tie.Start invariant-loop-a decreases-loop-a
   start = head.before.before
 
   abbrev table : Product
@@ -35,68 +35,68 @@ module _ (c : tie.After-index-period-of invariant-loop decreases-loop) where
   limit : start.args.n ≤ 120
   limit = start.requires.order.1
 
-  element : Element start.args.n head.loop.a
-  element = (head.loop.invariant.0.0, c.before.loop-test.true)
+  element : Element start.args.n head.loop-a.a
+  element = (head.loop-a.invariant.0.0, c.loop-a-test.true)
 
   closed : Closed start.args.n table
   closed = product_element start.args.n start.args.cells.now start.requires.size start.requires.in_range
 
-  index_is : c.index-period-of.result.index ≡ marks.index start.args.n table head.loop.a
+  index_is : c.index_period_of-powers.result.index ≡ marks.index start.args.n table head.loop-a.a
   unfolding settled
-  index_is = ap (λ (v : marks.IndexPeriod). v.index) c.index-period-of.ensures
+  index_is = ap (λ (v : marks.IndexPeriod). v.index) c.index_period_of-powers.ensures
 
-  period_is : c.index-period-of.result.period ≡ marks.period start.args.n table head.loop.a
+  period_is : c.index_period_of-powers.result.period ≡ marks.period start.args.n table head.loop-a.a
   unfolding settled
-  period_is = ap (λ (v : marks.IndexPeriod). v.period) c.index-period-of.ensures
+  period_is = ap (λ (v : marks.IndexPeriod). v.period) c.index_period_of-powers.ensures
 
-loop-holds : tie.Need-loop-init invariant-loop decreases-loop
-loop-holds c =
-    let a = c.before.args in
+loop-a-init : tie.Need-loop-a-init invariant-loop-a decreases-loop-a
+loop-a-init c =
+    let a = c.args in
     let table = product a.n a.cells.now in
     (omega arith, fill_start (marks.index a.n table), fill_start (marks.period a.n table))
 
-index-period-of-requires : tie.Need-index-period-of-requires invariant-loop decreases-loop
-index-period-of-requires c κs = (c.before.before.before.requires, (c.before.loop.invariant.0.0, c.loop-test.true))
+index_period_of-powers-requires : tie.Need-index_period_of-powers-requires invariant-loop-a decreases-loop-a
+index_period_of-powers-requires c κs = (c.requires, (c.loop-a.invariant.0.0, c.loop-a-test.true))
 
-cast-index : tie.Need-overflow-cast-index invariant-loop decreases-loop
-cast-index c =
+overflow_cast-index : tie.Need-overflow_cast-index invariant-loop-a decreases-loop-a
+overflow_cast-index c =
     let b = c.before in
-    omega (arith, limit b, index_is b, index_at_most (start b).args.n (table b) (head b).loop.a (closed b) (element b))
+    omega (arith, limit b, index_is b, index_at_most (start b).args.n (table b) (head b).loop-a.a (closed b) (element b))
 
-sub-index : tie.Need-overflow-sub-index invariant-loop decreases-loop
-sub-index c = (element c.before).0
+overflow_sub-index : tie.Need-overflow_sub-index invariant-loop-a decreases-loop-a
+overflow_sub-index c = (element c.before).0
 
-mul-index : tie.Need-overflow-mul-index invariant-loop decreases-loop
-mul-index c = let e = element c.before in omega (arith, limit c.before)
+offset_bounds-index-a : tie.Need-offset_bounds-index-a invariant-loop-a decreases-loop-a
+offset_bounds-index-a c = let e = element c.before in omega (arith, limit c.before)
 
-array-write-index : tie.Need-array-write-index invariant-loop decreases-loop
-array-write-index c = let e = element c.before in omega (arith, limit c.before)
+bounds-index-a : tie.Need-bounds-index-a invariant-loop-a decreases-loop-a
+bounds-index-a c = let e = element c.before in omega (arith, limit c.before)
 
-cast-period : tie.Need-overflow-cast-period invariant-loop decreases-loop
-cast-period c =
+overflow_cast-period : tie.Need-overflow_cast-period invariant-loop-a decreases-loop-a
+overflow_cast-period c =
     let b = c.before.before in
-    omega (arith, limit b, period_is b, period_at_most (start b).args.n (table b) (head b).loop.a (closed b) (element b))
+    omega (arith, limit b, period_is b, period_at_most (start b).args.n (table b) (head b).loop-a.a (closed b) (element b))
 
-sub-period : tie.Need-overflow-sub-period invariant-loop decreases-loop
-sub-period c = (element c.before.before).0
+overflow_sub-period : tie.Need-overflow_sub-period invariant-loop-a decreases-loop-a
+overflow_sub-period c = (element c.before.before).0
 
-mul-period : tie.Need-overflow-mul-period invariant-loop decreases-loop
-mul-period c = let e = element c.before.before in omega (arith, limit c.before.before)
+offset_bounds-period-a : tie.Need-offset_bounds-period-a invariant-loop-a decreases-loop-a
+offset_bounds-period-a c = let e = element c.before.before in omega (arith, limit c.before.before)
 
-array-write-period : tie.Need-array-write-period invariant-loop decreases-loop
-array-write-period c = let e = element c.before.before in omega (arith, limit c.before.before)
+bounds-period-a : tie.Need-bounds-period-a invariant-loop-a decreases-loop-a
+bounds-period-a c = let e = element c.before.before in omega (arith, limit c.before.before)
 
-add_a : tie.Need-overflow-add-a invariant-loop decreases-loop
-add_a c = let e = element c.before.before in omega (arith, limit c.before.before)
+overflow_add-a : tie.Need-overflow_add-a invariant-loop-a decreases-loop-a
+overflow_add-a c = let e = element c.before.before in omega (arith, limit c.before.before)
 
-loop-less : tie.Need-loop-smaller invariant-loop decreases-loop
-loop-less c = let e = element c.before.before in omega arith
+loop-a-smaller : tie.Need-loop-a-smaller invariant-loop-a decreases-loop-a
+loop-a-smaller c = let e = element c.before.before in omega arith
 
-loop-again : tie.Need-loop-preserved invariant-loop decreases-loop
-loop-again c =
+loop-a-preserved : tie.Need-loop-a-preserved invariant-loop-a decreases-loop-a
+loop-a-preserved c =
     let b = c.before.before in
     let n = (start b).args.n in
-    let l = (head b).loop in
+    let l = (head b).loop-a in
     let e = element b in
     let most = limit b in (
       omega arith,
@@ -104,12 +104,12 @@ loop-again c =
       fill_step (marks.period n (table b)) l.a _ l.period l.invariant.2 (omega arith) (period_is b),
     )
 
-returns : tie.Need-returns invariant-loop decreases-loop
+returns : tie.Need-returns invariant-loop-a decreases-loop-a
 returns c =
-    let l = c.before.loop in
-    let a = c.before.before.before.args in
+    let l = c.loop-a in
+    let a = c.args in
     let table = product a.n a.cells.now in
-    let end = c.loop-test.false in
+    let end = c.loop-a-test.false in
     record {
       index = fill_end (marks.index a.n table) a.n l.a l.index l.invariant.1 l.invariant.0 end;
       period = fill_end (marks.period a.n table) a.n l.a l.period l.invariant.2 l.invariant.0 end;
@@ -119,19 +119,19 @@ pub all_index_period_keys_spec : {M : Type 1} → statement M
 all_index_period_keys_spec =
     tie.close
     (tie.spec
-    invariant-loop
-    decreases-loop
-    loop-holds
-    index-period-of-requires
-    cast-index
-    sub-index
-    mul-index
-    array-write-index
-    cast-period
-    sub-period
-    mul-period
-    array-write-period
-    add_a
-    loop-less
-    loop-again
+    invariant-loop-a
+    decreases-loop-a
+    loop-a-init
+    index_period_of-powers-requires
+    overflow_cast-index
+    overflow_sub-index
+    offset_bounds-index-a
+    bounds-index-a
+    overflow_cast-period
+    overflow_sub-period
+    offset_bounds-period-a
+    bounds-period-a
+    overflow_add-a
+    loop-a-smaller
+    loop-a-preserved
     returns)

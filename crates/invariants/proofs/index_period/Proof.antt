@@ -12,44 +12,44 @@ use borrow.Author.Rules.{rules}
 use Rattle.invariants.proofs.index_period.Statement.{statement}
 use Rattle.invariants.proofs.index_period.Tie as tie
 
-check-element-requires : tie.Need-check-element-requires
-check-element-requires c κs = search rules
+check_element-requires : tie.Need-check_element-requires
+check_element-requires c κs = search rules
 
-enum-known-no : tie.Need-enum-known-no
-enum-known-no c = search rules
+enum_known-no : tie.Need-enum_known-no
+enum_known-no c = search rules
 
-enum_told : tie.Need-enum-told
-enum_told c = search rules
+enum_told-1 : tie.Need-enum_told-1
+enum_told-1 c = search rules
 
-index-period-of-requires : tie.Need-index-period-of-requires
-index-period-of-requires c κs =
-    let q = asked _ _ _ (sym c.before.before.check-element.ensures ∙ ap element_verdict_refusal c.enum_told.given.1) in
+index_period_of-requires : tie.Need-index_period_of-requires
+index_period_of-requires c κs =
+    let q = asked _ _ _ (sym c.check_element.ensures ∙ ap element_verdict_refusal c.in-Accepted.is) in
     (q.0, q.1)
 
-returns : tie.Need-returns
-returns c =
-    let v = c.before in
-    let a = v.before.before.before.before.args in
+returns-in-Refused : tie.Need-returns-in-Refused
+returns-in-Refused c =
+    let v = c in
+    let a = v.args in
     let cells = a.cells.now in
-    says_refused (element_refusal a.n cells a.a) (index_period a.n (product a.n cells) a.a) (no_refusal v.no.given.0.0)
-    (sym v.before.before.check-element.ensures ∙ ap element_verdict_refusal v.no.given.1)
+    says_refused (element_refusal a.n cells a.a) (index_period a.n (product a.n cells) a.a) (no_refusal v.in-Refused.no)
+    (sym v.check_element.ensures ∙ ap element_verdict_refusal v.in-Refused.is)
 
-returns-2 : tie.Need-returns-2
-returns-2 c =
-    let v = c.before in
-    let a = v.before.before.before.before.args in
+returns-in-Accepted : tie.Need-returns-in-Accepted
+returns-in-Accepted c =
+    let v = c in
+    let a = v.args in
     let cells = a.cells.now in
-    let none = sym v.before.before.check-element.ensures ∙ ap element_verdict_refusal v.enum_told.given.1 in
+    let none = sym v.check_element.ensures ∙ ap element_verdict_refusal v.in-Accepted.is in
     let q = asked a.n cells a.a none in
-    says_given (element_refusal a.n cells a.a) (index_period a.n (product a.n cells) a.a) _ none (c.index-period-of.ensures ∙ settled_idempotent a.n cells a.a q.0 q.2 q.1)
+    says_given (element_refusal a.n cells a.a) (index_period a.n (product a.n cells) a.a) _ none (c.index_period_of.ensures ∙ settled_idempotent a.n cells a.a q.0 q.2 q.1)
 
 pub index_period_spec : {M : Type 1} → statement M
 index_period_spec =
     tie.close
     (tie.spec
-    check-element-requires
-    enum-known-no
-    enum_told
-    index-period-of-requires
-    returns
-    returns-2)
+    check_element-requires
+    enum_known-no
+    enum_told-1
+    index_period_of-requires
+    returns-in-Refused
+    returns-in-Accepted)

@@ -10,43 +10,43 @@ use borrow.Author.Rules.{rules}
 use Rattle.invariants.proofs.profile.Statement.{statement}
 use Rattle.invariants.proofs.profile.Tie as tie
 
-check-element-requires : tie.Need-check-element-requires
-check-element-requires c κs = search rules
+check_element-requires : tie.Need-check_element-requires
+check_element-requires c κs = search rules
 
-enum-known-no : tie.Need-enum-known-no
-enum-known-no c = search rules
+enum_known-no : tie.Need-enum_known-no
+enum_known-no c = search rules
 
-enum_told : tie.Need-enum-told
-enum_told c = search rules
+enum_told-1 : tie.Need-enum_told-1
+enum_told-1 c = search rules
 
-profile-of-requires : tie.Need-profile-of-requires
-profile-of-requires c κs =
-    let q = asked _ _ _ (sym c.before.before.check-element.ensures ∙ ap element_verdict_refusal c.enum_told.given.1) in
+profile_of-requires : tie.Need-profile_of-requires
+profile_of-requires c κs =
+    let q = asked _ _ _ (sym c.check_element.ensures ∙ ap element_verdict_refusal c.in-Accepted.is) in
     (q.0, (q.1, q.2))
 
-returns : tie.Need-returns
-returns c =
-    let v = c.before in
-    let a = v.before.before.before.before.args in
+returns-in-Refused : tie.Need-returns-in-Refused
+returns-in-Refused c =
+    let v = c in
+    let a = v.args in
     let cells = a.cells.now in
-    says_refused (element_refusal a.n cells a.a) (profile a.n (product a.n cells) a.a) (no_refusal v.no.given.0.0)
-    (sym v.before.before.check-element.ensures ∙ ap element_verdict_refusal v.no.given.1)
+    says_refused (element_refusal a.n cells a.a) (profile a.n (product a.n cells) a.a) (no_refusal v.in-Refused.no)
+    (sym v.check_element.ensures ∙ ap element_verdict_refusal v.in-Refused.is)
 
-returns-2 : tie.Need-returns-2
-returns-2 c =
-    let v = c.before in
-    let a = v.before.before.before.before.args in
+returns-in-Accepted : tie.Need-returns-in-Accepted
+returns-in-Accepted c =
+    let v = c in
+    let a = v.args in
     let cells = a.cells.now in
     says_given (element_refusal a.n cells a.a) (profile a.n (product a.n cells) a.a) _
-    (sym v.before.before.check-element.ensures ∙ ap element_verdict_refusal v.enum_told.given.1) c.profile_of_law.ensures
+    (sym v.check_element.ensures ∙ ap element_verdict_refusal v.in-Accepted.is) c.profile_of.ensures
 
 pub profile_spec : {M : Type 1} → statement M
 profile_spec =
     tie.close
     (tie.spec
-    check-element-requires
-    enum-known-no
-    enum_told
-    profile-of-requires
-    returns
-    returns-2)
+    check_element-requires
+    enum_known-no
+    enum_told-1
+    profile_of-requires
+    returns-in-Refused
+    returns-in-Accepted)

@@ -7,45 +7,45 @@ use Rattle.maps.proofs.Faults.{call_refused, call_length, call_checked}
 use Rattle.maps.proofs.check.Statement.{statement}
 use Rattle.maps.proofs.check.Tie as tie
 
-check-pair-requires : tie.Need-check-pair-requires
-check-pair-requires c κs = search rules
+check_pair-verdict-requires : tie.Need-check_pair-verdict-requires
+check_pair-verdict-requires c κs = search rules
 
-enum-known-verdict : tie.Need-enum-known-verdict
-enum-known-verdict c = search rules
+enum_known-verdict : tie.Need-enum_known-verdict
+enum_known-verdict c = search rules
 
-returns : tie.Need-returns
-returns c =
-    let k = c.before in
-    sym (call_refused _ _ _ _ _ _ (sym k.before.before.check-pair.ensures ∙ ap pair_refusal k.verdict.given.1))
+returns-in-Refused : tie.Need-returns-in-Refused
+returns-in-Refused c =
+    let k = c in
+    sym (call_refused _ _ _ _ _ _ (sym k.check_pair-verdict.ensures ∙ ap pair_refusal k.in-Refused.is))
 
-enum_told : tie.Need-enum-told
-enum_told c = search rules
+enum_told-1 : tie.Need-enum_told-1
+enum_told-1 c = search rules
 
-returns-2 : tie.Need-returns-2
-returns-2 c =
-    let t = c.before in
-    sym (call_length _ _ _ _ _ (sym t.before.before.check-pair.ensures ∙ ap pair_refusal t.enum_told.given.1) c.if1.true)
+returns-then-map-m : tie.Need-returns-then-map-m
+returns-then-map-m c =
+    let t = c in
+    sym (call_length _ _ _ _ _ (sym t.check_pair-verdict.ensures ∙ ap pair_refusal t.in_default.is) c.if-map-m.true)
 
 examine-requires : tie.Need-examine-requires
 examine-requires c κs =
-    let t = c.before in
-    let a = tables_accepted _ _ _ _ (sym t.before.before.check-pair.ensures ∙ ap pair_refusal t.enum_told.given.1) in
-    (a.0.filled, (a.1.filled, c.if1.false))
+    let t = c in
+    let a = tables_accepted _ _ _ _ (sym t.check_pair-verdict.ensures ∙ ap pair_refusal t.in_default.is) in
+    (a.0.filled, (a.1.filled, c.if-map-m.false))
 
-returns-3 : tie.Need-returns-3
-returns-3 c =
+returns : tie.Need-returns
+returns c =
     let h = c.before in
-    let t = h.before in
-    c.examine.ensures ∙ sym (call_checked _ _ _ _ _ (sym t.before.before.check-pair.ensures ∙ ap pair_refusal t.enum_told.given.1) h.if1.false)
+    let t = h in
+    c.examine.ensures ∙ sym (call_checked _ _ _ _ _ (sym t.check_pair-verdict.ensures ∙ ap pair_refusal t.in_default.is) h.if-map-m.false)
 
 pub check_spec : {M : Type 1} → statement M
 check_spec =
     tie.close
     (tie.spec
-    check-pair-requires
-    enum-known-verdict
-    returns
-    enum_told
-    returns-2
+    check_pair-verdict-requires
+    enum_known-verdict
+    returns-in-Refused
+    enum_told-1
+    returns-then-map-m
     examine-requires
-    returns-3)
+    returns)

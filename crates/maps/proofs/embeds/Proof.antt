@@ -7,16 +7,16 @@ use Rattle.maps.proofs.Faults.{held_embeds, other_fails}
 use Rattle.maps.proofs.embeds.Statement.{statement}
 use Rattle.maps.proofs.embeds.Tie as tie
 
+returns-in-Holds : tie.Need-returns-in-Holds
+returns-in-Holds c =
+    let a = c.args in
+    held_embeds a.m (product a.m a.source.now) a.n (product a.n a.target.now) a.map.now c.requires.1.1 (sym (ap map_answer_says c.in-Holds.is) ∙ c.examine-verdict.ensures)
+
 returns : tie.Need-returns
 returns c =
-    let a = c.before.before.before.before.before.before.args in
-    held_embeds a.m (product a.m a.source.now) a.n (product a.n a.target.now) a.map.now c.before.before.before.before.before.before.requires.1.1 (sym (ap map_answer_says c.enum_told.given.1) ∙ c.before.before.examine.ensures)
-
-returns-2 : tie.Need-returns-2
-returns-2 c =
-    let a = c.before.before.before.before.before.args in
-    let v = c.before.examine in
-    other_fails a.m (product a.m a.source.now) a.n (product a.n a.target.now) a.map.now c.before.before.before.before.before.requires.1.1 v.result c.match.keys2 v.ensures
+    let a = c.args in
+    let v = c.examine-verdict in
+    other_fails a.m (product a.m a.source.now) a.n (product a.n a.target.now) a.map.now c.requires.1.1 v.result c.in_default.in_default-own.keys2 v.ensures
 
 pub embeds_spec : {M : Type 1} → statement M
-embeds_spec = tie.close (tie.spec (λ c κs. search rules) (λ c. search rules) returns returns-2)
+embeds_spec = tie.close (tie.spec (λ c κs. search rules) (λ c. search rules) returns-in-Holds returns)

@@ -13,88 +13,88 @@ use Rattle.maps.proofs.Faults.{images_inside, says_outside, says_equal, says_pro
 use Rattle.maps.proofs.examine.Statement.{statement}
 use Rattle.maps.proofs.examine.Tie as tie
 
-outside-requires : tie.Need-outside-requires
-outside-requires c κs = search rules
+outside-place-requires : tie.Need-outside-place-requires
+outside-place-requires c κs = search rules
 
-enum-known-place : tie.Need-enum-known-place
-enum-known-place c = search rules
+enum_known-place : tie.Need-enum_known-place
+enum_known-place c = search rules
 
-returns : tie.Need-returns
-returns c =
+returns-in-At : tie.Need-returns-in-At
+returns-in-At c =
     let k = c.before in
-    let o = k.before.before in
-    ap {B = Answer Checked} gives (sym (says_outside _ _ _ _ _ o.before.before.before.before.requires.1.1 _ (sym o.outside.ensures ∙ ap place_option k.place.given.1)))
+    let o = k in
+    ap {B = Answer Checked} gives (sym (says_outside _ _ _ _ _ o.requires.1.1 _ (sym o.outside-place.ensures ∙ ap place_option c.in-At.is)))
 
-enum_told : tie.Need-enum-told
-enum_told c = search rules
+enum_told-1 : tie.Need-enum_told-1
+enum_told-1 c = search rules
 
-equal-images-requires : tie.Need-equal-images-requires
-equal-images-requires c κs = search rules
+equal_images-equal-requires : tie.Need-equal_images-equal-requires
+equal_images-equal-requires c κs = search rules
 
-enum-known-equal : tie.Need-enum-known-equal
-enum-known-equal c = search rules
+enum_known-equal : tie.Need-enum_known-equal
+enum_known-equal c = search rules
 
-returns-2 : tie.Need-returns-2
-returns-2 c =
+returns-in-At-equal : tie.Need-returns-in-At-equal
+returns-in-At-equal c =
     let k = c.before in
     let q = k.before.before in
     let e = q.before in
-    let o = e.before.before in
-    ap {B = Answer Checked} gives (sym (says_equal _ _ _ _ _ o.before.before.before.before.requires.1.1 _ (sym o.outside.ensures ∙ ap place_option e.enum_told.given.1) (sym (q.equal-images.ensures _ _ _) ∙ ap pair_option k.equal.given.1)))
+    let o = e in
+    ap {B = Answer Checked} gives (sym (says_equal _ _ _ _ _ o.requires.1.1 _ (sym q.outside-place.ensures ∙ ap place_option k.in_default.is) (sym (k.equal_images-equal.ensures _ _ _) ∙ ap pair_option c.in-At-equal.is)))
 
-enum-told-2 : tie.Need-enum-told-2
-enum-told-2 c = search rules
+enum_told-in_default-equal : tie.Need-enum_told-in_default-equal
+enum_told-in_default-equal c = search rules
 
 -- What is known when the products are looked at.
-abbrev start : tie.After-enum-told2 → tie.Start
-start t = t.before.before.before.before.before.before.before.before.before
+abbrev start : tie.In_default-equal → tie.Start
+start t = t.before.before.before.before.before.before.before
 
-no_outside : (t : tie.After-enum-told2) → bad_cell (start t).args.n (start t).args.map.now ≡ none
+no_outside : (t : tie.In_default-equal) → bad_cell (start t).args.n (start t).args.map.now ≡ none
 no_outside t =
-    let e = t.before.before.before in
-    sym e.before.before.outside.ensures ∙ ap place_option e.enum_told.given.1
+    let e = t in
+    sym e.outside-place.ensures ∙ ap place_option e.in_default.is
 
-no_equal : (t : tie.After-enum-told2) (s : Product) (n : ℕ) (u : Product) → first_equal (length (start t).args.map.now) s n u (start t).args.map.now ≡ none
-no_equal t s n u = sym (t.before.before.equal-images.ensures s n u) ∙ ap pair_option t.enum-told2.given.1
+no_equal : (t : tie.In_default-equal) (s : Product) (n : ℕ) (u : Product) → first_equal (length (start t).args.map.now) s n u (start t).args.map.now ≡ none
+no_equal t s n u = sym (t.equal_images-equal.ensures s n u) ∙ ap pair_option t.in_default-equal.is
 
-wrong-product-requires : tie.Need-wrong-product-requires
-wrong-product-requires c κs =
+wrong_product-requires : tie.Need-wrong_product-requires
+wrong_product-requires c κs =
     let p = (start c).requires in
     (p.0, (p.1.0, images_inside _ _ _ p.1.1 (no_outside c)))
 
-enum-known-i : tie.Need-enum-known-i
-enum-known-i c = search rules
+enum_known-i : tie.Need-enum_known-i
+enum_known-i c = search rules
 
-enum-told-3 : tie.Need-enum-told-3
-enum-told-3 c = search rules
+enum_told-in-Nothing : tie.Need-enum_told-in-Nothing
+enum_told-in-Nothing c = search rules
 
-returns-3 : tie.Need-returns-3
-returns-3 c =
+returns-in-At-wrong_product : tie.Need-returns-in-At-wrong_product
+returns-in-At-wrong_product c =
     let k = c.before in
     let w = k.before.before in
     let t = w.before in
-    ap {B = Answer Checked} gives (sym (says_product _ _ _ _ _ (start t).requires.1.1 (no_outside t) (no_equal t _ _ _) _ (sym w.wrong-product.ensures ∙ ap pair_option k.i.given.1)))
+    ap {B = Answer Checked} gives (sym (says_product _ _ _ _ _ (start t).requires.1.1 (no_outside t) (no_equal t _ _ _) _ (sym w.wrong_product.ensures ∙ ap pair_option k.in-At-wrong_product.is)))
 
-returns-4 : tie.Need-returns-4
-returns-4 c =
+returns-in-Nothing : tie.Need-returns-in-Nothing
+returns-in-Nothing c =
     let w = c.before.before in
     let t = w.before in
-    ap {B = Answer Checked} gives (sym (says_product _ _ _ _ _ (start t).requires.1.1 (no_outside t) (no_equal t _ _ _) _ (sym w.wrong-product.ensures ∙ ap pair_option c.enum-told3.given.1)))
+    ap {B = Answer Checked} gives (sym (says_product _ _ _ _ _ (start t).requires.1.1 (no_outside t) (no_equal t _ _ _) _ (sym w.wrong_product.ensures ∙ ap pair_option c.in-Nothing.is)))
 
 pub examine_spec : {M : Type 1} → statement M
 examine_spec =
     tie.close
     (tie.spec
-    outside-requires
-    enum-known-place
-    returns
-    enum_told
-    equal-images-requires
-    enum-known-equal
-    returns-2
-    enum-told-2
-    wrong-product-requires
-    enum-known-i
-    enum-told-3
-    returns-3
-    returns-4)
+    outside-place-requires
+    enum_known-place
+    returns-in-At
+    enum_told-1
+    equal_images-equal-requires
+    enum_known-equal
+    returns-in-At-equal
+    enum_told-in_default-equal
+    wrong_product-requires
+    enum_known-i
+    enum_told-in-Nothing
+    returns-in-At-wrong_product
+    returns-in-Nothing)

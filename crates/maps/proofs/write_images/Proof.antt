@@ -9,34 +9,34 @@ use lib.Seq.{take-suc, take-suc-set, take_all}
 use Rattle.maps.proofs.write_images.Statement.{statement}
 use Rattle.maps.proofs.write_images.Tie as tie
 
-abbrev invariant-loop : tie.invariant-loop
-invariant-loop map₀ image m i₀ map i = (length map ≡ length map₀) × (i ≤ m) × (take i map ≡ take i image)
+abbrev invariant-loop-i : tie.invariant-loop-i
+invariant-loop-i map₀ image m i₀ map i = (length map ≡ length map₀) × (i ≤ m) × (take i map ≡ take i image)
 
-abbrev decreases-loop : tie.decreases-loop
-decreases-loop map₀ image m i₀ map i = m - i
+abbrev decreases-loop-i : tie.decreases-loop-i
+decreases-loop-i map₀ image m i₀ map i = m - i
 
-loop-holds : tie.Need-loop-init invariant-loop decreases-loop
-loop-holds c = (refl, omega arith, refl)
+loop-i-init : tie.Need-loop-i-init invariant-loop-i decreases-loop-i
+loop-i-init c = (refl, omega arith, refl)
 
-element-copy-out-map : tie.Need-element-copy-out-map invariant-loop decreases-loop
-element-copy-out-map c = search rules
+bounds-image-i : tie.Need-bounds-image-i invariant-loop-i decreases-loop-i
+bounds-image-i c = search rules
 
-slice-write-map : tie.Need-slice-write-map invariant-loop decreases-loop
-slice-write-map c = search rules
+bounds-map-i : tie.Need-bounds-map-i invariant-loop-i decreases-loop-i
+bounds-map-i c = search rules
 
-add-i : tie.Need-overflow-add-i invariant-loop decreases-loop
-add-i c = omega arith
+overflow_add-i : tie.Need-overflow_add-i invariant-loop-i decreases-loop-i
+overflow_add-i c = omega arith
 
-loop-less : tie.Need-loop-smaller invariant-loop decreases-loop
-loop-less c = omega arith
+loop-i-smaller : tie.Need-loop-i-smaller invariant-loop-i decreases-loop-i
+loop-i-smaller c = omega arith
 
-loop-again : tie.Need-loop-preserved invariant-loop decreases-loop
-loop-again c =
-    let l = c.before.before.loop in
-    let a = c.before.before.before.args in
-    let t = c.before.loop-test.true in
+loop-i-preserved : tie.Need-loop-i-preserved invariant-loop-i decreases-loop-i
+loop-i-preserved c =
+    let l = c.loop-i in
+    let a = c.args in
+    let t = c.loop-i-test.true in
     let i = l.invariant in
-    let m = c.before.before.before.requires in
+    let m = c.requires in
     let long = m.2 in
     let here : l.i < length l.map = omega arith in
     let there : l.i < length a.image.now = omega arith in (
@@ -45,16 +45,16 @@ loop-again c =
       rw (add-one l.i) (take-suc-set l.map l.i (get_or a.image.now l.i 0) here ∙ rw i.2 (sym (take-suc a.image.now l.i 0 there))),
     )
 
-same_length : tie.Need-same-length invariant-loop decreases-loop
-same_length c = c.before.loop.invariant.0
+shape_of-map : tie.Need-shape_of-map invariant-loop-i decreases-loop-i
+shape_of-map c = c.loop-i.invariant.0
 
-returns : tie.Need-returns invariant-loop decreases-loop
+returns : tie.Need-returns invariant-loop-i decreases-loop-i
 returns c =
-    let l = c.before.loop in
-    let a = c.before.before.args in
+    let l = c.loop-i in
+    let a = c.args in
     let i = l.invariant in
-    let m = c.before.before.requires in
-    let t = c.loop-test.false in
+    let m = c.requires in
+    let t = c.loop-i-test.false in
     let last : l.i ≡ a.m = omega arith in
     sym (take_all l.i l.map (omega arith)) ∙ i.2 ∙ ap (λ (k : ℕ). take k a.image.now) last
 
@@ -62,13 +62,13 @@ pub write_images_spec : {M : Type 1} → statement M
 write_images_spec =
     tie.close
     (tie.spec
-    invariant-loop
-    decreases-loop
-    loop-holds
-    element-copy-out-map
-    slice-write-map
-    add-i
-    loop-less
-    loop-again
-    same_length
+    invariant-loop-i
+    decreases-loop-i
+    loop-i-init
+    bounds-image-i
+    bounds-map-i
+    overflow_add-i
+    loop-i-smaller
+    loop-i-preserved
+    shape_of-map
     returns)

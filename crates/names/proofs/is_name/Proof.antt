@@ -9,41 +9,41 @@ use Rattle.sheets.proofs.Steps.{printable_in, printable_low, printable_high}
 use Rattle.names.proofs.is_name.Statement.{statement}
 use Rattle.names.proofs.is_name.Tie as tie
 
-abbrev invariant-loop : tie.invariant-loop
-invariant-loop bytes i₀ i = Printing bytes i
+abbrev invariant-loop-i : tie.invariant-loop-i
+invariant-loop-i bytes i₀ i = Printing bytes i
 
-abbrev decreases-loop : tie.decreases-loop
-decreases-loop bytes i₀ i = length bytes - i
+abbrev decreases-loop-i : tie.decreases-loop-i
+decreases-loop-i bytes i₀ i = length bytes - i
 
-returns : tie.Need-returns invariant-loop decreases-loop
-returns c = name_empty _ c.if1.true
+returns-then-bytes-lt1 : tie.Need-returns-then-bytes-lt1 invariant-loop-i decreases-loop-i
+returns-then-bytes-lt1 c = name_empty _ c.if-bytes-lt1.true
 
-returns-2 : tie.Need-returns-2 invariant-loop decreases-loop
-returns-2 c = name_long _ c.if2.true
+returns-then-bytes-gt40 : tie.Need-returns-then-bytes-gt40 invariant-loop-i decreases-loop-i
+returns-then-bytes-gt40 c = name_long _ c.if-bytes-gt40.true
 
-loop-holds : tie.Need-loop-init invariant-loop decreases-loop
-loop-holds c = (omega arith, refl)
+loop-i-init : tie.Need-loop-i-init invariant-loop-i decreases-loop-i
+loop-i-init c = (omega arith, refl)
 
-shared-slice-read-b : tie.Need-shared-slice-read-b invariant-loop decreases-loop
-shared-slice-read-b c = omega arith
+bounds-bytes-i : tie.Need-bounds-bytes-i invariant-loop-i decreases-loop-i
+bounds-bytes-i c = omega arith
 
-add-i : tie.Need-overflow-add-i invariant-loop decreases-loop
-add-i c = omega arith
+overflow_add-i : tie.Need-overflow_add-i invariant-loop-i decreases-loop-i
+overflow_add-i c = omega arith
 
-loop-less : tie.Need-loop-smaller invariant-loop decreases-loop
-loop-less c = omega arith
+loop-i-smaller : tie.Need-loop-i-smaller invariant-loop-i decreases-loop-i
+loop-i-smaller c = omega arith
 
-loop-again : tie.Need-loop-preserved invariant-loop decreases-loop
-loop-again c = print_next _ _ c.before.before.before.before.loop.invariant c.before.before.before.loop-test.true (printable_in _ c.before.if3.false (let u = c.if4.true in omega arith))
+loop-i-preserved : tie.Need-loop-i-preserved invariant-loop-i decreases-loop-i
+loop-i-preserved c = print_next _ _ c.loop-i.invariant c.loop-i-test.true (printable_in _ c.if-b-lt32.false (let u = c.if-b-lt127.true in omega arith))
 
-returns-3 : tie.Need-returns-3 invariant-loop decreases-loop
-returns-3 c = print_other _ _ c.before.before.before.loop.invariant c.before.before.loop-test.true (printable_low _ c.if3.true)
+returns-in_default : tie.Need-returns-in_default invariant-loop-i decreases-loop-i
+returns-in_default c = print_other _ _ c.loop-i.invariant c.loop-i-test.true (printable_low _ c.if-b-lt32.true)
 
-returns-4 : tie.Need-returns-4 invariant-loop decreases-loop
-returns-4 c = print_other _ _ c.before.before.before.before.loop.invariant c.before.before.before.loop-test.true (printable_high _ c.if4.false)
+returns-in_default-2 : tie.Need-returns-in_default-2 invariant-loop-i decreases-loop-i
+returns-in_default-2 c = print_other _ _ c.loop-i.invariant c.loop-i-test.true (printable_high _ c.if-b-lt127.false)
 
-returns-5 : tie.Need-returns-5 invariant-loop decreases-loop
-returns-5 c = print_done _ _ c.before.loop.invariant c.loop-test.false c.before.before.before.if1.false c.before.before.if2.false
+returns : tie.Need-returns invariant-loop-i decreases-loop-i
+returns c = print_done _ _ c.loop-i.invariant c.loop-i-test.false c.if-bytes-lt1.false c.if-bytes-gt40.false
 
 pub is_name_spec : {M : Type 1} → statement M
-is_name_spec = tie.close (tie.spec invariant-loop decreases-loop returns returns-2 loop-holds shared-slice-read-b add-i loop-less loop-again returns-3 returns-4 returns-5)
+is_name_spec = tie.close (tie.spec invariant-loop-i decreases-loop-i returns-then-bytes-lt1 returns-then-bytes-gt40 loop-i-init bounds-bytes-i overflow_add-i loop-i-smaller loop-i-preserved returns-in_default returns-in_default-2 returns)

@@ -8,71 +8,71 @@ use Rattle.sheets.proofs.Numbers.{number_high, number_empty, number_long, number
 use Rattle.names.proofs.is_number.Statement.{statement}
 use Rattle.names.proofs.is_number.Tie as tie
 
-abbrev invariant-loop : tie.invariant-loop
-invariant-loop bytes k v₀ i₀ v i = Counting bytes i v
+abbrev invariant-loop-i : tie.invariant-loop-i
+invariant-loop-i bytes k v₀ i₀ v i = Counting bytes i v
 
-abbrev decreases-loop : tie.decreases-loop
-decreases-loop bytes k v₀ i₀ v i = length bytes - i
+abbrev decreases-loop-i : tie.decreases-loop-i
+decreases-loop-i bytes k v₀ i₀ v i = length bytes - i
 
-returns : tie.Need-returns invariant-loop decreases-loop
-returns c = number_high _ _ c.if1.true
+returns-then-k-gt-ORDER : tie.Need-returns-then-k-gt-ORDER invariant-loop-i decreases-loop-i
+returns-then-k-gt-ORDER c = number_high _ _ c.if-k-gt-ORDER.true
 
-returns-2 : tie.Need-returns-2 invariant-loop decreases-loop
-returns-2 c = number_empty _ _ c.if2.true
+returns-then-bytes-lt1 : tie.Need-returns-then-bytes-lt1 invariant-loop-i decreases-loop-i
+returns-then-bytes-lt1 c = number_empty _ _ c.if-bytes-lt1.true
 
-returns-3 : tie.Need-returns-3 invariant-loop decreases-loop
-returns-3 c = number_long _ _ c.if3.true
+returns-then-bytes-gt3 : tie.Need-returns-then-bytes-gt3 invariant-loop-i decreases-loop-i
+returns-then-bytes-gt3 c = number_long _ _ c.if-bytes-gt3.true
 
-shared-slice-read-if4 : tie.Need-shared-slice-read-if4 invariant-loop decreases-loop
-shared-slice-read-if4 c = omega arith
+bounds-bytes-0 : tie.Need-bounds-bytes-0 invariant-loop-i decreases-loop-i
+bounds-bytes-0 c = omega arith
 
-returns-4 : tie.Need-returns-4 invariant-loop decreases-loop
-returns-4 c = number_zero _ _ c.if4.true
+returns-then-bytes-eq48 : tie.Need-returns-then-bytes-eq48 invariant-loop-i decreases-loop-i
+returns-then-bytes-eq48 c = number_zero _ _ c.if-bytes-eq48.true
 
-loop-holds : tie.Need-loop-init invariant-loop decreases-loop
-loop-holds c = count_first _
+loop-i-init : tie.Need-loop-i-init invariant-loop-i decreases-loop-i
+loop-i-init c = count_first _
 
-shared-slice-read-b : tie.Need-shared-slice-read-b invariant-loop decreases-loop
-shared-slice-read-b c = omega arith
+bounds-bytes-i : tie.Need-bounds-bytes-i invariant-loop-i decreases-loop-i
+bounds-bytes-i c = omega arith
 
-mul-v : tie.Need-overflow-mul-v invariant-loop decreases-loop
-mul-v c =
-    let l = c.before.before.before.before in
-    let s = count_small _ _ _ l.loop.invariant c.before.before.before.loop-test.true l.before.before.before.if3.false in
+overflow_mul-v : tie.Need-overflow_mul-v invariant-loop-i decreases-loop-i
+overflow_mul-v c =
+    let l = c in
+    let s = count_small _ _ _ l.loop-i.invariant c.loop-i-test.true l.if-bytes-gt3.false in
     omega arith
 
-cast-v : tie.Need-overflow-cast-v invariant-loop decreases-loop
-cast-v c =
-    let u = c.if6.true in
+overflow_cast-v : tie.Need-overflow_cast-v invariant-loop-i decreases-loop-i
+overflow_cast-v c =
+    let u = c.if-b-lt58.true in
     omega arith
 
-add-v : tie.Need-overflow-add-v invariant-loop decreases-loop
-add-v c =
-    let l = c.before.before.before.before in
-    let s = count_small _ _ _ l.loop.invariant c.before.before.before.loop-test.true l.before.before.before.if3.false in
-    let u = c.if6.true in
+overflow_add-v : tie.Need-overflow_add-v invariant-loop-i decreases-loop-i
+overflow_add-v c =
+    let l = c in
+    let s = count_small _ _ _ l.loop-i.invariant c.loop-i-test.true l.if-bytes-gt3.false in
+    let u = c.if-b-lt58.true in
     omega arith
 
-add-i : tie.Need-overflow-add-i invariant-loop decreases-loop
-add-i c = omega arith
+overflow_add-i : tie.Need-overflow_add-i invariant-loop-i decreases-loop-i
+overflow_add-i c = omega arith
 
-loop-less : tie.Need-loop-smaller invariant-loop decreases-loop
-loop-less c = omega arith
+loop-i-smaller : tie.Need-loop-i-smaller invariant-loop-i decreases-loop-i
+loop-i-smaller c = omega arith
 
-loop-again : tie.Need-loop-preserved invariant-loop decreases-loop
-loop-again c = count_next _ _ _ c.before.before.before.before.loop.invariant c.before.before.before.loop-test.true c.before.if5.false (let u = c.if6.true in omega arith)
+loop-i-preserved : tie.Need-loop-i-preserved invariant-loop-i decreases-loop-i
+loop-i-preserved c = count_next _ _ _ c.loop-i.invariant c.loop-i-test.true c.if-b-lt48.false (let u = c.if-b-lt58.true in omega arith)
 
-returns-5 : tie.Need-returns-5 invariant-loop decreases-loop
-returns-5 c = count_other _ _ _ c.before.before.before.loop.invariant c.before.before.loop-test.true _ (below_digit _ c.if5.true)
+returns-in_default : tie.Need-returns-in_default invariant-loop-i decreases-loop-i
+returns-in_default c = count_other _ _ _ c.loop-i.invariant c.loop-i-test.true _ (below_digit _ c.if-b-lt48.true)
 
-returns-6 : tie.Need-returns-6 invariant-loop decreases-loop
-returns-6 c = count_other _ _ _ c.before.before.before.before.loop.invariant c.before.before.before.loop-test.true _ (above_digit _ c.if6.false)
+returns-in_default-2 : tie.Need-returns-in_default-2 invariant-loop-i decreases-loop-i
+returns-in_default-2 c = count_other _ _ _ c.loop-i.invariant c.loop-i-test.true _ (above_digit _ c.if-b-lt58.false)
 
-returns-7 : tie.Need-returns-7 invariant-loop decreases-loop
-returns-7 c =
+returns : tie.Need-returns invariant-loop-i decreases-loop-i
+returns c =
     let s = c.before.before in
-    let k = s.before.before in
-    count_done _ _ _ _ c.before.loop.invariant c.loop-test.false k.before.before.if1.false (k.before.if2.false, k.if3.false) s.if4.false
+    let k = s in
+    count_done _ _ _ _ c.loop-i.invariant c.loop-i-test.false k.if-k-gt-ORDER.false (k.if-bytes-lt1.false, k.if-bytes-gt3.false) s.if-bytes-eq48.false
 
 pub is_number_spec : {M : Type 1} → statement M
-is_number_spec = tie.close (tie.spec invariant-loop decreases-loop returns returns-2 returns-3 shared-slice-read-if4 returns-4 loop-holds shared-slice-read-b mul-v cast-v add-v add-i loop-less loop-again returns-5 returns-6 returns-7)
+is_number_spec = tie.close (tie.spec invariant-loop-i decreases-loop-i returns-then-k-gt-ORDER returns-then-bytes-lt1 returns-then-bytes-gt3 bounds-bytes-0 returns-then-bytes-eq48 loop-i-init bounds-bytes-i overflow_mul-v overflow_cast-v overflow_add-v overflow_add-i loop-i-smaller loop-i-preserved returns-in_default returns-in_default-2 returns)

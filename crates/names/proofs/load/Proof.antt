@@ -17,78 +17,78 @@ use Rattle.names.proofs.load.Statement.{statement}
 use Rattle.names.proofs.load.Tie as tie
 
 -- What is known if the text passes question 40.
-module _ (c : tie.After-enum-told) where
+module _ (c : tie.In_default) where
   abbrev start_of : tie.Start
-  start_of = c.before.before.before.before.before.before
+  start_of = c.before.before.before.before.before
 
   abbrev text_of : List ℕ
   text_of = start_of.args.text.now
 
   accepted : accepts text_of ≡ true
-  accepted = scanned_sheet text_of (sym c.before.before.scan.ensures ∙ ap form_place c.enum_told.given.1)
+  accepted = scanned_sheet text_of (sym c.scan-form.ensures ∙ ap form_place c.in_default.is)
 
 -- What is known if the records pass.
-module _ (c : tie.After-known-told3) where
-  abbrev told : tie.After-enum-told
-  told = c.before.before.before.before
+module _ (c : tie.In-Passed) where
+  abbrev told : tie.In_default
+  told = c.before
 
-  judged : (p : IsSheet (text_of told)) → Judges (sheet_rows p.sheet) c.before.before.before.judge-records.result
-  judged p = c.before.before.before.judge-records.ensures p
+  judged : (p : IsSheet (text_of told)) → Judges (sheet_rows p.sheet) c.judge_records-judged.result
+  judged p = c.judge_records-judged.ensures p
 
-scan-requires : tie.Need-scan-requires
-scan-requires c κs = search rules
+scan-form-requires : tie.Need-scan-form-requires
+scan-form-requires c κs = search rules
 
-enum-known-form : tie.Need-enum-known-form
-enum-known-form c = search rules
+enum_known-form : tie.Need-enum_known-form
+enum_known-form c = search rules
 
-returns : tie.Need-returns
-returns c = bad_form _ _ _ _ (scanned_offence _ _ (sym c.before.before.before.scan.ensures ∙ ap form_place c.before.form.given.1))
+returns-in-Offends : tie.Need-returns-in-Offends
+returns-in-Offends c = bad_form _ _ _ _ (scanned_offence _ _ (sym c.scan-form.ensures ∙ ap form_place c.in-Offends.is))
 
-enum_told : tie.Need-enum-told
-enum_told c = search rules
+enum_told-1 : tie.Need-enum_told-1
+enum_told-1 c = search rules
 
-judge-records-requires : tie.Need-judge-records-requires
-judge-records-requires c κs = accepted_passes _ (accepted c)
+judge_records-judged-requires : tie.Need-judge_records-judged-requires
+judge_records-judged-requires c κs = accepted_passes _ (accepted c)
 
-enum-known-judged : tie.Need-enum-known-judged
-enum-known-judged c = search rules
+enum_known-judged : tie.Need-enum_known-judged
+enum_known-judged c = search rules
 
-enum-known-judged-2 : tie.Need-enum-known-judged-2
-enum-known-judged-2 c = search rules
+enum_known-judged-in-Passed-1 : tie.Need-enum_known-judged-in-Passed-1
+enum_known-judged-in-Passed-1 c = search rules
 
-returns-2 : tie.Need-returns-2
-returns-2 c =
+returns-then-names-total : tie.Need-returns-then-names-total
+returns-then-names-total c =
     let t = c.before in
-    names_short _ _ _ (accepted (told t)) _ _ (λ p. subst (Judges (sheet_rows p.sheet)) t.before.judged2.given.1 (judged t p)) c.if1.true
+    names_short _ _ _ (accepted (told t)) _ _ (λ p. subst (Judges (sheet_rows p.sheet)) t.in-Passed.is (judged t p)) c.if-names-total.true
 
-returns-3 : tie.Need-returns-3
-returns-3 c =
+returns-then-lengths-count : tie.Need-returns-then-lengths-count
+returns-then-lengths-count c =
     let t = c.before.before in
-    lengths_short _ _ _ (accepted (told t)) _ _ (λ p. subst (Judges (sheet_rows p.sheet)) t.before.judged2.given.1 (judged t p)) c.before.if1.false c.if2.true
+    lengths_short _ _ _ (accepted (told t)) _ _ (λ p. subst (Judges (sheet_rows p.sheet)) t.in-Passed.is (judged t p)) c.if-names-total.false c.if-lengths-count.true
 
-write-names-requires : tie.Need-write-names-requires
-write-names-requires c κs =
+write_names-requires : tie.Need-write_names-requires
+write_names-requires c κs =
     let t = c.before.before.before.before in
-    let u = c.before.before.before.if1.false in
-    let v = c.before.before.if2.false in
-    (accepted_passes _ (accepted (told t)), λ p. (let j = subst (Judges (sheet_rows p.sheet)) t.before.judged2.given.1 (judged t p) in let j1 = j.1 in let j2 = j.2 in record { passed = j.0; names = omega arith; lengths = omega arith }))
+    let u = c.if-names-total.false in
+    let v = c.if-lengths-count.false in
+    (accepted_passes _ (accepted (told t)), λ p. (let j = subst (Judges (sheet_rows p.sheet)) t.in-Passed.is (judged t p) in let j1 = j.1 in let j2 = j.2 in record { passed = j.0; names = omega arith; lengths = omega arith }))
 
-returns-4 : tie.Need-returns-4
-returns-4 c =
+returns-in-Failed : tie.Need-returns-in-Failed
+returns-in-Failed c =
     let t = c.before.before.before in
-    bad_record _ _ _ (accepted t.before) _ (λ p. subst (Judges (sheet_rows p.sheet)) c.before.judged.given.1 (t.judge-records.ensures p))
+    bad_record _ _ _ (accepted t.before) _ (λ p. subst (Judges (sheet_rows p.sheet)) c.in-Failed.is (t.judge_records-judged.ensures p))
 
-same_length : tie.Need-same-length
-same_length c = search rules
+shape_of-names : tie.Need-shape_of-names
+shape_of-names c = search rules
 
-same-length-2 : tie.Need-same-length-2
-same-length-2 c = search rules
+shape_of-lengths : tie.Need-shape_of-lengths
+shape_of-lengths c = search rules
 
-returns-5 : tie.Need-returns-5
-returns-5 c =
+returns-else-lengths-count : tie.Need-returns-else-lengths-count
+returns-else-lengths-count c =
     let t = c.before.before.before.before.before.before.before.before.before in
-    let w = c.before.before.before.before.write-names.ensures in
-    loads _ _ _ (accepted (told t)) _ _ (λ p. subst (Judges (sheet_rows p.sheet)) t.before.judged2.given.1 (judged t p)) c.before.before.before.before.before.before.before.before.if1.false c.before.before.before.before.before.before.before.if2.false _ _ w.0 w.1
+    let w = c.write_names.ensures in
+    loads _ _ _ (accepted (told t)) _ _ (λ p. subst (Judges (sheet_rows p.sheet)) t.in-Passed.is (judged t p)) c.if-names-total.false c.if-lengths-count.false _ _ w.0 w.1
 
 pub load_spec : {M : Type 1} → statement M
-load_spec = tie.close (tie.spec scan-requires enum-known-form returns enum_told judge-records-requires enum-known-judged enum-known-judged-2 returns-2 returns-3 write-names-requires returns-4 same_length same-length-2 returns-5)
+load_spec = tie.close (tie.spec scan-form-requires enum_known-form returns-in-Offends enum_told-1 judge_records-judged-requires enum_known-judged enum_known-judged-in-Passed-1 returns-then-names-total returns-then-lengths-count write_names-requires returns-in-Failed shape_of-names shape_of-lengths returns-else-lengths-count)

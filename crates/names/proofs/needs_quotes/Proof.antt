@@ -9,41 +9,41 @@ use Rattle.sheets.proofs.Memory.{quote_found, comma_found, quotes_further, quote
 use Rattle.names.proofs.needs_quotes.Statement.{statement}
 use Rattle.names.proofs.needs_quotes.Tie as tie
 
-abbrev invariant-loop : tie.invariant-loop
-invariant-loop name i₀ i = (i ≤ length name) × (needs_quotes name ≡ needs_quotes (drop i name))
+abbrev invariant-loop-i : tie.invariant-loop-i
+invariant-loop-i name i₀ i = (i ≤ length name) × (needs_quotes name ≡ needs_quotes (drop i name))
 
-abbrev decreases-loop : tie.decreases-loop
-decreases-loop name i₀ i = length name - i
+abbrev decreases-loop-i : tie.decreases-loop-i
+decreases-loop-i name i₀ i = length name - i
 
-loop-holds : tie.Need-loop-init invariant-loop decreases-loop
-loop-holds c = (omega arith, refl)
+loop-i-init : tie.Need-loop-i-init invariant-loop-i decreases-loop-i
+loop-i-init c = (omega arith, refl)
 
-shared-slice-read-b : tie.Need-shared-slice-read-b invariant-loop decreases-loop
-shared-slice-read-b c = omega arith
+bounds-name-i : tie.Need-bounds-name-i invariant-loop-i decreases-loop-i
+bounds-name-i c = omega arith
 
-returns : tie.Need-returns invariant-loop decreases-loop
-returns c =
-    let h = c.before.before in
-    sym (h.before.loop.invariant.1 ∙ quote_found _ _ h.loop-test.true c.match.keys1)
+returns-in-34 : tie.Need-returns-in-34 invariant-loop-i decreases-loop-i
+returns-in-34 c =
+    let h = c in
+    sym (h.loop-i.invariant.1 ∙ quote_found _ _ h.loop-i-test.true c.in-34.is)
 
-returns-2 : tie.Need-returns-2 invariant-loop decreases-loop
-returns-2 c =
-    let h = c.before.before in
-    sym (h.before.loop.invariant.1 ∙ comma_found _ _ h.loop-test.true c.match.keys2)
+returns-in-44 : tie.Need-returns-in-44 invariant-loop-i decreases-loop-i
+returns-in-44 c =
+    let h = c in
+    sym (h.loop-i.invariant.1 ∙ comma_found _ _ h.loop-i-test.true c.in-44.is)
 
-add-i : tie.Need-overflow-add-i invariant-loop decreases-loop
-add-i c = omega arith
+overflow_add-i : tie.Need-overflow_add-i invariant-loop-i decreases-loop-i
+overflow_add-i c = omega arith
 
-loop-less : tie.Need-loop-smaller invariant-loop decreases-loop
-loop-less c = omega arith
+loop-i-smaller : tie.Need-loop-i-smaller invariant-loop-i decreases-loop-i
+loop-i-smaller c = omega arith
 
-loop-again : tie.Need-loop-preserved invariant-loop decreases-loop
-loop-again c =
-    let h = c.before.before in
-    (omega arith, h.before.loop.invariant.1 ∙ quotes_further _ _ h.loop-test.true c.match.rest.0.1 c.match.rest.1)
+loop-i-preserved : tie.Need-loop-i-preserved invariant-loop-i decreases-loop-i
+loop-i-preserved c =
+    let h = c in
+    (omega arith, h.loop-i.invariant.1 ∙ quotes_further _ _ h.loop-i-test.true c.in_default.in_default-own.rest.0.1 c.in_default.in_default-own.rest.1)
 
-returns-3 : tie.Need-returns-3 invariant-loop decreases-loop
-returns-3 c = sym (c.before.loop.invariant.1 ∙ quotes_end _ _ c.loop-test.false)
+returns : tie.Need-returns invariant-loop-i decreases-loop-i
+returns c = sym (c.loop-i.invariant.1 ∙ quotes_end _ _ c.loop-i-test.false)
 
 pub needs_quotes_spec : {M : Type 1} → statement M
-needs_quotes_spec = tie.close (tie.spec invariant-loop decreases-loop loop-holds shared-slice-read-b returns returns-2 add-i loop-less loop-again returns-3)
+needs_quotes_spec = tie.close (tie.spec invariant-loop-i decreases-loop-i loop-i-init bounds-name-i returns-in-34 returns-in-44 overflow_add-i loop-i-smaller loop-i-preserved returns)

@@ -11,154 +11,154 @@ use Rattle.sheets.proofs.Memory.{PuttingNames, put_first, put_length, put_inside
 use Rattle.names.proofs.put_names.Statement.{statement}
 use Rattle.names.proofs.put_names.Tie as tie
 
-abbrev invariant-loop : tie.invariant-loop
-invariant-loop names lengths text₀ start₀ k₀ at₀ text start k at = PuttingNames names lengths text₀ text start k at
+abbrev invariant-loop-k : tie.invariant-loop-k
+invariant-loop-k names lengths text₀ start₀ k₀ at₀ text start k at = PuttingNames names lengths text₀ text start k at
 
-abbrev decreases-loop : tie.decreases-loop
-decreases-loop names lengths text₀ start₀ k₀ at₀ text start k at = length lengths - k
+abbrev decreases-loop-k : tie.decreases-loop-k
+decreases-loop-k names lengths text₀ start₀ k₀ at₀ text start k at = length lengths - k
 
-loop-holds : tie.Need-loop-init invariant-loop decreases-loop
-loop-holds c = put_first _ _ _ c.before.before.before.requires.0.passed
+loop-k-init : tie.Need-loop-k-init invariant-loop-k decreases-loop-k
+loop-k-init c = put_first _ _ _ c.requires.0.passed
 
-shared-slice-read-end : tie.Need-shared-slice-read-end invariant-loop decreases-loop
-shared-slice-read-end c = omega arith
+bounds-lengths-k : tie.Need-bounds-lengths-k invariant-loop-k decreases-loop-k
+bounds-lengths-k c = omega arith
 
-cast-end : tie.Need-overflow-cast-end invariant-loop decreases-loop
-cast-end c = omega (arith, c.shared-slice-known3.given c.before.before.loop.k)
+overflow_cast-end : tie.Need-overflow_cast-end invariant-loop-k decreases-loop-k
+overflow_cast-end c = omega (arith, c.shared_slice_known-in-loop-k-1.given c.loop-k.k)
 
 -- What is known in one turn of the loop.
-module _ (c : tie.In-loop invariant-loop decreases-loop) where
-  abbrev at-loop : tie.At-loop invariant-loop decreases-loop
+module _ (c : tie.In-loop-k invariant-loop-k decreases-loop-k) where
+  abbrev at-loop : tie.At-loop-k invariant-loop-k decreases-loop-k
   at-loop = c.before
 
-  abbrev start_of : tie.Start invariant-loop decreases-loop
+  abbrev start_of : tie.Start invariant-loop-k decreases-loop-k
   start_of = at-loop.before.before.before.before
 
   abbrev size : ℕ
-  size = get_or start_of.args.lengths.now at-loop.loop.k 0
+  size = get_or start_of.args.lengths.now at-loop.loop-k.k 0
 
   abbrev name : List ℕ
-  name = take size (drop at-loop.loop.start start_of.args.names.now)
+  name = take size (drop at-loop.loop-k.start start_of.args.names.now)
 
-  inside : at-loop.loop.start + size ≤ length start_of.args.names.now
-  inside = put_inside _ _ at-loop.loop.invariant c.loop-test.true
+  inside : at-loop.loop-k.start + size ≤ length start_of.args.names.now
+  inside = put_inside _ _ at-loop.loop-k.invariant c.loop-k-test.true
 
-  part_is : take ((at-loop.loop.start + size) - at-loop.loop.start) (drop at-loop.loop.start start_of.args.names.now) ≡ name
-  part_is = ap (λ (n : ℕ). take n (drop at-loop.loop.start start_of.args.names.now)) (let z : (at-loop.loop.start + size) - at-loop.loop.start ≡ size = omega arith in z)
+  part_is : take ((at-loop.loop-k.start + size) - at-loop.loop-k.start) (drop at-loop.loop-k.start start_of.args.names.now) ≡ name
+  part_is = ap (λ (n : ℕ). take n (drop at-loop.loop-k.start start_of.args.names.now)) (let z : (at-loop.loop-k.start + size) - at-loop.loop-k.start ≡ size = omega arith in z)
 
-  room : at-loop.loop.at + (length (numeral (at-loop.loop.k + 1)) + (1 + (length (name_text name) + 2))) ≤ length at-loop.loop.text
-  room = put_room _ _ at-loop.loop.invariant c.loop-test.true start_of.requires.1
+  room : at-loop.loop-k.at + (length (numeral (at-loop.loop-k.k + 1)) + (1 + (length (name_text name) + 2))) ≤ length at-loop.loop-k.text
+  room = put_room _ _ at-loop.loop-k.invariant c.loop-k-test.true start_of.requires.1
 
-  kept_length : length at-loop.loop.text ≡ length start_of.args.text.now
-  kept_length = put_length _ _ at-loop.loop.invariant
+  kept_length : length at-loop.loop-k.text ≡ length start_of.args.text.now
+  kept_length = put_length _ _ at-loop.loop-k.invariant
 
 -- What is known once the number is written.
-module _ (c : tie.After-put-number invariant-loop decreases-loop) where
-  abbrev turn : tie.In-loop invariant-loop decreases-loop
+module _ (c : tie.After-put_number-at invariant-loop-k decreases-loop-k) where
+  abbrev turn : tie.In-loop-k invariant-loop-k decreases-loop-k
   turn = c.before.before.before
 
-  number_length : length c.put-number.new.0 ≡ length (at-loop turn).loop.text
-  number_length = c.put-number.auto.0
+  number_length : length c.put_number-at.new.out ≡ length (at-loop turn).loop-k.text
+  number_length = c.put_number-at.auto.out
 
 -- What is known once the name is written.
-module _ (c : tie.After-put-name invariant-loop decreases-loop) where
-  abbrev numbered : tie.After-put-number invariant-loop decreases-loop
+module _ (c : tie.After-put_name-at invariant-loop-k decreases-loop-k) where
+  abbrev numbered : tie.After-put_number-at invariant-loop-k decreases-loop-k
   numbered = c.before.before.before.before.before
 
-  name_length : length c.put-name.new.0 ≡ length numbered.put-number.last.0
-  name_length = c.put-name.auto.0 ∙ simp length-set
+  name_length : length c.put_name-at.new.text ≡ length numbered.put_number-at.last.0
+  name_length = c.put_name-at.auto.0 ∙ simp length-set
 
-  end_is : c.put-name.result ≡ (numbered.put-number.result + 1) + length (name_text (name (turn numbered)))
-  end_is = c.put-name.ensures.0 ∙ ap (λ (l : List ℕ). (numbered.put-number.result + 1) + length (name_text l)) (part_is (turn numbered))
+  end_is : c.put_name-at.result ≡ (numbered.put_number-at.result + 1) + length (name_text (name (turn numbered)))
+  end_is = c.put_name-at.ensures.0 ∙ ap (λ (l : List ℕ). (numbered.put_number-at.result + 1) + length (name_text l)) (part_is (turn numbered))
 
-add-end : tie.Need-overflow-add-end invariant-loop decreases-loop
-add-end c =
+overflow_add-end : tie.Need-overflow_add-end invariant-loop-k decreases-loop-k
+overflow_add-end c =
     let i = inside c.before in
     omega arith
 
-add-put-number : tie.Need-overflow-add-put-number invariant-loop decreases-loop
-add-put-number c =
-    let h = c.before.before.loop-test.true in
+overflow_add-k : tie.Need-overflow_add-k invariant-loop-k decreases-loop-k
+overflow_add-k c =
+    let h = c.loop-k-test.true in
     omega arith
 
-put-number-requires : tie.Need-put-number-requires invariant-loop decreases-loop
-put-number-requires c κs =
+put_number-at-requires : tie.Need-put_number-at-requires invariant-loop-k decreases-loop-k
+put_number-at-requires c κs =
     let t = c.before.before in
     let f = (start_of t).requires.0.few in
-    let h = t.loop-test.true in
+    let h = t.loop-k-test.true in
     let r = room t in
     (omega arith, omega arith)
 
-slice-write-text : tie.Need-slice-write-text invariant-loop decreases-loop
-slice-write-text c =
+bounds-text-at : tie.Need-bounds-text-at invariant-loop-k decreases-loop-k
+bounds-text-at c =
     let n = c.before.before in
-    let e = n.put-number.ensures.0 in
+    let e = n.put_number-at.ensures.0 in
     let r = room (turn n) in
     let l = number_length n in
     omega arith
 
-add-put-name : tie.Need-overflow-add-put-name invariant-loop decreases-loop
-add-put-name c =
+overflow_add-at : tie.Need-overflow_add-at invariant-loop-k decreases-loop-k
+overflow_add-at c =
     let n = c.before.before.before in
-    let e = n.put-number.ensures.0 in
+    let e = n.put_number-at.ensures.0 in
     let r = room (turn n) in
     let l = kept_length (turn n) in
     omega arith
 
-sub-put-name : tie.Need-overflow-sub-put-name invariant-loop decreases-loop
-sub-put-name c = omega arith
+slice_bounds-put_name-count : tie.Need-slice_bounds-put_name-count invariant-loop-k decreases-loop-k
+slice_bounds-put_name-count c = omega arith
 
-part-put-name-start : tie.Need-slice-bounds-put-name-start invariant-loop decreases-loop
-part-put-name-start c =
+slice_bounds-put_name-start : tie.Need-slice_bounds-put_name-start invariant-loop-k decreases-loop-k
+slice_bounds-put_name-start c =
     let i = inside (turn c.before.before.before) in
     omega arith
 
-part-put-name-end : tie.Need-slice-bounds-put-name-end invariant-loop decreases-loop
-part-put-name-end c =
+slice_bounds-put_name-end : tie.Need-slice_bounds-put_name-end invariant-loop-k decreases-loop-k
+slice_bounds-put_name-end c =
     let i = inside (turn c.before.before.before) in
     omega arith
 
-put-name-requires : tie.Need-put-name-requires invariant-loop decreases-loop
-put-name-requires c κs =
+put_name-at-requires : tie.Need-put_name-at-requires invariant-loop-k decreases-loop-k
+put_name-at-requires c κs =
     let n = c.before.before.before.before in
-    let e = n.put-number.ensures.0 in
+    let e = n.put_number-at.ensures.0 in
     let r = room (turn n) in
     let l = number_length n in
     rw (length-set, part_is (turn n)) (omega arith)
 
-put-break-requires : tie.Need-put-break-requires invariant-loop decreases-loop
-put-break-requires c κs =
+put_break-at-requires : tie.Need-put_break-at-requires invariant-loop-k decreases-loop-k
+put_break-at-requires c κs =
     let m = c.before.before.before in
     let n = numbered m in
-    let e = n.put-number.ensures.0 in
+    let e = n.put_number-at.ensures.0 in
     let d = end_is m in
     let r = room (turn n) in
     let l = number_length n in
     let k = name_length m in
     omega arith
 
-add-k : tie.Need-overflow-add-k invariant-loop decreases-loop
-add-k c =
-    let h = c.before.before.before.before.before.before.before.before.before.before.before.before.before.before.loop-test.true in
+overflow_add-k-in-loop-k : tie.Need-overflow_add-k-in-loop-k invariant-loop-k decreases-loop-k
+overflow_add-k-in-loop-k c =
+    let h = c.loop-k-test.true in
     omega arith
 
-loop-less : tie.Need-loop-smaller invariant-loop decreases-loop
-loop-less c =
-    let h = c.before.before.before.before.before.before.before.before.before.before.before.before.before.before.loop-test.true in
+loop-k-smaller : tie.Need-loop-k-smaller invariant-loop-k decreases-loop-k
+loop-k-smaller c =
+    let h = c.loop-k-test.true in
     omega arith
 
-loop-again : tie.Need-loop-preserved invariant-loop decreases-loop
-loop-again c =
+loop-k-preserved : tie.Need-loop-k-preserved invariant-loop-k decreases-loop-k
+loop-k-preserved c =
     let m = c.before.before.before.before.before.before in
     let n = numbered m in
-    let put = c.before.before.put-break in
-    put_next _ _ (at-loop (turn n)).loop.invariant (turn n).loop-test.true _ _ _ _ _ _ n.put-number.ensures.1 n.put-number.ensures.0 (rw (part_is (turn n)) at m.put-name.ensures.1) (end_is m) put.ensures.1 put.ensures.0
+    let put = c.put_break-at in
+    put_next _ _ (at-loop (turn n)).loop-k.invariant (turn n).loop-k-test.true _ _ _ _ _ _ n.put_number-at.ensures.1 n.put_number-at.ensures.0 (rw (part_is (turn n)) at m.put_name-at.ensures.1) (end_is m) put.ensures.1 put.ensures.0
 
-same_length : tie.Need-same-length invariant-loop decreases-loop
-same_length c = put_length _ _ c.before.loop.invariant
+shape_of-text : tie.Need-shape_of-text invariant-loop-k decreases-loop-k
+shape_of-text c = put_length _ _ c.loop-k.invariant
 
-returns : tie.Need-returns invariant-loop decreases-loop
-returns c = put_done _ _ c.before.loop.invariant c.loop-test.false c.before.before.before.before.before.requires.1
+returns : tie.Need-returns invariant-loop-k decreases-loop-k
+returns c = put_done _ _ c.loop-k.invariant c.loop-k-test.false c.requires.1
 
 pub put_names_spec : {M : Type 1} → statement M
-put_names_spec = tie.close (tie.spec invariant-loop decreases-loop loop-holds shared-slice-read-end cast-end add-end add-put-number put-number-requires slice-write-text add-put-name sub-put-name part-put-name-start part-put-name-end put-name-requires put-break-requires add-k loop-less loop-again same_length returns)
+put_names_spec = tie.close (tie.spec invariant-loop-k decreases-loop-k loop-k-init bounds-lengths-k overflow_cast-end overflow_add-end overflow_add-k put_number-at-requires bounds-text-at overflow_add-at slice_bounds-put_name-count slice_bounds-put_name-start slice_bounds-put_name-end put_name-at-requires put_break-at-requires overflow_add-k-in-loop-k loop-k-smaller loop-k-preserved shape_of-text returns)

@@ -11,62 +11,62 @@ use Rattle.names.proofs.Values.{Gathered, gathered_first, gathered_next, gathere
 use Rattle.names.proofs.read_bare.Statement.{statement}
 use Rattle.names.proofs.read_bare.Tie as tie
 
-abbrev invariant-loop : tie.invariant-loop
-invariant-loop text at value₀ i₀ value i = Gathered bare_value (λ l. length (bare_value l)) text at i value
+abbrev invariant-loop-i : tie.invariant-loop-i
+invariant-loop-i text at value₀ i₀ value i = Gathered bare_value (λ l. length (bare_value l)) text at i value
 
-abbrev decreases-loop : tie.decreases-loop
-decreases-loop text at value₀ i₀ value i = length text - i
+abbrev decreases-loop-i : tie.decreases-loop-i
+decreases-loop-i text at value₀ i₀ value i = length text - i
 
-empty-requires : tie.Need-empty-requires invariant-loop decreases-loop
-empty-requires c κs = tt
+empty-value-requires : tie.Need-empty-value-requires invariant-loop-i decreases-loop-i
+empty-value-requires c κs = tt
 
-loop-holds : tie.Need-loop-init invariant-loop decreases-loop
-loop-holds c = gathered_first _ _ _ _ _ c.before.before.requires c.empty.ensures
+loop-i-init : tie.Need-loop-i-init invariant-loop-i decreases-loop-i
+loop-i-init c = gathered_first _ _ _ _ _ c.requires c.empty-value.ensures
 
-shared-slice-read-b : tie.Need-shared-slice-read-b invariant-loop decreases-loop
-shared-slice-read-b c = omega arith
+bounds-text-i : tie.Need-bounds-text-i invariant-loop-i decreases-loop-i
+bounds-text-i c = omega arith
 
-ending-requires : tie.Need-ending-requires invariant-loop decreases-loop
+ending-requires : tie.Need-ending-requires invariant-loop-i decreases-loop-i
 ending-requires c κs = tt
 
-returns : tie.Need-returns invariant-loop decreases-loop
-returns c =
-    let h = c.before.before.before in
-    let e = bare_stops _ _ h.loop-test.true (inr c.before.match.keys1) in
-    gathered_last _ _ _ _ _ _ h.before.loop.invariant _ _ 0 (e, ap length e) (omega arith) c.ending.ensures
+returns-in-13 : tie.Need-returns-in-13 invariant-loop-i decreases-loop-i
+returns-in-13 c =
+    let h = c in
+    let e = bare_stops _ _ h.loop-i-test.true (inr c.in-13.is) in
+    gathered_last _ _ _ _ _ _ h.loop-i.invariant _ _ 0 (e, ap length e) (omega arith) c.ending.ensures
 
-ending-requires-2 : tie.Need-ending-requires-2 invariant-loop decreases-loop
+ending-requires-in-44 : tie.Need-ending-requires-in-44 invariant-loop-i decreases-loop-i
+ending-requires-in-44 c κs = tt
+
+returns-in-44 : tie.Need-returns-in-44 invariant-loop-i decreases-loop-i
+returns-in-44 c =
+    let h = c in
+    let e = bare_stops _ _ h.loop-i-test.true (inl c.in-44.is) in
+    gathered_last _ _ _ _ _ _ h.loop-i.invariant _ _ 0 (e, ap length e) (omega arith) c.ending-in-44.ensures
+
+with-value-requires : tie.Need-with-value-requires invariant-loop-i decreases-loop-i
+with-value-requires c κs = tt
+
+overflow_add-i : tie.Need-overflow_add-i invariant-loop-i decreases-loop-i
+overflow_add-i c = omega arith
+
+loop-i-smaller : tie.Need-loop-i-smaller invariant-loop-i decreases-loop-i
+loop-i-smaller c = omega arith
+
+loop-i-preserved : tie.Need-loop-i-preserved invariant-loop-i decreases-loop-i
+loop-i-preserved c =
+    let h = c in
+    let t = h.loop-i-test.true in
+    gathered_next _ _ _ _ _ _ h.loop-i.invariant _ _ _ (omega arith) (omega arith) (bare_goes_on _ _ t c.in_default.in_default-own.rest.0.1 c.in_default.in_default-own.rest.1) c.with-value.ensures
+
+ending-requires-2 : tie.Need-ending-requires-2 invariant-loop-i decreases-loop-i
 ending-requires-2 c κs = tt
 
-returns-2 : tie.Need-returns-2 invariant-loop decreases-loop
-returns-2 c =
-    let h = c.before.before.before in
-    let e = bare_stops _ _ h.loop-test.true (inl c.before.match.keys2) in
-    gathered_last _ _ _ _ _ _ h.before.loop.invariant _ _ 0 (e, ap length e) (omega arith) c.ending2.ensures
-
-with-requires : tie.Need-with-requires invariant-loop decreases-loop
-with-requires c κs = tt
-
-add-i : tie.Need-overflow-add-i invariant-loop decreases-loop
-add-i c = omega arith
-
-loop-less : tie.Need-loop-smaller invariant-loop decreases-loop
-loop-less c = omega arith
-
-loop-again : tie.Need-loop-preserved invariant-loop decreases-loop
-loop-again c =
-    let h = c.before.before.before in
-    let t = h.loop-test.true in
-    gathered_next _ _ _ _ _ _ h.before.loop.invariant _ _ _ (omega arith) (omega arith) (bare_goes_on _ _ t c.before.match.rest.0.1 c.before.match.rest.1) c.with.ensures
-
-ending-requires-3 : tie.Need-ending-requires-3 invariant-loop decreases-loop
-ending-requires-3 c κs = tt
-
-returns-3 : tie.Need-returns-3 invariant-loop decreases-loop
-returns-3 c =
-    let l = c.before in
-    let e = nothing_bare _ _ l.loop-test.false in
-    gathered_last _ _ _ _ _ _ l.before.loop.invariant _ _ 0 (e, ap length e) (omega arith) c.ending3.ensures
+returns : tie.Need-returns invariant-loop-i decreases-loop-i
+returns c =
+    let l = c in
+    let e = nothing_bare _ _ l.loop-i-test.false in
+    gathered_last _ _ _ _ _ _ l.loop-i.invariant _ _ 0 (e, ap length e) (omega arith) c.ending-2.ensures
 
 pub read_bare_spec : {M : Type 1} → statement M
-read_bare_spec = tie.close (tie.spec invariant-loop decreases-loop empty-requires loop-holds shared-slice-read-b ending-requires returns ending-requires-2 returns-2 with-requires add-i loop-less loop-again ending-requires-3 returns-3)
+read_bare_spec = tie.close (tie.spec invariant-loop-i decreases-loop-i empty-value-requires loop-i-init bounds-text-i ending-requires returns-in-13 ending-requires-in-44 returns-in-44 with-value-requires overflow_add-i loop-i-smaller loop-i-preserved ending-requires-2 returns)

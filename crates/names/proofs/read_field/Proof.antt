@@ -9,20 +9,20 @@ use Rattle.names.specs.InnerReading.{HoldsValue}
 use Rattle.names.proofs.read_field.Statement.{statement}
 use Rattle.names.proofs.read_field.Tie as tie
 
+returns-then-text-at : tie.Need-returns-then-text-at
+returns-then-text-at c =
+    let f = field_none _ _ c.if-text-at.true in
+    (subst (λ (l : List ℕ). HoldsValue l c.read_bare.result) f.0 c.read_bare.ensures.0, c.read_bare.ensures.1 ∙ ap (λ (n : ℕ). c.args.at + n) f.1)
+
+returns-then-text-at-eq34 : tie.Need-returns-then-text-at-eq34
+returns-then-text-at-eq34 c =
+    let f = field_quoted _ _ c.if-text-at.false c.if-text-at-eq34.true in
+    (subst (λ (l : List ℕ). HoldsValue l c.read_quoted.result) f.0 c.read_quoted.ensures.0, c.read_quoted.ensures.1 ∙ f.1)
+
 returns : tie.Need-returns
 returns c =
-    let f = field_none _ _ c.before.if1.true in
-    (subst (λ (l : List ℕ). HoldsValue l c.read-bare.result) f.0 c.read-bare.ensures.0, c.read-bare.ensures.1 ∙ ap (λ (n : ℕ). c.before.before.before.args.at + n) f.1)
-
-returns-2 : tie.Need-returns-2
-returns-2 c =
-    let f = field_quoted _ _ c.before.before.before.if1.false c.before.if2.true in
-    (subst (λ (l : List ℕ). HoldsValue l c.read-quoted.result) f.0 c.read-quoted.ensures.0, c.read-quoted.ensures.1 ∙ f.1)
-
-returns-3 : tie.Need-returns-3
-returns-3 c =
-    let f = field_bare _ _ c.before.before.before.if1.false c.before.if2.false in
-    (subst (λ (l : List ℕ). HoldsValue l c.read-bare2.result) f.0 c.read-bare2.ensures.0, c.read-bare2.ensures.1 ∙ ap (λ (n : ℕ). c.before.before.before.before.before.args.at + n) f.1)
+    let f = field_bare _ _ c.if-text-at.false c.if-text-at-eq34.false in
+    (subst (λ (l : List ℕ). HoldsValue l c.read_bare-2.result) f.0 c.read_bare-2.ensures.0, c.read_bare-2.ensures.1 ∙ ap (λ (n : ℕ). c.args.at + n) f.1)
 
 pub read_field_spec : {M : Type 1} → statement M
-read_field_spec = tie.close (tie.spec (λ c κs. search rules) returns (λ c. search rules) (λ c. search rules) (λ c κs. search rules) returns-2 (λ c κs. search rules) returns-3)
+read_field_spec = tie.close (tie.spec (λ c κs. search rules) returns-then-text-at (λ c. search rules) (λ c. search rules) (λ c κs. search rules) returns-then-text-at-eq34 (λ c κs. search rules) returns)

@@ -8,48 +8,48 @@ use Rattle.names.specs.InnerReading.{JudgesNames}
 use Rattle.names.proofs.save.Statement.{statement}
 use Rattle.names.proofs.save.Tie as tie
 
-returns : tie.Need-returns
-returns c = no_lengths _ _ _ c.if1.true
+returns-then-lengths-lt1 : tie.Need-returns-then-lengths-lt1
+returns-then-lengths-lt1 c = no_lengths _ _ _ c.if-lengths-lt1.true
 
-returns-2 : tie.Need-returns-2
-returns-2 c = many_lengths _ _ _ c.if2.true
+returns-then-lengths-gt-ORDER : tie.Need-returns-then-lengths-gt-ORDER
+returns-then-lengths-gt-ORDER c = many_lengths _ _ _ c.if-lengths-gt-ORDER.true
 
-judge-names-requires : tie.Need-judge-names-requires
-judge-names-requires c κs = search rules
+judge_names-judged-requires : tie.Need-judge_names-judged-requires
+judge_names-judged-requires c κs = search rules
 
-enum-known-judged : tie.Need-enum-known-judged
-enum-known-judged c = search rules
+enum_known-judged : tie.Need-enum_known-judged
+enum_known-judged c = search rules
 
-enum-known-judged-2 : tie.Need-enum-known-judged-2
-enum-known-judged-2 c = search rules
+enum_known-judged-in-Passed-1 : tie.Need-enum_known-judged-in-Passed-1
+enum_known-judged-in-Passed-1 c = search rules
 
-returns-3 : tie.Need-returns-3
-returns-3 c =
-    let j = c.before.before.before.before in
-    let told = subst (JudgesNames _ _) c.before.before.judged2.given.1 j.judge-names.ensures in
-    short_text _ _ _ _ (j.before.before.if1.false, j.before.if2.false) (told.0, told.2) c.if3.true
+returns-then-text-total : tie.Need-returns-then-text-total
+returns-then-text-total c =
+    let j = c in
+    let told = subst (JudgesNames _ _) c.in-Passed.is j.judge_names-judged.ensures in
+    short_text _ _ _ _ (j.if-lengths-lt1.false, j.if-lengths-gt-ORDER.false) (told.0, told.2) c.if-text-total.true
 
-put-names-requires : tie.Need-put-names-requires
-put-names-requires c κs =
-    let j = c.before.before.before.before.before in
-    let told = subst (JudgesNames _ _) c.before.before.before.judged2.given.1 j.judge-names.ensures in
+put_names-requires : tie.Need-put_names-requires
+put_names-requires c κs =
+    let j = c in
+    let told = subst (JudgesNames _ _) c.in-Passed.is j.judge_names-judged.ensures in
     let t = told.2 in
-    let u = c.before.if3.false in
-    (record { few = j.before.if2.false; passed = told.0 }, omega arith)
+    let u = c.if-text-total.false in
+    (record { few = j.if-lengths-gt-ORDER.false; passed = told.0 }, omega arith)
 
-returns-4 : tie.Need-returns-4
-returns-4 c =
-    let j = c.before.before.before in
-    bad_name _ _ _ _ (j.before.before.if1.false, j.before.if2.false) (subst (JudgesNames _ _) c.before.judged.given.1 j.judge-names.ensures)
+returns-in-Failed : tie.Need-returns-in-Failed
+returns-in-Failed c =
+    let j = c in
+    bad_name _ _ _ _ (j.if-lengths-lt1.false, j.if-lengths-gt-ORDER.false) (subst (JudgesNames _ _) c.in-Failed.is j.judge_names-judged.ensures)
 
-same_length : tie.Need-same-length
-same_length c = search rules
+shape_of-text : tie.Need-shape_of-text
+shape_of-text c = search rules
 
-returns-5 : tie.Need-returns-5
-returns-5 c =
-    let j = c.before.before.before.before.before.before.before.before in
-    let told = subst (JudgesNames _ _) c.before.before.before.before.before.before.judged2.given.1 j.judge-names.ensures in
-    saves_text _ _ _ _ (j.before.before.if1.false, j.before.if2.false) (told.0, told.2) c.before.before.before.before.if3.false _ c.before.before.put-names.ensures
+returns-else-text-total : tie.Need-returns-else-text-total
+returns-else-text-total c =
+    let j = c in
+    let told = subst (JudgesNames _ _) c.in-Passed.is j.judge_names-judged.ensures in
+    saves_text _ _ _ _ (j.if-lengths-lt1.false, j.if-lengths-gt-ORDER.false) (told.0, told.2) c.if-text-total.false _ c.put_names.ensures
 
 pub save_spec : {M : Type 1} → statement M
-save_spec = tie.close (tie.spec returns returns-2 judge-names-requires enum-known-judged enum-known-judged-2 returns-3 put-names-requires returns-4 same_length returns-5)
+save_spec = tie.close (tie.spec returns-then-lengths-lt1 returns-then-lengths-gt-ORDER judge_names-judged-requires enum_known-judged enum_known-judged-in-Passed-1 returns-then-text-total put_names-requires returns-in-Failed shape_of-text returns-else-text-total)

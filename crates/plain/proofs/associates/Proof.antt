@@ -21,76 +21,76 @@ module _ (c : tie.Start) where
   third : Element c.args.n (get_or c.args.triple.now 2 0)
   third = entry_element _ _ _ c.requires.1 2 (omega arith)
 
-element-copy-out-i : tie.Need-element-copy-out-i
-element-copy-out-i c = search rules
+bounds-triple-0 : tie.Need-bounds-triple-0
+bounds-triple-0 c = search rules
 
-cast-i : tie.Need-overflow-cast-i
-cast-i c =
+overflow_cast-i : tie.Need-overflow_cast-i
+overflow_cast-i c =
     let b = c.before.before in
     let e = first b in
     let o = b.requires.0.order in
     omega arith
 
-element-copy-out-j : tie.Need-element-copy-out-j
-element-copy-out-j c = search rules
+bounds-triple-1 : tie.Need-bounds-triple-1
+bounds-triple-1 c = search rules
 
-cast-j : tie.Need-overflow-cast-j
-cast-j c =
+overflow_cast-j : tie.Need-overflow_cast-j
+overflow_cast-j c =
     let b = c.before.before.before in
     let e = second b in
     let o = b.requires.0.order in
     omega arith
 
-element-copy-out-k : tie.Need-element-copy-out-k
-element-copy-out-k c = search rules
+bounds-triple-2 : tie.Need-bounds-triple-2
+bounds-triple-2 c = search rules
 
-cast-k : tie.Need-overflow-cast-k
-cast-k c =
+overflow_cast-k : tie.Need-overflow_cast-k
+overflow_cast-k c =
     let b = c.before.before.before.before in
     let e = third b in
     let o = b.requires.0.order in
     omega arith
 
-product-requires : tie.Need-product-requires
-product-requires c κs =
+product-ij-requires : tie.Need-product-ij-requires
+product-ij-requires c κs =
     let b = c.before.before.before.before in
     (b.requires.0, (first b, second b))
 
-product-requires-2 : tie.Need-product-requires-2
-product-requires-2 c κs =
+product-jk-requires : tie.Need-product-jk-requires
+product-jk-requires c κs =
     let b = c.before.before.before.before.before in
     (b.requires.0, (second b, third b))
 
-product-requires-3 : tie.Need-product-requires-3
-product-requires-3 c κs =
+product-requires : tie.Need-product-requires
+product-requires c κs =
     let b = c.before.before.before.before.before.before in
-    (b.requires.0, (c.before.product.ensures.1, third b))
+    (b.requires.0, (c.product-ij.ensures.1, third b))
 
-product-requires-4 : tie.Need-product-requires-4
-product-requires-4 c κs =
+product-requires-2 : tie.Need-product-requires-2
+product-requires-2 c κs =
     let b = c.before.before.before.before.before.before.before in
-    (b.requires.0, (first b, c.before.product2.ensures.1))
+    (b.requires.0, (first b, c.product-jk.ensures.1))
 
 returns : tie.Need-returns
 unfolding associates at
 returns c =
-    let b = c.before.before.before.before.before.before.before.before in
+    let b = c in
     let s = product b.args.n b.args.cells.now in
-    ap₂ eqb (c.before.product3.ensures.0 ∙ ap (λ (q : ℕ). s q (get_or b.args.triple.now 2 0)) c.before.before.before.product.ensures.0)
-    (c.product4.ensures.0 ∙ ap (λ (q : ℕ). s (get_or b.args.triple.now 0 0) q) c.before.before.product2.ensures.0)
+    ap₂ eqb (c.product.ensures.0 ∙ ap (λ (q : ℕ). s q (get_or b.args.triple.now 2 0)) c.product-ij.ensures.0)
+    (c.product-2.ensures.0 ∙ ap (λ (q : ℕ). s (get_or b.args.triple.now 0 0) q) c.product-jk.ensures.0)
 
 pub associates_spec : {M : Type 1} → statement M
 associates_spec =
     tie.close
     (tie.spec
-    element-copy-out-i
-    cast-i
-    element-copy-out-j
-    cast-j
-    element-copy-out-k
-    cast-k
+    bounds-triple-0
+    overflow_cast-i
+    bounds-triple-1
+    overflow_cast-j
+    bounds-triple-2
+    overflow_cast-k
+    product-ij-requires
+    product-jk-requires
     product-requires
     product-requires-2
-    product-requires-3
-    product-requires-4
     returns)

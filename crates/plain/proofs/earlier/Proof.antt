@@ -8,53 +8,53 @@ use Rattle.plain.proofs.Enumeration.{order_next, order_decided, order_end}
 use Rattle.plain.proofs.earlier.Statement.{statement}
 use Rattle.plain.proofs.earlier.Tie as tie
 
-abbrev invariant-loop : tie.invariant-loop
-invariant-loop a b i₀ i = earlier a b ≡ earlier (drop i a) (drop i b)
+abbrev invariant-loop-i : tie.invariant-loop-i
+invariant-loop-i a b i₀ i = earlier a b ≡ earlier (drop i a) (drop i b)
 
-abbrev decreases-loop : tie.decreases-loop
-decreases-loop a b i₀ i = length a - i
+abbrev decreases-loop-i : tie.decreases-loop-i
+decreases-loop-i a b i₀ i = length a - i
 
-loop-holds : tie.Need-loop-init invariant-loop decreases-loop
-loop-holds c = refl
+loop-i-init : tie.Need-loop-i-init invariant-loop-i decreases-loop-i
+loop-i-init c = refl
 
-shared-slice-read-x : tie.Need-shared-slice-read-x invariant-loop decreases-loop
-shared-slice-read-x c = omega arith
+bounds-a-i : tie.Need-bounds-a-i invariant-loop-i decreases-loop-i
+bounds-a-i c = omega arith
 
-shared-slice-read-y : tie.Need-shared-slice-read-y invariant-loop decreases-loop
-shared-slice-read-y c =
-    let p = c.before.before.before.before.requires in
+bounds-b-i : tie.Need-bounds-b-i invariant-loop-i decreases-loop-i
+bounds-b-i c =
+    let p = c.requires in
     omega arith
 
-returns : tie.Need-returns invariant-loop decreases-loop
-returns c =
-    let h = c.before.before.before.before in
-    sym (h.loop.invariant ∙ order_decided _ _ h.before.requires _ c.before.before.before.loop-test.true c.if1.true)
+returns-then-x-y : tie.Need-returns-then-x-y invariant-loop-i decreases-loop-i
+returns-then-x-y c =
+    let h = c in
+    sym (h.loop-i.invariant ∙ order_decided _ _ h.requires _ c.loop-i-test.true c.if-x-y.true)
 
-add-i : tie.Need-overflow-add-i invariant-loop decreases-loop
-add-i c = omega arith
+overflow_add-i : tie.Need-overflow_add-i invariant-loop-i decreases-loop-i
+overflow_add-i c = omega arith
 
-loop-less : tie.Need-loop-smaller invariant-loop decreases-loop
-loop-less c = omega arith
+loop-i-smaller : tie.Need-loop-i-smaller invariant-loop-i decreases-loop-i
+loop-i-smaller c = omega arith
 
-loop-again : tie.Need-loop-preserved invariant-loop decreases-loop
-loop-again c =
-    let h = c.before.before.before.before in
-    h.loop.invariant ∙ order_next _ _ h.before.requires _ c.before.before.before.loop-test.true c.if1.false
+loop-i-preserved : tie.Need-loop-i-preserved invariant-loop-i decreases-loop-i
+loop-i-preserved c =
+    let h = c in
+    h.loop-i.invariant ∙ order_next _ _ h.requires _ c.loop-i-test.true c.if-x-y.false
 
-returns-2 : tie.Need-returns-2 invariant-loop decreases-loop
-returns-2 c = sym (c.before.loop.invariant ∙ order_end _ _ c.before.before.requires _ c.loop-test.false)
+returns : tie.Need-returns invariant-loop-i decreases-loop-i
+returns c = sym (c.loop-i.invariant ∙ order_end _ _ c.requires _ c.loop-i-test.false)
 
 pub earlier_spec : {M : Type 1} → statement M
 earlier_spec =
     tie.close
     (tie.spec
-    invariant-loop
-    decreases-loop
-    loop-holds
-    shared-slice-read-x
-    shared-slice-read-y
-    returns
-    add-i
-    loop-less
-    loop-again
-    returns-2)
+    invariant-loop-i
+    decreases-loop-i
+    loop-i-init
+    bounds-a-i
+    bounds-b-i
+    returns-then-x-y
+    overflow_add-i
+    loop-i-smaller
+    loop-i-preserved
+    returns)

@@ -1,5 +1,5 @@
 -- `judge_triples` meets its contract. The invariant: what is said is what is said of the triples from number k on. Assumes nothing.
-use mathlib.Core.Path.{◌≡◌, refl, sym, ◌∙◌, subst}
+use mathlib.Core.Path.{ap, ◌≡◌, refl, sym, ◌∙◌, subst}
 use mathlib.Core.Bool.{true, false, not}
 use mathlib.Core.Option.{map}
 use Prim.Native.Nat.{ℕ, ◌-◌, ◌^◌, ◌≤◌, ◌<◌}
@@ -16,110 +16,110 @@ use Rattle.plain.proofs.Triples.{triples_from, triples_begin, triples_next, trip
 use Rattle.plain.proofs.judge_triples.Statement.{statement}
 use Rattle.plain.proofs.judge_triples.Tie as tie
 
-abbrev invariant-loop : tie.invariant-loop
-invariant-loop cells n total triple₀ k₀ triple k = (length triple ≡ 3) × (said_of (map (λ l. no 4 l) (bad_triple n (product n cells))) ≡ triples_from n (product n cells) k)
+abbrev invariant-loop-k : tie.invariant-loop-k
+invariant-loop-k cells n total triple₀ k₀ triple k = (length triple ≡ 3) × (said_of (map (λ l. no 4 l) (bad_triple n (product n cells))) ≡ triples_from n (product n cells) k)
 
-abbrev decreases-loop : tie.decreases-loop
-decreases-loop cells n total triple₀ k₀ triple k = total - k
+abbrev decreases-loop-k : tie.decreases-loop-k
+decreases-loop-k cells n total triple₀ k₀ triple k = total - k
 
 -- Number k is below the number of lists.
-below : (x : tie.In-loop invariant-loop decreases-loop) → x.before.loop.k < x.before.before.before.before.args.n ^ 3
-below x = subst (λ (q : ℕ). x.before.loop.k < q) x.before.before.number-of-lists.ensures x.loop-test.true
+below : (x : tie.In-loop-k invariant-loop-k decreases-loop-k) → x.loop-k.k < x.args.n ^ 3
+below x = subst (λ (q : ℕ). x.loop-k.k < q) x.number_of_lists-total.ensures x.loop-k-test.true
 
 -- The triple that is written is list number k, so its entries are elements.
-module _ (w : tie.After-write-list invariant-loop decreases-loop) where
-  written : w.write-list.new.0 ≡ numbered 3 w.before.before.before.before.before.before.args.n w.before.before.before.loop.k
-  written = drawn _ _ _ _ _ w.before.before.before.loop.invariant.0 w.write-list.ensures
+module _ (w : tie.After-write_list invariant-loop-k decreases-loop-k) where
+  written : w.write_list.new.list ≡ numbered 3 w.args.n w.loop-k.k
+  written = drawn _ _ _ _ _ w.loop-k.invariant.0 w.write_list.ensures
 
-  triple : IsList 3 w.before.before.before.before.before.before.args.n w.write-list.last.0
-  triple = drawn_list _ _ _ _ _ w.before.before.before.loop.invariant.0 w.write-list.ensures (below w.before.before)
+  triple : IsList 3 w.args.n w.write_list.last.0
+  triple = drawn_list _ _ _ _ _ w.loop-k.invariant.0 w.write_list.ensures (below w.before.before)
 
-  entry_fits : (k : ℕ) → k < 3 → get_or w.write-list.last.0 k 0 ≤ 120
-  entry_fits k h = let e = entry_element _ _ _ triple k h in let o = w.before.before.before.before.before.before.requires.order in omega arith
+  entry_fits : (k : ℕ) → k < 3 → get_or w.write_list.last.0 k 0 ≤ 120
+  entry_fits k h = let e = entry_element _ _ _ triple k h in let o = w.requires.order in omega arith
 
-number-of-lists-requires : tie.Need-number-of-lists-requires invariant-loop decreases-loop
-number-of-lists-requires c κs = (omega arith, c.before.requires.order.1)
+number_of_lists-total-requires : tie.Need-number_of_lists-total-requires invariant-loop-k decreases-loop-k
+number_of_lists-total-requires c κs = (omega arith, c.requires.order.1)
 
-loop-holds : tie.Need-loop-init invariant-loop decreases-loop
-loop-holds c = (refl, triples_begin _ _)
+loop-k-init : tie.Need-loop-k-init invariant-loop-k decreases-loop-k
+loop-k-init c = (refl, triples_begin _ _)
 
-slice-aggregate-write-list : tie.Need-slice-aggregate-write-list invariant-loop decreases-loop
-slice-aggregate-write-list c = sym c.before.before.loop.invariant.0
+slice_bounds-write_list-end : tie.Need-slice_bounds-write_list-end invariant-loop-k decreases-loop-k
+slice_bounds-write_list-end c = sym c.loop-k.invariant.0
 
-write-list-requires : tie.Need-write-list-requires invariant-loop decreases-loop
-write-list-requires c κs =
+write_list-requires : tie.Need-write_list-requires invariant-loop-k decreases-loop-k
+write_list-requires c κs =
     let x = c.before in
-    let b = x.before.before.before.before in
-    (b.requires.order, subst (λ (q : ℕ). x.before.loop.k < b.args.n ^ q) (sym x.before.loop.invariant.0) (below x))
+    let b = x in
+    (b.requires.order, subst (λ (q : ℕ). x.loop-k.k < b.args.n ^ q) (sym x.loop-k.invariant.0) (below x))
 
-associates-requires : tie.Need-associates-requires invariant-loop decreases-loop
-associates-requires c κs = let w = c.before.before in (w.before.before.before.before.before.before.requires, triple w)
+associates-requires : tie.Need-associates-requires invariant-loop-k decreases-loop-k
+associates-requires c κs = let w = c.before.before in (w.requires, triple w)
 
-array-read-t14 : tie.Need-array-read-t14 invariant-loop decreases-loop
-array-read-t14 c = let size = (triple c.before.before.before.before).size in omega arith
+bounds-triple-0 : tie.Need-bounds-triple-0 invariant-loop-k decreases-loop-k
+bounds-triple-0 c = let size = (triple c.before.before.before.before).size in omega arith
 
-cast-t15 : tie.Need-overflow-cast-t15 invariant-loop decreases-loop
-cast-t15 c = omega (arith, entry_fits c.before.before.before.before 0 (omega arith))
+overflow_cast-result : tie.Need-overflow_cast-result invariant-loop-k decreases-loop-k
+overflow_cast-result c = omega (arith, entry_fits c.before.before.before.before 0 (omega arith))
 
-array-read-t18 : tie.Need-array-read-t18 invariant-loop decreases-loop
-array-read-t18 c = let size = (triple c.before.before.before.before).size in omega arith
+bounds-triple-1 : tie.Need-bounds-triple-1 invariant-loop-k decreases-loop-k
+bounds-triple-1 c = let size = (triple c.before.before.before.before).size in omega arith
 
-cast-t19 : tie.Need-overflow-cast-t19 invariant-loop decreases-loop
-cast-t19 c = omega (arith, entry_fits c.before.before.before.before 1 (omega arith))
+overflow_cast-result-then-not-associates : tie.Need-overflow_cast-result-then-not-associates invariant-loop-k decreases-loop-k
+overflow_cast-result-then-not-associates c = omega (arith, entry_fits c.before.before.before.before 1 (omega arith))
 
-array-read-t22 : tie.Need-array-read-t22 invariant-loop decreases-loop
-array-read-t22 c = let size = (triple c.before.before.before.before).size in omega arith
+bounds-triple-2 : tie.Need-bounds-triple-2 invariant-loop-k decreases-loop-k
+bounds-triple-2 c = let size = (triple c.before.before.before.before).size in omega arith
 
-cast-t23 : tie.Need-overflow-cast-t23 invariant-loop decreases-loop
-cast-t23 c = omega (arith, entry_fits c.before.before.before.before 2 (omega arith))
+overflow_cast-result-then-not-associates-2 : tie.Need-overflow_cast-result-then-not-associates-2 invariant-loop-k decreases-loop-k
+overflow_cast-result-then-not-associates-2 c = omega (arith, entry_fits c.before.before.before.before 2 (omega arith))
 
-returns : tie.Need-returns invariant-loop decreases-loop
-returns c =
+returns-then-not-associates : tie.Need-returns-then-not-associates invariant-loop-k decreases-loop-k
+returns-then-not-associates c =
     let w = c.before.before.before.before in
-    let fails : c.before.associates.result ≡ false = untrue _ (λ q. clash {b = not c.before.associates.result} c.if1.true (not_of_true _ q)) in
-    sym (w.before.before.before.loop.invariant.1 ∙ triples_hit _ _ _ (below w.before.before) _ (written w) (sym c.before.associates.ensures ∙ fails))
+    let fails : c.associates.result ≡ false = untrue _ (λ q. clash {b = not c.associates.result} (ap not c.if-not-associates.true) (not_of_true _ q)) in
+    sym (w.loop-k.invariant.1 ∙ triples_hit _ _ _ (below w.before.before) _ (written w) (sym c.associates.ensures ∙ fails))
 
-add-k : tie.Need-overflow-add-k invariant-loop decreases-loop
-add-k c = omega arith
+overflow_add-k : tie.Need-overflow_add-k invariant-loop-k decreases-loop-k
+overflow_add-k c = omega arith
 
-loop-less : tie.Need-loop-smaller invariant-loop decreases-loop
-loop-less c = omega arith
+loop-k-smaller : tie.Need-loop-k-smaller invariant-loop-k decreases-loop-k
+loop-k-smaller c = omega arith
 
-loop-again : tie.Need-loop-preserved invariant-loop decreases-loop
-loop-again c =
+loop-k-preserved : tie.Need-loop-k-preserved invariant-loop-k decreases-loop-k
+loop-k-preserved c =
     let w = c.before.before.before.before in
-    let passes : c.before.associates.result ≡ true = unfalse _ (λ q. clash {b = not c.before.associates.result} (not_of_false _ q) c.if1.false) in
-    ((triple w).size, w.before.before.before.loop.invariant.1 ∙ triples_next _ _ _ (below w.before.before) _ (written w) (sym c.before.associates.ensures ∙ passes))
+    let passes : c.associates.result ≡ true = unfalse _ (λ q. clash {b = not c.associates.result} (not_of_false _ q) (ap not c.if-not-associates.false)) in
+    ((triple w).size, w.loop-k.invariant.1 ∙ triples_next _ _ _ (below w.before.before) _ (written w) (sym c.associates.ensures ∙ passes))
 
-failed-requires : tie.Need-failed-requires invariant-loop decreases-loop
+failed-requires : tie.Need-failed-requires invariant-loop-k decreases-loop-k
 failed-requires c κs = tt
 
-returns-2 : tie.Need-returns-2 invariant-loop decreases-loop
-returns-2 c =
-    let h = c.before.before in
-    let total = h.before.number-of-lists.ensures in
-    c.failed.ensures ∙ sym (h.loop.invariant.1 ∙ triples_end _ _ _ (omega arith))
+returns : tie.Need-returns invariant-loop-k decreases-loop-k
+returns c =
+    let h = c in
+    let total = h.number_of_lists-total.ensures in
+    c.failed.ensures ∙ sym (h.loop-k.invariant.1 ∙ triples_end _ _ _ (omega arith))
 
 pub judge_triples_spec : {M : Type 1} → statement M
 judge_triples_spec =
     tie.close
     (tie.spec
-    invariant-loop
-    decreases-loop
-    number-of-lists-requires
-    loop-holds
-    slice-aggregate-write-list
-    write-list-requires
+    invariant-loop-k
+    decreases-loop-k
+    number_of_lists-total-requires
+    loop-k-init
+    slice_bounds-write_list-end
+    write_list-requires
     associates-requires
-    array-read-t14
-    cast-t15
-    array-read-t18
-    cast-t19
-    array-read-t22
-    cast-t23
-    returns
-    add-k
-    loop-less
-    loop-again
+    bounds-triple-0
+    overflow_cast-result
+    bounds-triple-1
+    overflow_cast-result-then-not-associates
+    bounds-triple-2
+    overflow_cast-result-then-not-associates-2
+    returns-then-not-associates
+    overflow_add-k
+    loop-k-smaller
+    loop-k-preserved
     failed-requires
-    returns-2)
+    returns)

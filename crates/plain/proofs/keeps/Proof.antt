@@ -28,77 +28,77 @@ module _ (c : tie.Start) where
   image_in : (i x : ℕ) → Element c.args.m i → x ≡ at c.args.map.now i → Element c.args.n x
   image_in i x h e = subst (Element c.args.n) (sym e) (list_at _ _ _ c.requires.1.1.0 i h)
 
-element-copy-out-i : tie.Need-element-copy-out-i
-element-copy-out-i c = search rules
+bounds-pair-0 : tie.Need-bounds-pair-0
+bounds-pair-0 c = search rules
 
-cast-i : tie.Need-overflow-cast-i
-cast-i c =
+overflow_cast-i : tie.Need-overflow_cast-i
+overflow_cast-i c =
     let b = c.before.before.before.before in
     let e = first b in
     let o = b.requires.0.order in
     omega arith
 
-element-copy-out-j : tie.Need-element-copy-out-j
-element-copy-out-j c = search rules
+bounds-pair-1 : tie.Need-bounds-pair-1
+bounds-pair-1 c = search rules
 
-cast-j : tie.Need-overflow-cast-j
-cast-j c =
+overflow_cast-j : tie.Need-overflow_cast-j
+overflow_cast-j c =
     let b = c.before.before.before.before.before in
     let e = second b in
     let o = b.requires.0.order in
     omega arith
 
-image-requires : tie.Need-image-requires
-image-requires c κs =
+image-x-requires : tie.Need-image-x-requires
+image-x-requires c κs =
     let b = c.before.before.before.before.before in
     placed b _ (first b)
 
-image-requires-2 : tie.Need-image-requires-2
-image-requires-2 c κs =
+image-y-requires : tie.Need-image-y-requires
+image-y-requires c κs =
     let b = c.before.before.before.before.before.before in
     placed b _ (second b)
 
-product-requires : tie.Need-product-requires
-product-requires c κs =
+product-ij-requires : tie.Need-product-ij-requires
+product-ij-requires c κs =
     let b = c.before.before.before.before.before.before.before in
     (b.requires.0, (first b, second b))
 
-image-requires-3 : tie.Need-image-requires-3
-image-requires-3 c κs =
+image-requires : tie.Need-image-requires
+image-requires c κs =
     let b = c.before.before.before.before.before.before.before.before in
-    placed b _ c.product.ensures.1
+    placed b _ c.product-ij.ensures.1
 
-product-requires-2 : tie.Need-product-requires-2
-product-requires-2 c κs =
+product-requires : tie.Need-product-requires
+product-requires c κs =
     let b = c.before.before.before.before.before.before.before.before.before in
-    (b.requires.1.0, (image_in b _ _ (first b) c.before.before.before.image.ensures, image_in b _ _ (second b) c.before.before.image2.ensures))
+    (b.requires.1.0, (image_in b _ _ (first b) c.image-x.ensures, image_in b _ _ (second b) c.image-y.ensures))
 
 returns : tie.Need-returns
 unfolding keeps at
 returns c =
-    let b = c.before.before.before.before.before.before.before.before.before.before in
+    let b = c in
     let f = b.args.map.now in
     let i = get_or b.args.pair.now 0 0 in
     let j = get_or b.args.pair.now 1 0 in
     let s = product b.args.m b.args.source.now in
     let t = product b.args.n b.args.target.now in
-    let x : c.before.before.before.before.image.result ≡ at f i = c.before.before.before.before.image.ensures in
-    let y : c.before.before.before.image2.result ≡ at f j = c.before.before.before.image2.ensures in
-    let ij : c.before.before.product.result ≡ s i j = c.before.before.product.ensures.0 in
-    let kept = ap₂ eqb (c.before.image3.ensures ∙ ap (at f) ij) (c.product2.ensures.0 ∙ ap₂ t x y) in
+    let x : c.image-x.result ≡ at f i = c.image-x.ensures in
+    let y : c.image-y.result ≡ at f j = c.image-y.ensures in
+    let ij : c.product-ij.result ≡ s i j = c.product-ij.ensures.0 in
+    let kept = ap₂ eqb (c.image.ensures ∙ ap (at f) ij) (c.product.ensures.0 ∙ ap₂ t x y) in
     ap₂ (λ (p q : Bool). (eqb i j || not p) && q) (ap₂ eqb x y) kept
 
 pub keeps_spec : {M : Type 1} → statement M
 keeps_spec =
     tie.close
     (tie.spec
-    element-copy-out-i
-    cast-i
-    element-copy-out-j
-    cast-j
+    bounds-pair-0
+    overflow_cast-i
+    bounds-pair-1
+    overflow_cast-j
+    image-x-requires
+    image-y-requires
+    product-ij-requires
     image-requires
-    image-requires-2
     product-requires
-    image-requires-3
-    product-requires-2
     returns)

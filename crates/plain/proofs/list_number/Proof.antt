@@ -5,19 +5,19 @@ use borrow.Author.Rules.{rules}
 use Rattle.plain.proofs.list_number.Statement.{statement}
 use Rattle.plain.proofs.list_number.Tie as tie
 
-array-borrow-prefix-list : tie.Need-array-borrow-prefix-list
-array-borrow-prefix-list c = search rules
+slice_bounds-list-end : tie.Need-slice_bounds-list-end
+slice_bounds-list-end c = search rules
 
-slice-aggregate-write-list : tie.Need-slice-aggregate-write-list
-slice-aggregate-write-list c = front_long _ 9 c.before.requires.0 _ refl
+slice_bounds-write_list-end : tie.Need-slice_bounds-write_list-end
+slice_bounds-write_list-end c = front_long _ 9 c.requires.0 _ refl
 
-write-list-requires : tie.Need-write-list-requires
-write-list-requires c κs = let s = c.before in (s.requires.1.0, front_number _ 9 s.requires.0 _ refl _ _ s.requires.1.1)
+write_list-requires : tie.Need-write_list-requires
+write_list-requires c κs = let s = c in (s.requires.1.0, front_number _ 9 s.requires.0 _ refl _ _ s.requires.1.1)
 
 returns : tie.Need-returns
-returns c = front_written _ 9 c.before.before.before.requires.0 _ refl _ _ _ c.before.write-list.ensures
+returns c = front_written _ 9 c.requires.0 _ refl _ _ _ c.write_list.ensures
 
 pub list_number_spec : {M : Type 1} → statement M
 list_number_spec =
     tie.close
-    (tie.spec array-borrow-prefix-list slice-aggregate-write-list write-list-requires returns)
+    (tie.spec slice_bounds-list-end slice_bounds-write_list-end write_list-requires returns)

@@ -14,91 +14,91 @@ use Rattle.plain.proofs.Earliest.{later, earliest_later}
 use Rattle.plain.proofs.next_map.Statement.{statement}
 use Rattle.plain.proofs.next_map.Tie as tie
 
-abbrev invariant-loop : tie.invariant-loop
-invariant-loop isomorphisms source m target n after map₀ total k₀ map k =
+abbrev invariant-loop-k : tie.invariant-loop-k
+invariant-loop-k isomorphisms source m target n after map₀ total k₀ map k =
     let s = product m source in
     let t = product n target in
     let kind = plain_kind isomorphisms in
     (map ≡ map₀) × (earliest (next after) (maps kind m s n t) ≡ remaining (later m s n t kind after) m n k)
 
-abbrev decreases-loop : tie.decreases-loop
-decreases-loop isomorphisms source m target n after map₀ total k₀ map k = total - k
+abbrev decreases-loop-k : tie.decreases-loop-k
+decreases-loop-k isomorphisms source m target n after map₀ total k₀ map k = total - k
 
-module _ (c : tie.At-loop invariant-loop decreases-loop) where
-  abbrev start_of : tie.Start invariant-loop decreases-loop
+module _ (c : tie.At-loop-k invariant-loop-k decreases-loop-k) where
+  abbrev start_of : tie.Start invariant-loop-k decreases-loop-k
   start_of = c.before.before.before.before.before.before
 
   -- The map buffer has m bytes.
-  whole : length c.loop.map ≡ start_of.args.m
-  whole = ap length c.loop.invariant.0 ∙ start_of.requires.1.1.1.1
+  whole : length c.loop-k.map ≡ start_of.args.m
+  whole = ap length c.loop-k.invariant.0 ∙ start_of.requires.1.1.1.1
 
 -- Number k is below the number of lists.
-below : (c : tie.In-loop invariant-loop decreases-loop) → c.before.loop.k < (start_of c.before).args.n ^ (start_of c.before).args.m
-below c = subst (λ (q : ℕ). c.before.loop.k < q) c.before.before.number-of-lists.ensures c.loop-test.true
+below : (c : tie.In-loop-k invariant-loop-k decreases-loop-k) → c.loop-k.k < (start_of c.before).args.n ^ (start_of c.before).args.m
+below c = subst (λ (q : ℕ). c.loop-k.k < q) c.number_of_lists-total.ensures c.loop-k-test.true
 
-number-of-lists-requires : tie.Need-number-of-lists-requires invariant-loop decreases-loop
-number-of-lists-requires c κs = let s = c.before.before.before.before in (s.requires.1.1.0, s.requires.1.0.order.1)
+number_of_lists-total-requires : tie.Need-number_of_lists-total-requires invariant-loop-k decreases-loop-k
+number_of_lists-total-requires c κs = let s = c in (s.requires.1.1.0, s.requires.1.0.order.1)
 
-loop-holds : tie.Need-loop-init invariant-loop decreases-loop
-loop-holds c = (refl, earliest_later _ _ _ _ _ _ ∙ search_begin _ _ _)
+loop-k-init : tie.Need-loop-k-init invariant-loop-k decreases-loop-k
+loop-k-init c = (refl, earliest_later _ _ _ _ _ _ ∙ search_begin _ _ _)
 
-is-later-map-requires : tie.Need-is-later-map-requires invariant-loop decreases-loop
-is-later-map-requires c κs = let s = start_of c.before in (s.requires.0, (s.requires.1.0, (s.requires.1.1.0, (s.requires.1.1.1.0, below c))))
+is_later_map-requires : tie.Need-is_later_map-requires invariant-loop-k decreases-loop-k
+is_later_map-requires c κs = let s = start_of c.before in (s.requires.0, (s.requires.1.0, (s.requires.1.1.0, (s.requires.1.1.1.0, below c))))
 
-write-list-requires : tie.Need-write-list-requires invariant-loop decreases-loop
-write-list-requires c κs =
+write_list-requires : tie.Need-write_list-requires invariant-loop-k decreases-loop-k
+write_list-requires c κs =
     let inside = c.before.before.before in
     let s = start_of inside.before in
-    (s.requires.1.0.order, subst (λ (q : ℕ). inside.before.loop.k < s.args.n ^ q) (sym (whole inside.before)) (below inside))
+    (s.requires.1.0.order, subst (λ (q : ℕ). inside.loop-k.k < s.args.n ^ q) (sym (whole inside.before)) (below inside))
 
-same_length : tie.Need-same-length invariant-loop decreases-loop
-same_length c =
+shape_of-map-then-is_later_map : tie.Need-shape_of-map-then-is_later_map invariant-loop-k decreases-loop-k
+shape_of-map-then-is_later_map c =
     let inside = c.before.before.before.before.before.before in
     let s = start_of inside.before in
-    (drawn_list _ _ _ _ _ (whole inside.before) c.before.before.write-list.ensures (below inside)).size ∙ sym s.requires.1.1.1.1
+    (drawn_list _ _ _ _ _ (whole inside.before) c.write_list.ensures (below inside)).size ∙ sym s.requires.1.1.1.1
 
-returns : tie.Need-returns invariant-loop decreases-loop
-returns c =
+returns-then-is_later_map : tie.Need-returns-then-is_later_map invariant-loop-k decreases-loop-k
+returns-then-is_later_map c =
     let inside = c.before.before.before.before.before.before in
     let h = inside.before in
-    let hit = h.loop.invariant.1 ∙ search_hit _ _ _ _ (below inside) (sym c.before.before.before.before.before.is-later-map.ensures ∙ c.before.before.before.before.if1.true) in
-    (ap is_some (sym hit), drawn _ _ _ _ _ (whole h) c.before.before.write-list.ensures ∙ ap (λ (o : Option (List ℕ)). get_or o (start_of h).args.map.now) (sym hit))
+    let hit = h.loop-k.invariant.1 ∙ search_hit _ _ _ _ (below inside) (sym c.is_later_map.ensures ∙ c.if-is_later_map.true) in
+    (ap is_some (sym hit), drawn _ _ _ _ _ (whole h) c.write_list.ensures ∙ ap (λ (o : Option (List ℕ)). get_or o (start_of h).args.map.now) (sym hit))
 
-add-k : tie.Need-overflow-add-k invariant-loop decreases-loop
-add-k c = omega (arith, c.before.before.loop-test.true)
+overflow_add-k : tie.Need-overflow_add-k invariant-loop-k decreases-loop-k
+overflow_add-k c = omega (arith, c.loop-k-test.true)
 
-loop-less : tie.Need-loop-smaller invariant-loop decreases-loop
-loop-less c = omega (arith, c.before.before.loop-test.true)
+loop-k-smaller : tie.Need-loop-k-smaller invariant-loop-k decreases-loop-k
+loop-k-smaller c = omega (arith, c.loop-k-test.true)
 
-loop-again : tie.Need-loop-preserved invariant-loop decreases-loop
-loop-again c =
+loop-k-preserved : tie.Need-loop-k-preserved invariant-loop-k decreases-loop-k
+loop-k-preserved c =
     let inside = c.before.before in
-    (inside.before.loop.invariant.0, inside.before.loop.invariant.1 ∙ search_skip _ _ _ _ (below inside) (sym c.before.is-later-map.ensures ∙ c.if1.false))
+    (inside.loop-k.invariant.0, inside.loop-k.invariant.1 ∙ search_skip _ _ _ _ (below inside) (sym c.is_later_map.ensures ∙ c.if-is_later_map.false))
 
-same-length-2 : tie.Need-same-length-2 invariant-loop decreases-loop
-same-length-2 c = ap length c.before.loop.invariant.0
+shape_of-map : tie.Need-shape_of-map invariant-loop-k decreases-loop-k
+shape_of-map c = ap length c.loop-k.invariant.0
 
-returns-2 : tie.Need-returns-2 invariant-loop decreases-loop
-returns-2 c =
+returns : tie.Need-returns invariant-loop-k decreases-loop-k
+returns c =
     let h = c.before in
-    let total = h.before.number-of-lists.ensures in
-    let end = h.loop.invariant.1 ∙ search_end _ _ _ _ (omega arith) in
-    (ap is_some (sym end), h.loop.invariant.0 ∙ ap (λ (o : Option (List ℕ)). get_or o (start_of h).args.map.now) (sym end))
+    let total = h.number_of_lists-total.ensures in
+    let end = h.loop-k.invariant.1 ∙ search_end _ _ _ _ (omega arith) in
+    (ap is_some (sym end), h.loop-k.invariant.0 ∙ ap (λ (o : Option (List ℕ)). get_or o (start_of h).args.map.now) (sym end))
 
 pub next_map_spec : {M : Type 1} → statement M
 next_map_spec =
     tie.close
     (tie.spec
-    invariant-loop
-    decreases-loop
-    number-of-lists-requires
-    loop-holds
-    is-later-map-requires
-    write-list-requires
-    same_length
-    returns
-    add-k
-    loop-less
-    loop-again
-    same-length-2
-    returns-2)
+    invariant-loop-k
+    decreases-loop-k
+    number_of_lists-total-requires
+    loop-k-init
+    is_later_map-requires
+    write_list-requires
+    shape_of-map-then-is_later_map
+    returns-then-is_later_map
+    overflow_add-k
+    loop-k-smaller
+    loop-k-preserved
+    shape_of-map
+    returns)

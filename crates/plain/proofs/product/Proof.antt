@@ -41,17 +41,17 @@ facts c =
     let s = place_small c in
     (r, omega arith)
 
-mul-result : tie.Need-overflow-mul-result
-mul-result c = omega (arith, (facts c).1)
+overflow_mul-result : tie.Need-overflow_mul-result
+overflow_mul-result c = omega (arith, (facts c).1)
 
-sub-result : tie.Need-overflow-sub-result
-sub-result c = omega (arith, (facts c).0)
+overflow_sub-result : tie.Need-overflow_sub-result
+overflow_sub-result c = omega (arith, (facts c).0)
 
-add-result : tie.Need-overflow-add-result
-add-result c = let o = c.requires.0.order in omega (arith, (facts c).1)
+overflow_add-result : tie.Need-overflow_add-result
+overflow_add-result c = let o = c.requires.0.order in omega (arith, (facts c).1)
 
-sub-result-2 : tie.Need-overflow-sub-result-2
-sub-result-2 c = omega arith
+overflow_sub-result-2 : tie.Need-overflow_sub-result-2
+overflow_sub-result-2 c = omega arith
 
 -- What is known of the cell at the place.
 module _ (c : tie.Start) where
@@ -63,31 +63,31 @@ module _ (c : tie.Start) where
   found_in : Element c.args.n (get_or c.args.cells.now (c.args.i * c.args.n - c.args.n + c.args.j - 1) 0)
   found_in = let p = c.requires in subst (Element c.args.n) (sym found) (found_element _ _ p.0 _ _ p.1.0 p.1.1)
 
-shared-slice-read-result : tie.Need-shared-slice-read-result
-shared-slice-read-result c =
-    let p = c.before.requires in
-    let a = c.before.args in
+bounds-cells-i : tie.Need-bounds-cells-i
+bounds-cells-i c =
+    let p = c.requires in
+    let a = c.args in
     omega (arith, same_place a.n a.i a.j p.1.0.0 p.1.1.0, place_in _ _ p.0 _ _ p.1.0 p.1.1)
 
-cast-result : tie.Need-overflow-cast-result
-cast-result c =
+overflow_cast-result : tie.Need-overflow_cast-result
+overflow_cast-result c =
     let e = found_in c.before in
-    let o = c.before.requires.0.order in
+    let o = c.requires.0.order in
     omega arith
 
 returns : tie.Need-returns
 returns c =
-    let p = c.before.requires in
+    let p = c.requires in
     (found c.before ∙ product_found _ _ p.0 _ _ p.1.0 p.1.1, found_in c.before)
 
 pub product_spec : {M : Type 1} → statement M
 product_spec =
     tie.close
     (tie.spec
-    mul-result
-    sub-result
-    add-result
-    sub-result-2
-    shared-slice-read-result
-    cast-result
+    overflow_mul-result
+    overflow_sub-result
+    overflow_add-result
+    overflow_sub-result-2
+    bounds-cells-i
+    overflow_cast-result
     returns)

@@ -9,76 +9,76 @@ use Rattle.plain.proofs.Enumeration.{Written, write_begin, write_length, write_e
 use Rattle.plain.proofs.write_list.Statement.{statement}
 use Rattle.plain.proofs.write_list.Tie as tie
 
-abbrev invariant-loop : tie.invariant-loop
-invariant-loop list₀ n k rest₀ i₀ list rest i = Written n (numbered (length list₀) n k) list rest i
+abbrev invariant-loop-i : tie.invariant-loop-i
+invariant-loop-i list₀ n k rest₀ i₀ list rest i = Written n (numbered (length list₀) n k) list rest i
 
-abbrev decreases-loop : tie.decreases-loop
-decreases-loop list₀ n k rest₀ i₀ list rest i = i
+abbrev decreases-loop-i : tie.decreases-loop-i
+decreases-loop-i list₀ n k rest₀ i₀ list rest i = i
 
-loop-holds : tie.Need-loop-init invariant-loop decreases-loop
-loop-holds c = write_begin _ _ _ c.requires.1 _ refl
+loop-i-init : tie.Need-loop-i-init invariant-loop-i decreases-loop-i
+loop-i-init c = write_begin _ _ _ c.requires.1 _ refl
 
-sub-i : tie.Need-overflow-sub-i invariant-loop decreases-loop
-sub-i c = omega arith
+overflow_sub-i : tie.Need-overflow_sub-i invariant-loop-i decreases-loop-i
+overflow_sub-i c = omega arith
 
-rem-list : tie.Need-nonzero-rem-list invariant-loop decreases-loop
-rem-list c =
-    let o = c.before.before.requires.0 in
+nonzero_rem-list : tie.Need-nonzero_rem-list invariant-loop-i decreases-loop-i
+nonzero_rem-list c =
+    let o = c.requires.0 in
     omega arith
 
-add-list : tie.Need-overflow-add-list invariant-loop decreases-loop
-add-list c =
-    let o = c.before.before.requires.0 in
-    let positive : 0 < c.before.before.args.n = omega arith in
-    omega (arith, mod-lt c.before.loop.rest positive)
+overflow_add-list : tie.Need-overflow_add-list invariant-loop-i decreases-loop-i
+overflow_add-list c =
+    let o = c.requires.0 in
+    let positive : 0 < c.args.n = omega arith in
+    omega (arith, mod-lt c.loop-i.rest positive)
 
-cast-list : tie.Need-overflow-cast-list invariant-loop decreases-loop
-cast-list c =
-    let o = c.before.before.requires.0 in
-    let positive : 0 < c.before.before.args.n = omega arith in
-    omega (arith, mod-lt c.before.loop.rest positive)
+overflow_cast-list : tie.Need-overflow_cast-list invariant-loop-i decreases-loop-i
+overflow_cast-list c =
+    let o = c.requires.0 in
+    let positive : 0 < c.args.n = omega arith in
+    omega (arith, mod-lt c.loop-i.rest positive)
 
-slice-write-list : tie.Need-slice-write-list invariant-loop decreases-loop
-slice-write-list c =
-    let w = c.before.loop.invariant in
-    let size = write_length _ _ _ c.before.before.requires.1 _ _ _ w in
+bounds-list-i : tie.Need-bounds-list-i invariant-loop-i decreases-loop-i
+bounds-list-i c =
+    let w = c.loop-i.invariant in
+    let size = write_length _ _ _ c.requires.1 _ _ _ w in
     let b = w.within in
     let s = w.size in
     omega arith
 
-div-rest : tie.Need-nonzero-div-rest invariant-loop decreases-loop
-div-rest c =
-    let o = c.before.before.requires.0 in
+nonzero_div-rest : tie.Need-nonzero_div-rest invariant-loop-i decreases-loop-i
+nonzero_div-rest c =
+    let o = c.requires.0 in
     omega arith
 
-loop-less : tie.Need-loop-smaller invariant-loop decreases-loop
-loop-less c = omega arith
+loop-i-smaller : tie.Need-loop-i-smaller invariant-loop-i decreases-loop-i
+loop-i-smaller c = omega arith
 
-loop-again : tie.Need-loop-preserved invariant-loop decreases-loop
-loop-again c = write_next _ _ _ c.before.before.requires.1 _ _ _ c.before.loop.invariant c.loop-test.true
+loop-i-preserved : tie.Need-loop-i-preserved invariant-loop-i decreases-loop-i
+loop-i-preserved c = write_next _ _ _ c.requires.1 _ _ _ c.loop-i.invariant c.loop-i-test.true
 
-same_length : tie.Need-same-length invariant-loop decreases-loop
-same_length c = write_length _ _ _ c.before.before.requires.1 _ _ _ c.before.loop.invariant
+shape_of-list : tie.Need-shape_of-list invariant-loop-i decreases-loop-i
+shape_of-list c = write_length _ _ _ c.requires.1 _ _ _ c.loop-i.invariant
 
-returns : tie.Need-returns invariant-loop decreases-loop
+returns : tie.Need-returns invariant-loop-i decreases-loop-i
 returns c =
-    let w = c.before.loop.invariant in
-    write_end _ _ _ c.before.before.requires.1 _ _ _ w (omega arith)
+    let w = c.loop-i.invariant in
+    write_end _ _ _ c.requires.1 _ _ _ w (omega arith)
 
 pub write_list_spec : {M : Type 1} → statement M
 write_list_spec =
     tie.close
     (tie.spec
-    invariant-loop
-    decreases-loop
-    loop-holds
-    sub-i
-    rem-list
-    add-list
-    cast-list
-    slice-write-list
-    div-rest
-    loop-less
-    loop-again
-    same_length
+    invariant-loop-i
+    decreases-loop-i
+    loop-i-init
+    overflow_sub-i
+    nonzero_rem-list
+    overflow_add-list
+    overflow_cast-list
+    bounds-list-i
+    nonzero_div-rest
+    loop-i-smaller
+    loop-i-preserved
+    shape_of-list
     returns)

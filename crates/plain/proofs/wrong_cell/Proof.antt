@@ -10,61 +10,61 @@ use Rattle.tables.proofs.Questions.{bad_from, cell_begin, cell_pass, cell_low, c
 use Rattle.plain.proofs.wrong_cell.Statement.{statement}
 use Rattle.plain.proofs.wrong_cell.Tie as tie
 
-abbrev invariant-loop : tie.invariant-loop
-invariant-loop cells n k₀ k = (1 ≤ k) × (bad_cell n cells ≡ bad_from n cells k)
+abbrev invariant-loop-k : tie.invariant-loop-k
+invariant-loop-k cells n k₀ k = (1 ≤ k) × (bad_cell n cells ≡ bad_from n cells k)
 
-abbrev decreases-loop : tie.decreases-loop
-decreases-loop cells n k₀ k = suc (length cells) - k
+abbrev decreases-loop-k : tie.decreases-loop-k
+decreases-loop-k cells n k₀ k = suc (length cells) - k
 
-loop-holds : tie.Need-loop-init invariant-loop decreases-loop
-loop-holds c = (search rules, cell_begin _ _)
+loop-k-init : tie.Need-loop-k-init invariant-loop-k decreases-loop-k
+loop-k-init c = (search rules, cell_begin _ _)
 
-sub-cell : tie.Need-overflow-sub-cell invariant-loop decreases-loop
-sub-cell c = search rules
+overflow_sub-cell : tie.Need-overflow_sub-cell invariant-loop-k decreases-loop-k
+overflow_sub-cell c = search rules
 
-shared-slice-read-cell : tie.Need-shared-slice-read-cell invariant-loop decreases-loop
-shared-slice-read-cell c = omega arith
+bounds-cells-k : tie.Need-bounds-cells-k invariant-loop-k decreases-loop-k
+bounds-cells-k c = omega arith
 
-cast-cell : tie.Need-overflow-cast-cell invariant-loop decreases-loop
-cast-cell c = omega (arith, c.shared-slice-known.given (c.before.before.loop.k - 1))
+overflow_cast-cell : tie.Need-overflow_cast-cell invariant-loop-k decreases-loop-k
+overflow_cast-cell c = omega (arith, c.shared_slice_known-1.given (c.loop-k.k - 1))
 
-returns : tie.Need-returns invariant-loop decreases-loop
-returns c =
-    let h = c.before.before in
-    sym (ap (λ o. get_or o 0) (h.before.loop.invariant.1 ∙ cell_low _ _ _ h.loop-test.true c.if1.true))
+returns-then-cell-lt1 : tie.Need-returns-then-cell-lt1 invariant-loop-k decreases-loop-k
+returns-then-cell-lt1 c =
+    let h = c in
+    sym (ap (λ o. get_or o 0) (h.loop-k.invariant.1 ∙ cell_low _ _ _ h.loop-k-test.true c.if-cell-lt1.true))
 
-returns-2 : tie.Need-returns-2 invariant-loop decreases-loop
-returns-2 c =
-    let h = c.before.before.before in
-    sym (ap (λ o. get_or o 0) (h.before.loop.invariant.1 ∙ cell_high _ _ _ h.loop-test.true c.before.if1.false c.if2.true))
+returns-then-n-cell : tie.Need-returns-then-n-cell invariant-loop-k decreases-loop-k
+returns-then-n-cell c =
+    let h = c in
+    sym (ap (λ o. get_or o 0) (h.loop-k.invariant.1 ∙ cell_high _ _ _ h.loop-k-test.true c.if-cell-lt1.false c.if-n-cell.true))
 
-add-k : tie.Need-overflow-add-k invariant-loop decreases-loop
-add-k c = omega arith
+overflow_add-k : tie.Need-overflow_add-k invariant-loop-k decreases-loop-k
+overflow_add-k c = omega arith
 
-loop-less : tie.Need-loop-smaller invariant-loop decreases-loop
-loop-less c = omega arith
+loop-k-smaller : tie.Need-loop-k-smaller invariant-loop-k decreases-loop-k
+loop-k-smaller c = omega arith
 
-loop-again : tie.Need-loop-preserved invariant-loop decreases-loop
-loop-again c =
-    let h = c.before.before.before in
-    (omega arith, h.before.loop.invariant.1 ∙ cell_pass _ _ _ h.loop-test.true c.before.if1.false c.if2.false)
+loop-k-preserved : tie.Need-loop-k-preserved invariant-loop-k decreases-loop-k
+loop-k-preserved c =
+    let h = c in
+    (omega arith, h.loop-k.invariant.1 ∙ cell_pass _ _ _ h.loop-k-test.true c.if-cell-lt1.false c.if-n-cell.false)
 
-returns-3 : tie.Need-returns-3 invariant-loop decreases-loop
-returns-3 c = sym (ap (λ o. get_or o 0) (c.before.loop.invariant.1 ∙ cell_end _ _ _ c.loop-test.false))
+returns : tie.Need-returns invariant-loop-k decreases-loop-k
+returns c = sym (ap (λ o. get_or o 0) (c.loop-k.invariant.1 ∙ cell_end _ _ _ c.loop-k-test.false))
 
 pub wrong_cell_spec : {M : Type 1} → statement M
 wrong_cell_spec =
     tie.close
     (tie.spec
-    invariant-loop
-    decreases-loop
-    loop-holds
-    sub-cell
-    shared-slice-read-cell
-    cast-cell
-    returns
-    returns-2
-    add-k
-    loop-less
-    loop-again
-    returns-3)
+    invariant-loop-k
+    decreases-loop-k
+    loop-k-init
+    overflow_sub-cell
+    bounds-cells-k
+    overflow_cast-cell
+    returns-then-cell-lt1
+    returns-then-n-cell
+    overflow_add-k
+    loop-k-smaller
+    loop-k-preserved
+    returns)

@@ -8,55 +8,55 @@ use Rattle.rfc4180.proofs.Saving.{rows_left, rows_begun, rows_more, rows_done, r
 use Rattle.saving.proofs.put_rows.Statement.{statement}
 use Rattle.saving.proofs.put_rows.Tie as tie
 
-abbrev invariant-loop : tie.invariant-loop
-invariant-loop cells n text₀ at₀ i₀ text at i = Writing text₀ 0 (table_text n cells) (rows_left n cells i) text at × (1 ≤ i) × (i ≤ n + 1)
+abbrev invariant-loop-i : tie.invariant-loop-i
+invariant-loop-i cells n text₀ at₀ i₀ text at i = Writing text₀ 0 (table_text n cells) (rows_left n cells i) text at × (1 ≤ i) × (i ≤ n + 1)
 
-abbrev decreases-loop : tie.decreases-loop
-decreases-loop cells n text₀ at₀ i₀ text at i = n + 1 - i
+abbrev decreases-loop-i : tie.decreases-loop-i
+decreases-loop-i cells n text₀ at₀ i₀ text at i = n + 1 - i
 
-loop-holds : tie.Need-loop-init invariant-loop decreases-loop
-loop-holds c =
-    let small = c.before.before.requires.0.order in
+loop-i-init : tie.Need-loop-i-init invariant-loop-i decreases-loop-i
+loop-i-init c =
+    let small = c.requires.0.order in
     (rows_begun _ _ _, omega arith, omega arith)
 
-put-row-requires : tie.Need-put-row-requires invariant-loop decreases-loop
-put-row-requires c κs =
-    let l = c.before.before in
-    let s = c.before.before.before.before.before in
-    (s.requires.0, ((l.loop.invariant.1, c.before.loop-test.true), rows_room _ _ _ _ _ c.before.loop-test.true (write_room l.loop.invariant.0 (omega (arith, s.requires.1)))))
+put_row-at-requires : tie.Need-put_row-at-requires invariant-loop-i decreases-loop-i
+put_row-at-requires c κs =
+    let l = c in
+    let s = c in
+    (s.requires.0, ((l.loop-i.invariant.1, c.loop-i-test.true), rows_room _ _ _ _ _ c.loop-i-test.true (write_room l.loop-i.invariant.0 (omega (arith, s.requires.1)))))
 
-add-i : tie.Need-overflow-add-i invariant-loop decreases-loop
-add-i c =
-    let small = c.before.before.before.before.before.before.before.before.requires.0.order in
+overflow_add-i : tie.Need-overflow_add-i invariant-loop-i decreases-loop-i
+overflow_add-i c =
+    let small = c.requires.0.order in
     omega arith
 
-loop-less : tie.Need-loop-smaller invariant-loop decreases-loop
-loop-less c = omega arith
+loop-i-smaller : tie.Need-loop-i-smaller invariant-loop-i decreases-loop-i
+loop-i-smaller c = omega arith
 
-loop-again : tie.Need-loop-preserved invariant-loop decreases-loop
-loop-again c =
-    let l = c.before.before.before.before.before in
-    let h = c.before.before.before.before.loop-test.true in
-    (rows_more _ _ _ h l.loop.invariant.0 c.before.before.put-row.ensures.1 c.before.before.put-row.ensures.0, omega arith, omega arith)
+loop-i-preserved : tie.Need-loop-i-preserved invariant-loop-i decreases-loop-i
+loop-i-preserved c =
+    let l = c in
+    let h = c.loop-i-test.true in
+    (rows_more _ _ _ h l.loop-i.invariant.0 c.put_row-at.ensures.1 c.put_row-at.ensures.0, omega arith, omega arith)
 
-same_length : tie.Need-same-length invariant-loop decreases-loop
-same_length c = write_length c.before.loop.invariant.0
+shape_of-text : tie.Need-shape_of-text invariant-loop-i decreases-loop-i
+shape_of-text c = write_length c.loop-i.invariant.0
 
-returns : tie.Need-returns invariant-loop decreases-loop
+returns : tie.Need-returns invariant-loop-i decreases-loop-i
 returns c =
-    let s = c.before.before.before.before in
-    rows_done _ _ _ c.loop-test.false s.requires.1 c.before.loop.invariant.0
+    let s = c in
+    rows_done _ _ _ c.loop-i-test.false s.requires.1 c.loop-i.invariant.0
 
 pub put_rows_spec : {M : Type 1} → statement M
 put_rows_spec =
     tie.close
     (tie.spec
-    invariant-loop
-    decreases-loop
-    loop-holds
-    put-row-requires
-    add-i
-    loop-less
-    loop-again
-    same_length
+    invariant-loop-i
+    decreases-loop-i
+    loop-i-init
+    put_row-at-requires
+    overflow_add-i
+    loop-i-smaller
+    loop-i-preserved
+    shape_of-text
     returns)

@@ -13,65 +13,65 @@ use Rattle.saving.proofs.save.Statement.{statement}
 use Rattle.saving.proofs.save.Tie as tie
 
 -- What is known once questions 1, 2 and 3 have passed.
-module _ (c : tie.After-enum-told) where
+module _ (c : tie.In_default) where
   abbrev start_of : tie.Start
-  start_of = c.before.before.before.before.before
+  start_of = c.before.before.before.before
 
   table_passes : cells_refusal start_of.args.order start_of.args.cells.now ≡ none
-  table_passes = sym c.before.before.check-cells.ensures ∙ ap verdict_refusal c.enum_told.given.1
+  table_passes = sym c.check_cells-verdict.ensures ∙ ap verdict_refusal c.in_default.is
 
-check-cells-requires : tie.Need-check-cells-requires
-check-cells-requires c κs = search rules
+check_cells-verdict-requires : tie.Need-check_cells-verdict-requires
+check_cells-verdict-requires c κs = search rules
 
-enum-known-verdict : tie.Need-enum-known-verdict
-enum-known-verdict c = search rules
+enum_known-verdict : tie.Need-enum_known-verdict
+enum_known-verdict c = search rules
 
 no-requires : tie.Need-no-requires
 no-requires c κs = search rules
 
-returns : tie.Need-returns
-returns c =
-    let known = c.before in
-    let table = bad_table _ _ _ (sym known.before.before.before.check-cells.ensures ∙ ap verdict_refusal known.before.verdict.given.1) in
+returns-in-Refused : tie.Need-returns-in-Refused
+returns-in-Refused c =
+    let known = c in
+    let table = bad_table _ _ _ (sym known.check_cells-verdict.ensures ∙ ap verdict_refusal known.in-Refused.is) in
     (ap {B = Answer ℕ} refused c.no.ensures ∙ table.0, table.1)
 
-enum_told : tie.Need-enum-told
-enum_told c = search rules
+enum_told-1 : tie.Need-enum_told-1
+enum_told-1 c = search rules
 
-text-length-requires : tie.Need-text-length-requires
-text-length-requires c κs = filled _ _ (table_passes c)
+text_length-requires : tie.Need-text_length-requires
+text_length-requires c κs = filled _ _ (table_passes c)
 
-returns-2 : tie.Need-returns-2
-returns-2 c =
+returns-then-text-text_length : tie.Need-returns-then-text-text_length
+returns-then-text-text_length c =
     let x = c.before.before in
-    bad_room _ _ _ (table_passes x) (rw c.before.text_length.ensures at c.if1.true)
+    bad_room _ _ _ (table_passes x) (rw c.text_length.ensures at c.if-text-text_length.true)
 
-put-rows-requires : tie.Need-put-rows-requires
-put-rows-requires c κs =
+put_rows-requires : tie.Need-put_rows-requires
+put_rows-requires c κs =
     let x = c.before.before.before in
-    (filled _ _ (table_passes x), rw c.before.before.text_length.ensures at c.before.if1.false)
+    (filled _ _ (table_passes x), rw c.text_length.ensures at c.if-text-text_length.false)
 
-same_length : tie.Need-same-length
-same_length c = search rules
+shape_of-text : tie.Need-shape_of-text
+shape_of-text c = search rules
 
-returns-3 : tie.Need-returns-3
-returns-3 c =
+returns : tie.Need-returns
+returns c =
     let x = c.before.before.before.before.before.before in
-    let room = rw c.before.before.before.before.before.text_length.ensures at c.before.before.before.before.if1.false in
+    let room = rw c.text_length.ensures at c.if-text-text_length.false in
     let given = save_given _ _ _ (table_passes x) room in
-    (ap {B = Answer ℕ} gives c.before.before.put-rows.ensures.0 ∙ given.0, c.before.before.put-rows.ensures.1 ∙ given.1)
+    (ap {B = Answer ℕ} gives c.put_rows.ensures.0 ∙ given.0, c.put_rows.ensures.1 ∙ given.1)
 
 pub save_spec : {M : Type 1} → statement M
 save_spec =
     tie.close
     (tie.spec
-    check-cells-requires
-    enum-known-verdict
+    check_cells-verdict-requires
+    enum_known-verdict
     no-requires
-    returns
-    enum_told
-    text-length-requires
-    returns-2
-    put-rows-requires
-    same_length
-    returns-3)
+    returns-in-Refused
+    enum_told-1
+    text_length-requires
+    returns-then-text-text_length
+    put_rows-requires
+    shape_of-text
+    returns)

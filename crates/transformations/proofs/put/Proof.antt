@@ -10,74 +10,74 @@ use Rattle.transformations.proofs.Degrees.{room_short, room_enough}
 use Rattle.transformations.proofs.put.Statement.{statement}
 use Rattle.transformations.proofs.put.Tie as tie
 
-abbrev invariant-loop : tie.invariant-loop
-invariant-loop n table cells₀ place₀ cells place = (place ≤ length table) × (cells ≡ written table cells₀ place)
+abbrev invariant-loop-place : tie.invariant-loop-place
+invariant-loop-place n table cells₀ place₀ cells place = (place ≤ length table) × (cells ≡ written table cells₀ place)
 
-abbrev decreases-loop : tie.decreases-loop
-decreases-loop n table cells₀ place₀ cells place = length table - place
+abbrev decreases-loop-place : tie.decreases-loop-place
+decreases-loop-place n table cells₀ place₀ cells place = length table - place
 
-returns : tie.Need-returns invariant-loop decreases-loop
-returns c = room_short c.before.args.n c.before.args.table.now c.before.args.cells.now c.if1.true
+returns-then-cells-table : tie.Need-returns-then-cells-table invariant-loop-place decreases-loop-place
+returns-then-cells-table c = room_short c.args.n c.args.table.now c.args.cells.now c.if-cells-table.true
 
-loop-holds : tie.Need-loop-init invariant-loop decreases-loop
-loop-holds c = (omega arith, sym (written_none _ _))
+loop-place-init : tie.Need-loop-place-init invariant-loop-place decreases-loop-place
+loop-place-init c = (omega arith, sym (written_none _ _))
 
-shared-slice-read-cells : tie.Need-shared-slice-read-cells invariant-loop decreases-loop
-shared-slice-read-cells c = c.before.loop-test.true
+bounds-table-place : tie.Need-bounds-table-place invariant-loop-place decreases-loop-place
+bounds-table-place c = c.loop-place-test.true
 
-slice-write-cells : tie.Need-slice-write-cells invariant-loop decreases-loop
-slice-write-cells c =
-    let v = c.before.before.loop.invariant in
-    let room = c.before.before.before.if1.false in
-    let taken = c.before.loop-test.true in
+bounds-cells-place : tie.Need-bounds-cells-place invariant-loop-place decreases-loop-place
+bounds-cells-place c =
+    let v = c.loop-place.invariant in
+    let room = c.if-cells-table.false in
+    let taken = c.loop-place-test.true in
     let same = ap length v.1 ∙ length_written _ _ _ v.0 (omega arith) in
     omega arith
 
-add-place : tie.Need-overflow-add-place invariant-loop decreases-loop
-add-place c = search rules
+overflow_add-place : tie.Need-overflow_add-place invariant-loop-place decreases-loop-place
+overflow_add-place c = search rules
 
-loop-less : tie.Need-loop-smaller invariant-loop decreases-loop
-loop-less c = omega arith
+loop-place-smaller : tie.Need-loop-place-smaller invariant-loop-place decreases-loop-place
+loop-place-smaller c = omega arith
 
-loop-again : tie.Need-loop-preserved invariant-loop decreases-loop
-loop-again c =
-    let v = c.before.before.loop.invariant in
-    let room = c.before.before.before.if1.false in
-    let taken = c.before.loop-test.true in
-    let place = c.before.before.loop.place in
-    let byte = get_or c.before.before.before.before.args.table.now place 0 in
+loop-place-preserved : tie.Need-loop-place-preserved invariant-loop-place decreases-loop-place
+loop-place-preserved c =
+    let v = c.loop-place.invariant in
+    let room = c.if-cells-table.false in
+    let taken = c.loop-place-test.true in
+    let place = c.loop-place.place in
+    let byte = get_or c.args.table.now place 0 in
     (omega arith, ap (λ (l : List ℕ). set l place byte) v.1 ∙ write_next _ _ place byte taken (omega arith) refl)
 
-same_length : tie.Need-same-length invariant-loop decreases-loop
-same_length c =
-    let v = c.before.loop.invariant in
-    let room = c.before.before.if1.false in
+shape_of-cells : tie.Need-shape_of-cells invariant-loop-place decreases-loop-place
+shape_of-cells c =
+    let v = c.loop-place.invariant in
+    let room = c.if-cells-table.false in
     ap length v.1 ∙ length_written _ _ _ v.0 (omega arith)
 
-returns-2 : tie.Need-returns-2 invariant-loop decreases-loop
-returns-2 c =
-    let start = c.before.before.before in
+returns : tie.Need-returns invariant-loop-place decreases-loop-place
+returns c =
+    let start = c in
     let table = start.args.table.now in
     let cells = start.args.cells.now in
-    let v = c.before.loop.invariant in
+    let v = c.loop-place.invariant in
     let to_end = v.0 in
-    let left = c.loop-test.false in
-    let whole : c.before.loop.place ≡ length table = omega arith in
-    let r = room_enough start.args.n table cells c.before.before.if1.false in
+    let left = c.loop-place-test.false in
+    let whole : c.loop-place.place ≡ length table = omega arith in
+    let r = room_enough start.args.n table cells c.if-cells-table.false in
     (r.0, v.1 ∙ written_all table cells _ whole ∙ ap (λ (p : ℕ). table ++ drop p cells) whole ∙ r.1)
 
 pub put_spec : {M : Type 1} → statement M
 put_spec =
     tie.close
     (tie.spec
-    invariant-loop
-    decreases-loop
-    returns
-    loop-holds
-    shared-slice-read-cells
-    slice-write-cells
-    add-place
-    loop-less
-    loop-again
-    same_length
-    returns-2)
+    invariant-loop-place
+    decreases-loop-place
+    returns-then-cells-table
+    loop-place-init
+    bounds-table-place
+    bounds-cells-place
+    overflow_add-place
+    loop-place-smaller
+    loop-place-preserved
+    shape_of-cells
+    returns)

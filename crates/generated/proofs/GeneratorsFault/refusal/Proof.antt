@@ -3,14 +3,14 @@ use borrow.Author.Rules.{rules}
 use Rattle.generated.proofs.GeneratorsFault.refusal.Statement.{statement}
 use Rattle.generated.proofs.GeneratorsFault.refusal.Tie as tie
 
-returns : tie.Need-returns
-returns c = rw c.before.before.self.given.1 c.refusal.ensures
+returns-in-Table : tie.Need-returns-in-Table
+returns-in-Table c = rw c.in-Table.is c.refusal.ensures
 
-returns-2 : tie.Need-returns-2
-returns-2 c = rw c.before.enum_told.given.1 c.by.ensures
+returns-in-Entry : tie.Need-returns-in-Entry
+returns-in-Entry c = rw c.in-Entry.is c.by.ensures
 
-returns-3 : tie.Need-returns-3
-returns-3 c = rw c.before.enum-told2.given.1 c.by2.ensures
+returns-in-Elements : tie.Need-returns-in-Elements
+returns-in-Elements c = rw c.in-Elements.is c.by-in-Elements.ensures
 
 pub refusal_spec : {M : Type 1} → statement M
 refusal_spec =
@@ -22,6 +22,6 @@ refusal_spec =
     (λ c κs. search rules)
     (λ c. search rules)
     (λ c κs. search rules)
-    returns
-    returns-2
-    returns-3)
+    returns-in-Table
+    returns-in-Entry
+    returns-in-Elements)

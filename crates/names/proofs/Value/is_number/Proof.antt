@@ -9,30 +9,30 @@ use Rattle.sheets.proofs.Numbers.{number_long}
 use Rattle.names.proofs.Value.is_number.Statement.{statement}
 use Rattle.names.proofs.Value.is_number.Tie as tie
 
-returns : tie.Need-returns
-returns c =
-    let b = c.before.before.args.self.bytes in
+returns-then-size-gt41 : tie.Need-returns-then-size-gt41
+returns-then-size-gt41 c =
+    let b = c.args.self.bytes in
     let e : length b ≡ 41 = search rules in
-    let t = c.if1.true in
-    let w = ap length (take_all c.before.before.args.self.size b (omega arith)) in
+    let t = c.if-size-gt41.true in
+    let w = ap length (take_all c.args.self.size b (omega arith)) in
     number_long _ _ (omega arith)
 
-array-share-prefix-bytes : tie.Need-array-share-prefix-bytes
-array-share-prefix-bytes c =
-    let e : length c.before.before.args.self.bytes ≡ 41 = search rules in
+slice_bounds-bytes-end : tie.Need-slice_bounds-bytes-end
+slice_bounds-bytes-end c =
+    let e : length c.args.self.bytes ≡ 41 = search rules in
     omega arith
 
-slice-aggregate-is-number : tie.Need-slice-aggregate-is-number
-slice-aggregate-is-number c =
-    let e : length c.before.before.before.args.self.bytes ≡ 41 = search rules in
-    let u = c.before.if1.false in
+slice_bounds-is_number-end : tie.Need-slice_bounds-is_number-end
+slice_bounds-is_number-end c =
+    let e : length c.args.self.bytes ≡ 41 = search rules in
+    let u = c.if-size-gt41.false in
     sym (length-take-le _ _ (omega arith))
 
-is-number-requires : tie.Need-is-number-requires
-is-number-requires c κs = search rules
+is_number-requires : tie.Need-is_number-requires
+is_number-requires c κs = search rules
 
-returns-2 : tie.Need-returns-2
-returns-2 c = c.is_number_law.ensures
+returns : tie.Need-returns
+returns c = c.is_number.ensures
 
 pub is_number_spec : {M : Type 1} → statement M
-is_number_spec = tie.close (tie.spec returns array-share-prefix-bytes slice-aggregate-is-number is-number-requires returns-2)
+is_number_spec = tie.close (tie.spec returns-then-size-gt41 slice_bounds-bytes-end slice_bounds-is_number-end is_number-requires returns)
