@@ -16,7 +16,7 @@ use Rattle.files.proofs.load_then_check.Tie as tie
 -- What is known once the text is loaded.
 module _ (c : tie.In-Number) where
   abbrev loading-of : tie.After-load-loaded
-  loading-of = c.before.before
+  loading-of = c.before.before.before
 
   abbrev start_of : tie.Start
   start_of = loading-of.before.before.before.before
@@ -78,7 +78,7 @@ returns-in-Refused : tie.Need-returns-in-Refused
 returns-in-Refused c =
     let known = c.before in
     let told = known.before.before.before.before.before in
-    let loading = loading-of told in (
+    let loading = loading-of known.before.before.before in (
       ap {B = Answer ℕ} refused c.no.ensures
           ∙ judged_table _ _ _ (given_order told) loading.load-loaded.ensures.1 (sym (ap verdict_refusal known.in-Refused.is) ∙ known.check-verdict.ensures),
       loading.load-loaded.ensures.1,
@@ -90,7 +90,7 @@ shape_of-cells-in-Accepted c = search rules
 returns-in-Accepted : tie.Need-returns-in-Accepted
 returns-in-Accepted c =
     let told = c.before.before.before.before in
-    let loading = loading-of told in (
+    let loading = loading-of c.before.before.before in (
       judged_table _ _ _ (given_order told) loading.load-loaded.ensures.1 (sym (ap verdict_refusal c.in-Accepted.is) ∙ c.check-verdict.ensures),
       loading.load-loaded.ensures.1,
     )

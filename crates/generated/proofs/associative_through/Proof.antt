@@ -130,8 +130,8 @@ returns-in-At c =
     let list = s.args.list.now in
     let m = is_marked_law list _ (omega arith) (λ e. c.if-middles-j-ne0.true (ap (λ (m : List ℕ). get_or m j 0) l.marked-middles.ensures ∙ e)) in
     let e = sym c.failing_third-third.ensures ∙ ap place_option c.in-At.is in
-    let k = third_some (table s) _ i j _ e in
-    sym (ap refusal (l.loop-j.invariant.2 ∙ pair_hit _ _ _ _ _ t k.0 (λ x h. no_failing_through (table s) list i j x (third_before (table s) _ i j _ e x h)) (failing_through (table s) list i j _ m k.1)))
+    let k = third_some (table s.before.before) _ i j _ e in
+    sym (ap refusal (d.loop-j.invariant.2 ∙ pair_hit _ _ _ _ _ t k.0 (λ x h. no_failing_through (table s.before.before) list i j x (third_before (table s.before.before) _ i j _ e x h)) (failing_through (table s.before.before) list i j _ m k.1)))
 
 pub associative_through_spec : {M : Type 1} → statement M
 associative_through_spec =

@@ -60,7 +60,7 @@ enum_told-in-At c = search rules
 returns-in-At : tie.Need-returns-in-At
 returns-in-At c =
     let t = c.before.before in
-    sym (not_inside _ _ _ (cells_fill t.before) (entry_outside _ _ _ (sym t.outside-entry.ensures ∙ ap place_option c.in-At.is)))
+    sym (not_inside _ _ _ (cells_fill t) (entry_outside _ _ _ (sym c.outside-entry.ensures ∙ ap place_option c.in-At.is)))
 
 enum_told-in_default-entry : tie.Need-enum_told-in_default-entry
 enum_told-in_default-entry c = search rules
@@ -91,8 +91,8 @@ returns-in-Refused-associative_through c =
 returns-in-Accepted : tie.Need-returns-in-Accepted
 returns-in-Accepted c =
     let a = c.before.before in
-    let e = entries-told a.before in
-    sym (triple_decides _ _ _ (cells_fill (cells_told e)) (inside e) (generates a.before) ∙ sym a.associative_through.ensures ∙ ap verdict_refusal c.in-Accepted.is)
+    let e = entries-told a in
+    sym (triple_decides _ _ _ (cells_fill (cells_told e)) (inside e) (generates a) ∙ sym c.associative_through.ensures ∙ ap verdict_refusal c.in-Accepted.is)
 
 pub check_spec : {M : Type 1} → statement M
 check_spec =

@@ -30,7 +30,7 @@ module _ (c : tie.In_default) where
 -- What is known if the records pass.
 module _ (c : tie.In-Passed) where
   abbrev told : tie.In_default
-  told = c.before
+  told = c.before.before
 
   judged : (p : IsSheet (text_of told)) → Judges (sheet_rows p.sheet) c.judge_records-judged.result
   judged p = c.judge_records-judged.ensures p

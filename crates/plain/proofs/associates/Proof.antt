@@ -27,7 +27,7 @@ bounds-triple-0 c = search rules
 overflow_cast-i : tie.Need-overflow_cast-i
 overflow_cast-i c =
     let b = c.before.before in
-    let e = first b in
+    let e = first b.before in
     let o = b.requires.0.order in
     omega arith
 
@@ -37,7 +37,7 @@ bounds-triple-1 c = search rules
 overflow_cast-j : tie.Need-overflow_cast-j
 overflow_cast-j c =
     let b = c.before.before.before in
-    let e = second b in
+    let e = second b.before in
     let o = b.requires.0.order in
     omega arith
 
@@ -47,29 +47,29 @@ bounds-triple-2 c = search rules
 overflow_cast-k : tie.Need-overflow_cast-k
 overflow_cast-k c =
     let b = c.before.before.before.before in
-    let e = third b in
+    let e = third b.before in
     let o = b.requires.0.order in
     omega arith
 
 product-ij-requires : tie.Need-product-ij-requires
 product-ij-requires c κs =
     let b = c.before.before.before.before in
-    (b.requires.0, (first b, second b))
+    (b.requires.0, (first b.before, second b.before))
 
 product-jk-requires : tie.Need-product-jk-requires
 product-jk-requires c κs =
     let b = c.before.before.before.before.before in
-    (b.requires.0, (second b, third b))
+    (b.requires.0, (second b.before, third b.before))
 
 product-requires : tie.Need-product-requires
 product-requires c κs =
     let b = c.before.before.before.before.before.before in
-    (b.requires.0, (c.product-ij.ensures.1, third b))
+    (b.requires.0, (c.product-ij.ensures.1, third b.before))
 
 product-requires-2 : tie.Need-product-requires-2
 product-requires-2 c κs =
     let b = c.before.before.before.before.before.before.before in
-    (b.requires.0, (first b, c.product-jk.ensures.1))
+    (b.requires.0, (first b.before, c.product-jk.ensures.1))
 
 returns : tie.Need-returns
 unfolding associates at

@@ -34,7 +34,7 @@ bounds-pair-0 c = search rules
 overflow_cast-i : tie.Need-overflow_cast-i
 overflow_cast-i c =
     let b = c.before.before.before.before in
-    let e = first b in
+    let e = first b.before in
     let o = b.requires.0.order in
     omega arith
 
@@ -44,34 +44,34 @@ bounds-pair-1 c = search rules
 overflow_cast-j : tie.Need-overflow_cast-j
 overflow_cast-j c =
     let b = c.before.before.before.before.before in
-    let e = second b in
+    let e = second b.before in
     let o = b.requires.0.order in
     omega arith
 
 image-x-requires : tie.Need-image-x-requires
 image-x-requires c κs =
     let b = c.before.before.before.before.before in
-    placed b _ (first b)
+    placed b.before _ (first b.before)
 
 image-y-requires : tie.Need-image-y-requires
 image-y-requires c κs =
     let b = c.before.before.before.before.before.before in
-    placed b _ (second b)
+    placed b.before _ (second b.before)
 
 product-ij-requires : tie.Need-product-ij-requires
 product-ij-requires c κs =
     let b = c.before.before.before.before.before.before.before in
-    (b.requires.0, (first b, second b))
+    (b.requires.0, (first b.before, second b.before))
 
 image-requires : tie.Need-image-requires
 image-requires c κs =
     let b = c.before.before.before.before.before.before.before.before in
-    placed b _ c.product-ij.ensures.1
+    placed b.before _ c.product-ij.ensures.1
 
 product-requires : tie.Need-product-requires
 product-requires c κs =
     let b = c.before.before.before.before.before.before.before.before.before in
-    (b.requires.1.0, (image_in b _ _ (first b) c.image-x.ensures, image_in b _ _ (second b) c.image-y.ensures))
+    (b.requires.1.0, (image_in b.before _ _ (first b.before) c.image-x.ensures, image_in b.before _ _ (second b.before) c.image-y.ensures))
 
 returns : tie.Need-returns
 unfolding keeps at
