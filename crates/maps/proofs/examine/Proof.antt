@@ -70,16 +70,13 @@ enum_told-in-Nothing c = search rules
 
 returns-in-At-wrong_product : tie.Need-returns-in-At-wrong_product
 returns-in-At-wrong_product c =
-    let k = c.before in
-    let w = k.before.before in
-    let t = w.before in
-    ap {B = Answer Checked} gives (sym (says_product _ _ _ _ _ (start t).requires.1.1 (no_outside t) (no_equal t _ _ _) _ (sym w.wrong_product.ensures ∙ ap pair_option k.in-At-wrong_product.is)))
+    let t = c.before.before in
+    ap {B = Answer Checked} gives (sym (says_product _ _ _ _ _ (start t).requires.1.1 (no_outside t) (no_equal t _ _ _) _ (sym c.wrong_product.ensures ∙ ap pair_option c.in-At-wrong_product.is)))
 
 returns-in-Nothing : tie.Need-returns-in-Nothing
 returns-in-Nothing c =
-    let w = c.before.before in
-    let t = w.before in
-    ap {B = Answer Checked} gives (sym (says_product _ _ _ _ _ (start w).requires.1.1 (no_outside w) (no_equal w _ _ _) _ (sym c.wrong_product.ensures ∙ ap pair_option c.in-Nothing.is)))
+    let t = c.before.before in
+    ap {B = Answer Checked} gives (sym (says_product _ _ _ _ _ (start t).requires.1.1 (no_outside t) (no_equal t _ _ _) _ (sym c.wrong_product.ensures ∙ ap pair_option c.in-Nothing.is)))
 
 pub examine_spec : {M : Type 1} → statement M
 examine_spec =
