@@ -46,10 +46,7 @@ module _ (t : tie.In-loop-met invariant-loop-met decreases-loop-met) where
   exponent = let l = limit t.before in let s = short t.before t.loop-met-test.true in let o = t.loop-met.invariant.from_one in omega arith
 
 -- What is known once the walk has ended.
-module _ (c : tie.After-loop-met invariant-loop-met decreases-loop-met) where
-  abbrev end : tie.At-loop-met invariant-loop-met decreases-loop-met
-  end = c.before
-
+module _ (end : tie.At-loop-met invariant-loop-met decreases-loop-met) (left : get_or end.loop-met.met end.loop-met.power 0 ≡ 0 → ⊥) where
   abbrev k : ℕ
   k = end.loop-met.k
 
@@ -62,7 +59,7 @@ module _ (c : tie.After-loop-met invariant-loop-met decreases-loop-met) where
   within : (1 ≤ p) × (p < k) × Element (k - 1) settles
   within =
       let s = start end in
-      exponent_within s.args.n (table end) s.args.a (closed end) s.requires.1 end.loop-met.met end.loop-met.walk end.loop-met.power k end.loop-met.invariant c.loop-met-test.false
+      exponent_within s.args.n (table end) s.args.a (closed end) s.requires.1 end.loop-met.met end.loop-met.walk end.loop-met.power k end.loop-met.invariant left
 
   small : k ≤ 121
   small = let e = end.loop-met.invariant.to_end in let l = limit end in omega arith
@@ -71,7 +68,7 @@ module _ (c : tie.After-loop-met invariant-loop-met decreases-loop-met) where
   idempotent_byte =
       let s = start end in
       let l = limit end in
-      let e = exponent_read s.args.n (table end) s.args.a (closed end) s.requires.1 end.loop-met.met end.loop-met.walk end.loop-met.power k end.loop-met.invariant c.loop-met-test.false in
+      let e = exponent_read s.args.n (table end) s.args.a (closed end) s.requires.1 end.loop-met.met end.loop-met.walk end.loop-met.power k end.loop-met.invariant left in
       omega (arith, power_element (table end) s.args.a s.args.n (closed end) s.requires.1 settles)
 
 loop-met-init : tie.Need-loop-met-init invariant-loop-met decreases-loop-met
@@ -116,32 +113,32 @@ bounds-met-power-2 : tie.Need-bounds-met-power-2 invariant-loop-met decreases-lo
 bounds-met-power-2 c = place c.before
 
 overflow_cast-index : tie.Need-overflow_cast-index invariant-loop-met decreases-loop-met
-overflow_cast-index c = let w = (within c).1 in omega (arith, small c)
+overflow_cast-index c = let w = (within c.before c.loop-met-test.false).1 in omega (arith, small c.before c.loop-met-test.false)
 
 overflow_sub-period : tie.Need-overflow_sub-period invariant-loop-met decreases-loop-met
-overflow_sub-period c = let w = (within c).1 in omega arith
+overflow_sub-period c = let w = (within c.before c.loop-met-test.false).1 in omega arith
 
 overflow_sub-exponent : tie.Need-overflow_sub-exponent invariant-loop-met decreases-loop-met
-overflow_sub-exponent c = let w = (within c).1 in omega arith
+overflow_sub-exponent c = let w = (within c.before c.loop-met-test.false).1 in omega arith
 
 nonzero_div-exponent : tie.Need-nonzero_div-exponent invariant-loop-met decreases-loop-met
-nonzero_div-exponent c = let w = (within c).1 in omega arith
+nonzero_div-exponent c = let w = (within c.before c.loop-met-test.false).1 in omega arith
 
 overflow_mul-exponent : tie.Need-overflow_mul-exponent invariant-loop-met decreases-loop-met
-overflow_mul-exponent c = let w = (within c).2 in omega (arith, small c)
+overflow_mul-exponent c = let w = (within c.before c.loop-met-test.false).2 in omega (arith, small c.before c.loop-met-test.false)
 
 overflow_sub-idempotent : tie.Need-overflow_sub-idempotent invariant-loop-met decreases-loop-met
-overflow_sub-idempotent c = let w = within c in let from_one = w.0 in let settles-within = w.2 in omega arith
+overflow_sub-idempotent c = let w = within c.before c.loop-met-test.false in let from_one = w.0 in let settles-within = w.2 in omega arith
 
 bounds-walk-exponent : tie.Need-bounds-walk-exponent invariant-loop-met decreases-loop-met
-bounds-walk-exponent c = let w = within c in let before = w.1 in let settles-within = w.2 in omega (arith, small c)
+bounds-walk-exponent c = let w = within c.before c.loop-met-test.false in let before = w.1 in let settles-within = w.2 in omega (arith, small c.before c.loop-met-test.false)
 
 overflow_cast-idempotent : tie.Need-overflow_cast-idempotent invariant-loop-met decreases-loop-met
-overflow_cast-idempotent c = omega (arith, idempotent_byte c)
+overflow_cast-idempotent c = omega (arith, idempotent_byte c.before c.loop-met-test.false)
 
 returns : tie.Need-returns invariant-loop-met decreases-loop-met
 returns c =
-    let e = end c in
+    let e = c.before in
     let s = start e in
     walk_settled s.args.n (table e) s.args.a (closed e) s.requires.1 e.loop-met.met e.loop-met.walk e.loop-met.power e.loop-met.k e.loop-met.invariant c.loop-met-test.false
 
