@@ -34,13 +34,13 @@ loop-i-smaller : tie.Need-loop-i-smaller invariant-loop-i decreases-loop-i
 loop-i-smaller c = omega arith
 
 loop-i-preserved : tie.Need-loop-i-preserved invariant-loop-i decreases-loop-i
-loop-i-preserved c = print_next _ _ c.loop-i.invariant c.loop-i-test.true (printable_in _ c.if-b-lt32.false (let u = c.if-b-lt127.true in omega arith))
+loop-i-preserved c = print_next _ _ c.loop-i.invariant c.loop-i-test.true (printable_in _ (omega arith) (omega arith))
 
 returns-in_default : tie.Need-returns-in_default invariant-loop-i decreases-loop-i
-returns-in_default c = print_other _ _ c.loop-i.invariant c.loop-i-test.true (printable_low _ c.if-b-lt32.true)
+returns-in_default c = print_other _ _ c.loop-i.invariant c.loop-i-test.true (printable_low _ (omega arith))
 
 returns-in_default-2 : tie.Need-returns-in_default-2 invariant-loop-i decreases-loop-i
-returns-in_default-2 c = print_other _ _ c.loop-i.invariant c.loop-i-test.true (printable_high _ c.if-b-lt127.false)
+returns-in_default-2 c = print_other _ _ c.loop-i.invariant c.loop-i-test.true (printable_high _ (omega arith))
 
 returns : tie.Need-returns invariant-loop-i decreases-loop-i
 returns c = print_done _ _ c.loop-i.invariant c.loop-i-test.false c.if-bytes-lt1.false c.if-bytes-gt40.false

@@ -42,15 +42,12 @@ overflow_mul-v c =
     omega arith
 
 overflow_cast-v : tie.Need-overflow_cast-v invariant-loop-i decreases-loop-i
-overflow_cast-v c =
-    let u = c.if-b-lt58.true in
-    omega arith
+overflow_cast-v c = omega arith
 
 overflow_add-v : tie.Need-overflow_add-v invariant-loop-i decreases-loop-i
 overflow_add-v c =
     let l = c in
     let s = count_small _ _ _ l.loop-i.invariant c.loop-i-test.true l.if-bytes-gt3.false in
-    let u = c.if-b-lt58.true in
     omega arith
 
 overflow_add-i : tie.Need-overflow_add-i invariant-loop-i decreases-loop-i
@@ -60,13 +57,13 @@ loop-i-smaller : tie.Need-loop-i-smaller invariant-loop-i decreases-loop-i
 loop-i-smaller c = omega arith
 
 loop-i-preserved : tie.Need-loop-i-preserved invariant-loop-i decreases-loop-i
-loop-i-preserved c = count_next _ _ _ c.loop-i.invariant c.loop-i-test.true c.if-b-lt48.false (let u = c.if-b-lt58.true in omega arith)
+loop-i-preserved c = count_next _ _ _ c.loop-i.invariant c.loop-i-test.true (omega arith) (omega arith)
 
 returns-in_default : tie.Need-returns-in_default invariant-loop-i decreases-loop-i
-returns-in_default c = count_other _ _ _ c.loop-i.invariant c.loop-i-test.true _ (below_digit _ c.if-b-lt48.true)
+returns-in_default c = count_other _ _ _ c.loop-i.invariant c.loop-i-test.true _ (below_digit _ (omega arith))
 
 returns-in_default-2 : tie.Need-returns-in_default-2 invariant-loop-i decreases-loop-i
-returns-in_default-2 c = count_other _ _ _ c.loop-i.invariant c.loop-i-test.true _ (above_digit _ c.if-b-lt58.false)
+returns-in_default-2 c = count_other _ _ _ c.loop-i.invariant c.loop-i-test.true _ (above_digit _ (omega arith))
 
 returns : tie.Need-returns invariant-loop-i decreases-loop-i
 returns c =

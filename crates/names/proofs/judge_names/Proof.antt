@@ -6,7 +6,6 @@ use mathlib.Core.List.{List}
 use Prim.Native.Nat.{ℕ, ◌+◌, ◌-◌, ◌≤◌, ◌<◌}
 use native.Mathlib.Omega.{arith}
 use lib.ListN.{length, get_or, take, drop}
-use borrow.Author.Tests.{not-true, not-false}
 use Rattle.sheets.specs.Names.{is_name, name_text}
 use Rattle.rfc4180.proofs.Decimals.{digits_few}
 use Rattle.sheets.proofs.Numbers.{name_is}

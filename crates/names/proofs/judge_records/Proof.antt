@@ -6,7 +6,6 @@ use mathlib.Core.List.{List}
 use Prim.Native.Nat.{ℕ, ◌+◌, ◌-◌, ◌≤◌}
 use native.Mathlib.Omega.{arith}
 use lib.ListN.{length, drop}
-use borrow.Author.Tests.{not-true, not-false}
 use Rattle.sheets.specs.Grammar.{IsSheet}
 use Rattle.sheets.specs.Names.{is_name, is_number}
 use Rattle.sheets.specs.InnerCursor.{value_at, size_at}

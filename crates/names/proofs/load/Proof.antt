@@ -75,8 +75,8 @@ write_names-requires c κs =
 
 returns-in-Failed : tie.Need-returns-in-Failed
 returns-in-Failed c =
-    let t = c.before.before.before in
-    bad_record _ _ _ (accepted t.before) _ (λ p. subst (Judges (sheet_rows p.sheet)) c.in-Failed.is (t.judge_records-judged.ensures p))
+    let t = c.before.before in
+    bad_record _ _ _ (accepted t) _ (λ p. subst (Judges (sheet_rows p.sheet)) c.in-Failed.is (c.judge_records-judged.ensures p))
 
 shape_of-names : tie.Need-shape_of-names
 shape_of-names c = search rules

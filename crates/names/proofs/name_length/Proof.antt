@@ -4,7 +4,6 @@ use mathlib.Core.Path.{◌≡◌, ap, sym, ◌∙◌}
 use Prim.Native.Nat.{◌+◌, ◌-◌, ◌≤◌}
 use native.Mathlib.Omega.{arith}
 use lib.ListN.{length, drop}
-use borrow.Author.Tests.{not-true, not-false}
 use Rattle.sheets.specs.Names.{doubled}
 use Rattle.sheets.proofs.Memory.{unquoted, quoted_length, doubled_pair, doubled_single, doubled_end}
 use Rattle.names.proofs.name_length.Statement.{statement}

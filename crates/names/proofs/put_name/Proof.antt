@@ -3,7 +3,6 @@
 use mathlib.Core.Path.{◌≡◌, ap, sym, ◌∙◌}
 use native.Mathlib.Omega.{arith}
 use lib.ListN.{length, length-set}
-use borrow.Author.Tests.{not-true, not-false}
 use borrow.Author.Rules.{rules}
 use Rattle.sheets.proofs.Memory.{unquoted, quoted_length, put_unquoted, put_quoted}
 use Rattle.names.proofs.put_name.Statement.{statement}

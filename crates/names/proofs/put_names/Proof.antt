@@ -65,8 +65,8 @@ module _ (c : tie.After-put_name-at invariant-loop-k decreases-loop-k) where
   abbrev numbered : tie.After-put_number-at invariant-loop-k decreases-loop-k
   numbered = c.before.before.before.before.before
 
-  name_length : length c.put_name-at.new.text ≡ length numbered.put_number-at.last.0
-  name_length = c.put_name-at.auto.0 ∙ simp length-set
+  name_length : length c.put_name-at.new.text ≡ length numbered.put_number-at.new.out
+  name_length = c.put_name-at.auto.text ∙ simp length-set
 
   end_is : c.put_name-at.result ≡ (numbered.put_number-at.result + 1) + length (name_text (name (turn numbered)))
   end_is = c.put_name-at.ensures.0 ∙ ap (λ (l : List ℕ). (numbered.put_number-at.result + 1) + length (name_text l)) (part_is (turn numbered))
