@@ -29,7 +29,7 @@ module _ (w : tie.After-write_list invariant-loop-k decreases-loop-k) where
   written : w.write_list.new.list ≡ numbered 2 w.args.m w.loop-k.k
   written = drawn _ _ _ _ _ w.loop-k.invariant.0 w.write_list.ensures
 
-  pair : IsList 2 w.args.m w.write_list.last.0
+  pair : IsList 2 w.args.m w.write_list.new.list
   pair = drawn_list _ _ _ _ _ w.loop-k.invariant.0 w.write_list.ensures (below w.before.before)
 
 number_of_lists-total-requires : tie.Need-number_of_lists-total-requires invariant-loop-k decreases-loop-k

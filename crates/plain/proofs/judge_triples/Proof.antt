@@ -31,10 +31,10 @@ module _ (w : tie.After-write_list invariant-loop-k decreases-loop-k) where
   written : w.write_list.new.list ≡ numbered 3 w.args.n w.loop-k.k
   written = drawn _ _ _ _ _ w.loop-k.invariant.0 w.write_list.ensures
 
-  triple : IsList 3 w.args.n w.write_list.last.0
+  triple : IsList 3 w.args.n w.write_list.new.list
   triple = drawn_list _ _ _ _ _ w.loop-k.invariant.0 w.write_list.ensures (below w.before.before)
 
-  entry_fits : (k : ℕ) → k < 3 → get_or w.write_list.last.0 k 0 ≤ 120
+  entry_fits : (k : ℕ) → k < 3 → get_or w.write_list.new.list k 0 ≤ 120
   entry_fits k h = let e = entry_element _ _ _ triple k h in let o = w.requires.order in omega arith
 
 number_of_lists-total-requires : tie.Need-number_of_lists-total-requires invariant-loop-k decreases-loop-k
