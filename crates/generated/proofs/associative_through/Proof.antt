@@ -1,7 +1,6 @@
 -- `associative_through` meets its contract. The invariant of each loop: the first failing triple is what is left of the search from here, and none was
 -- found. Assumes nothing.
 use mathlib.Core.Path.{◌≡◌, refl, sym, ap, ◌∙◌}
-use mathlib.Core.Logic.{⊎_elim}
 use mathlib.Core.List.{List}
 use mathlib.Core.Option.{Option, map}
 use Prim.Native.Nat.{ℕ, suc, ◌-◌, ◌≤◌}
@@ -18,6 +17,7 @@ use Rattle.products.proofs.Triples.{from_first, from_pair, triples_begin, first_
 use Rattle.light.proofs.Indicators.{unmarked, is_marked_law}
 use Rattle.generated.proofs.Questions.{fails_through, unlisted, no_failing_through, failing_through}
 use Rattle.generated.proofs.associative_through.Statement.{statement}
+use Rattle.generated.proofs.associative_through.Lts.{then-middles-j-ne0+in_default, else-middles-j-ne0}
 use Rattle.generated.proofs.associative_through.Tie as tie
 
 abbrev refusal : Option (List ℕ) → Option Refusal
@@ -92,10 +92,10 @@ loop-j-preserved c =
     let i = l.triples.i in
     let j = l.loop-j.j in
     let list = s.args.list.now in
-    ⊎_elim
-    (λ w. (omega arith, v.1, v.2 ∙ pair_skip _ _ _ _ t (λ k h. no_failing_through (table s) list i j k (third_none (table s) _ i j (sym w.1.ensures ∙ ap place_option w.3.given.1) k h))))
-    (λ w. (omega arith, v.1, v.2 ∙ pair_skip _ _ _ _ t (λ k h. unlisted (table s) list i j k (unmarked list _ (omega arith) (sym (ap (λ (m : List ℕ). get_or m j 0) l.marked-middles.ensures) ∙ w.left)))))
-    c.if-middles-j-ne0.branch
+    elim c.if-middles-j-ne0.branch [
+      then-middles-j-ne0+in_default w ↦ (omega arith, v.1, v.2 ∙ pair_skip _ _ _ _ t (λ k h. no_failing_through (table s) list i j k (third_none (table s) _ i j (sym w.failing_third-third.ensures ∙ ap place_option w.in_default.is) k h)))
+    | else-middles-j-ne0 w ↦ (omega arith, v.1, v.2 ∙ pair_skip _ _ _ _ t (λ k h. unlisted (table s) list i j k (unmarked list _ (omega arith) (sym (ap (λ (m : List ℕ). get_or m j 0) l.marked-middles.ensures) ∙ w.if-middles-j-ne0.false))))
+    ]
 
 overflow_add-i : tie.Need-overflow_add-i invariant-loop-j decreases-loop-j invariant-triples decreases-triples
 overflow_add-i c =

@@ -84,9 +84,9 @@ enum_told-in-Accepted c = search rules
 
 returns-in-Refused-associative_through : tie.Need-returns-in-Refused-associative_through
 returns-in-Refused-associative_through c =
-    let a = c.before.before.before in
-    let e = entries-told a.before in
-    sym (triple_decides _ _ _ (cells_fill (cells_told e)) (inside e) (generates a.before) ∙ sym a.associative_through.ensures ∙ ap verdict_refusal c.in-Refused-associative_through.is)
+    let a = c.before.before in
+    let e = entries-told a in
+    sym (triple_decides _ _ _ (cells_fill (cells_told e)) (inside e) (generates a) ∙ sym c.associative_through.ensures ∙ ap verdict_refusal c.in-Refused-associative_through.is)
 
 returns-in-Accepted : tie.Need-returns-in-Accepted
 returns-in-Accepted c =
