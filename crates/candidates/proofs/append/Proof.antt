@@ -11,103 +11,103 @@ use Rattle.candidates.specs.InnerKeys.{appended}
 use Rattle.candidates.proofs.append.Statement.{statement}
 use Rattle.candidates.proofs.append.Tie as tie
 
-abbrev invariant-loop : tie.invariant-loop
-invariant-loop keys n values numbers longer₀ a₀ longer a = Element (n + 1) a × (longer ≡ per_element (a - 1) (appended values keys numbers))
+abbrev invariant-loop-a : tie.invariant-loop-a
+invariant-loop-a keys n values numbers longer₀ a₀ longer a = Element (n + 1) a × (longer ≡ per_element (a - 1) (appended values keys numbers))
 
-abbrev decreases-loop : tie.decreases-loop
-decreases-loop keys n values numbers longer₀ a₀ longer a = n + 1 - a
+abbrev decreases-loop-a : tie.decreases-loop-a
+decreases-loop-a keys n values numbers longer₀ a₀ longer a = n + 1 - a
 
 -- The element of a turn of the loop, and its longer key.
-module _ (t : tie.In-loop invariant-loop decreases-loop) where
-  abbrev start : tie.Start invariant-loop decreases-loop
+module _ (t : tie.In-loop-a invariant-loop-a decreases-loop-a) where
+  abbrev start : tie.Start invariant-loop-a decreases-loop-a
   start = t.before.before
 
   abbrev longer : ℕ → ℕ
   longer = appended start.args.values start.args.keys.now start.args.numbers.now
 
-  element : Element start.args.n t.before.loop.a
-  element = (t.before.loop.invariant.0.0, t.loop-test.true)
+  element : Element start.args.n t.loop-a.a
+  element = (t.loop-a.invariant.0.0, t.loop-a-test.true)
 
-  limit : Element 120 t.before.loop.a
+  limit : Element 120 t.loop-a.a
   limit = let e = element in let l = start.requires.0 in omega arith
 
-  fits : longer t.before.loop.a < 18446744073709551616
-  fits = start.requires.1 t.before.loop.a element
+  fits : longer t.loop-a.a < 18446744073709551616
+  fits = start.requires.1 t.loop-a.a element
 
-loop-holds : tie.Need-loop-init invariant-loop decreases-loop
-loop-holds c = (omega arith, fill_start (appended c.args.values c.args.keys.now c.args.numbers.now))
+loop-a-init : tie.Need-loop-a-init invariant-loop-a decreases-loop-a
+loop-a-init c = (omega arith, fill_start (appended c.args.values c.args.keys.now c.args.numbers.now))
 
-sub-place : tie.Need-overflow-sub-place invariant-loop decreases-loop
-sub-place c = (limit c).0
+overflow_sub-place : tie.Need-overflow_sub-place invariant-loop-a decreases-loop-a
+overflow_sub-place c = (limit c).0
 
-mul-longer : tie.Need-overflow-mul-longer invariant-loop decreases-loop
-mul-longer c = omega (arith, limit c)
+offset_bounds-keys-place : tie.Need-offset_bounds-keys-place invariant-loop-a decreases-loop-a
+offset_bounds-keys-place c = omega (arith, limit c)
 
-element-copy-out-longer : tie.Need-element-copy-out-longer invariant-loop decreases-loop
-element-copy-out-longer c = omega (arith, limit c)
+bounds-keys-place : tie.Need-bounds-keys-place invariant-loop-a decreases-loop-a
+bounds-keys-place c = omega (arith, limit c.before)
 
-mul-longer-2 : tie.Need-overflow-mul-longer-2 invariant-loop decreases-loop
+overflow_mul-longer : tie.Need-overflow_mul-longer invariant-loop-a decreases-loop-a
 unfolding at
-mul-longer-2 c = omega (arith, fits c.before)
+overflow_mul-longer c = omega (arith, fits c.before.before)
 
-mul-longer-3 : tie.Need-overflow-mul-longer-3 invariant-loop decreases-loop
-mul-longer-3 c = omega (arith, limit c.before)
+offset_bounds-numbers-place : tie.Need-offset_bounds-numbers-place invariant-loop-a decreases-loop-a
+offset_bounds-numbers-place c = omega (arith, limit c.before.before)
 
-element-copy-out-longer-2 : tie.Need-element-copy-out-longer-2 invariant-loop decreases-loop
-element-copy-out-longer-2 c = omega (arith, limit c.before)
+bounds-numbers-place : tie.Need-bounds-numbers-place invariant-loop-a decreases-loop-a
+bounds-numbers-place c = omega (arith, limit c.before.before.before)
 
-cast-longer : tie.Need-overflow-cast-longer invariant-loop decreases-loop
+overflow_cast-longer : tie.Need-overflow_cast-longer invariant-loop-a decreases-loop-a
 unfolding at
-cast-longer c = omega (arith, fits c.before.before)
+overflow_cast-longer c = omega (arith, fits c.before.before.before.before)
 
-add-longer : tie.Need-overflow-add-longer invariant-loop decreases-loop
+overflow_add-longer : tie.Need-overflow_add-longer invariant-loop-a decreases-loop-a
 unfolding at
-add-longer c = omega (arith, fits c.before.before)
+overflow_add-longer c = omega (arith, fits c.before.before.before.before)
 
-mul-longer-4 : tie.Need-overflow-mul-longer-4 invariant-loop decreases-loop
-mul-longer-4 c = omega (arith, limit c.before.before)
+offset_bounds-longer-place : tie.Need-offset_bounds-longer-place invariant-loop-a decreases-loop-a
+offset_bounds-longer-place c = omega (arith, limit c.before.before.before.before)
 
-array-write-longer : tie.Need-array-write-longer invariant-loop decreases-loop
-array-write-longer c = omega (arith, limit c.before.before)
+bounds-longer-place : tie.Need-bounds-longer-place invariant-loop-a decreases-loop-a
+bounds-longer-place c = omega (arith, limit c.before.before.before.before)
 
-add_a : tie.Need-overflow-add-a invariant-loop decreases-loop
-add_a c = omega (arith, limit c.before.before)
+overflow_add-a : tie.Need-overflow_add-a invariant-loop-a decreases-loop-a
+overflow_add-a c = omega (arith, limit c.before.before.before.before)
 
-loop-less : tie.Need-loop-smaller invariant-loop decreases-loop
-loop-less c = let e = element c.before.before in omega arith
+loop-a-smaller : tie.Need-loop-a-smaller invariant-loop-a decreases-loop-a
+loop-a-smaller c = let e = element c.before.before.before.before in omega arith
 
-loop-again : tie.Need-loop-preserved invariant-loop decreases-loop
+loop-a-preserved : tie.Need-loop-a-preserved invariant-loop-a decreases-loop-a
 unfolding at
-loop-again c =
+loop-a-preserved c =
     let t = c.before.before in
-    let l = t.before.loop in
-    let e = element t in
-    (omega arith, fill_step (longer t) l.a _ l.longer l.invariant.1 (limit t) refl)
+    let l = t.loop-a in
+    let e = element t.before.before in
+    (omega arith, fill_step (longer t.before.before) l.a _ l.longer l.invariant.1 (limit t.before.before) refl)
 
-returns : tie.Need-returns invariant-loop decreases-loop
+returns : tie.Need-returns invariant-loop-a decreases-loop-a
 returns c =
-    let l = c.before.loop in
-    let a = c.before.before.args in
-    fill_end (appended a.values a.keys.now a.numbers.now) a.n l.a l.longer l.invariant.1 l.invariant.0 c.loop-test.false
+    let l = c.loop-a in
+    let a = c.args in
+    fill_end (appended a.values a.keys.now a.numbers.now) a.n l.a l.longer l.invariant.1 l.invariant.0 c.loop-a-test.false
 
 pub append_spec : {M : Type 1} → statement M
 append_spec =
     tie.close
     (tie.spec
-    invariant-loop
-    decreases-loop
-    loop-holds
-    sub-place
-    mul-longer
-    element-copy-out-longer
-    mul-longer-2
-    mul-longer-3
-    element-copy-out-longer-2
-    cast-longer
-    add-longer
-    mul-longer-4
-    array-write-longer
-    add_a
-    loop-less
-    loop-again
+    invariant-loop-a
+    decreases-loop-a
+    loop-a-init
+    overflow_sub-place
+    offset_bounds-keys-place
+    bounds-keys-place
+    overflow_mul-longer
+    offset_bounds-numbers-place
+    bounds-numbers-place
+    overflow_cast-longer
+    overflow_add-longer
+    offset_bounds-longer-place
+    bounds-longer-place
+    overflow_add-a
+    loop-a-smaller
+    loop-a-preserved
     returns)

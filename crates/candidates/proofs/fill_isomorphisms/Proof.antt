@@ -9,8 +9,8 @@ returns : tie.Need-returns
 returns c =
     let targets = c.before.before.before.before.before.before in
     let sources = targets.before in
-    let start = sources.before.before.before.before in
-    c.before.before.fill-equal.ensures ∙ isomorphism_marks start.args.scratch.now start.requires.0.0 start.requires.0.1 sources.profile_keys.ensures targets.profile-keys2.ensures
+    let start = sources in
+    c.fill_equal.ensures ∙ isomorphism_marks start.args.scratch.now start.requires.0.0 start.requires.0.1 sources.profile_keys-source_keys.ensures targets.profile_keys-target_keys.ensures
 
 pub fill_isomorphisms_spec : {M : Type 1} → statement M
 fill_isomorphisms_spec =

@@ -5,10 +5,10 @@ use Rattle.candidates.proofs.Marks.{next_row}
 use Rattle.candidates.proofs.following.Statement.{statement}
 use Rattle.candidates.proofs.following.Tie as tie
 
-returns-2 : tie.Need-returns-2
-returns-2 c =
-    let p = c.before.before.before.requires in
-    next_row (record { number = refl; row = p.0; column = p.2 }) c.before.if1.false
+returns : tie.Need-returns
+returns c =
+    let p = c.requires in
+    next_row (record { number = refl; row = p.0; column = p.2 }) c.if-pair-n.false
 
 pub following_spec : {M : Type 1} → statement M
-following_spec = tie.close (tie.spec (λ c. search rules) (λ c. search rules) (λ c. search rules) returns-2)
+following_spec = tie.close (tie.spec (λ c. search rules) (λ c. search rules) (λ c. search rules) returns)

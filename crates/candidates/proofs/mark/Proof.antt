@@ -16,18 +16,18 @@ byte : (b : Bool) → bool_byte b ≡ cond b 1 0
 byte true = refl
 byte false = refl
 
-returns : tie.Need-returns
+returns-then-i-m : tie.Need-returns-then-i-m
 unfolding same_key at
-returns c =
-    let z = c.before.before.before in
+returns-then-i-m c =
+    let z = c in
     let a = z.args in
-    byte (same_key a.source.now a.target.now a.pair.i a.pair.j) ∙ sym (pair_at a.m a.n (same_key a.source.now a.target.now) _ a.pair.i a.pair.j refl (z.requires.0, c.before.before.if1.true) z.requires.1)
+    byte (same_key a.source.now a.target.now a.pair.i a.pair.j) ∙ sym (pair_at a.m a.n (same_key a.source.now a.target.now) _ a.pair.i a.pair.j refl (z.requires.0, c.if-i-m.true) z.requires.1)
 
-returns-2 : tie.Need-returns-2
-returns-2 c =
-    let a = c.before.args in
-    let above = c.if1.false in
-    let first = c.before.requires.0 in
+returns : tie.Need-returns
+returns c =
+    let a = c.args in
+    let above = c.if-i-m.false in
+    let first = c.requires.0 in
     let past : a.m * a.n ≤ (a.pair.i - 1) * a.n = mul-le-mul_right a.n (omega arith) in
     sym (pair_past a.m a.n (same_key a.source.now a.target.now) _ (omega arith))
 
@@ -42,5 +42,5 @@ mark_spec =
     (λ c. search rules)
     (λ c. search rules)
     (λ c. search rules)
-    returns
-    returns-2)
+    returns-then-i-m
+    returns)

@@ -6,20 +6,20 @@ use Rattle.candidates.proofs.Marks.{pair_small}
 use Rattle.candidates.proofs.pair_number.Statement.{statement}
 use Rattle.candidates.proofs.pair_number.Tie as tie
 
-sub-result : tie.Need-overflow-sub-result
-sub-result c = search rules
+overflow_sub-result : tie.Need-overflow_sub-result
+overflow_sub-result c = search rules
 
-mul-result : tie.Need-overflow-mul-result
-mul-result c = let p = c.requires in omega (arith, pair_small c.args.n c.args.i c.args.j p.0 p.1 p.2)
+overflow_mul-result : tie.Need-overflow_mul-result
+overflow_mul-result c = let p = c.requires in omega (arith, pair_small c.args.n c.args.i c.args.j p.0 p.1 p.2)
 
-sub-result-2 : tie.Need-overflow-sub-result-2
-sub-result-2 c = search rules
+overflow_sub-result-2 : tie.Need-overflow_sub-result-2
+overflow_sub-result-2 c = search rules
 
-add-result : tie.Need-overflow-add-result
-add-result c = let p = c.requires in omega (arith, pair_small c.args.n c.args.i c.args.j p.0 p.1 p.2)
+overflow_add-result : tie.Need-overflow_add-result
+overflow_add-result c = let p = c.requires in omega (arith, pair_small c.args.n c.args.i c.args.j p.0 p.1 p.2)
 
 returns : tie.Need-returns
 returns c = refl
 
 pub pair_number_spec : {M : Type 1} → statement M
-pair_number_spec = tie.close (tie.spec sub-result mul-result sub-result-2 add-result returns)
+pair_number_spec = tie.close (tie.spec overflow_sub-result overflow_mul-result overflow_sub-result-2 overflow_add-result returns)

@@ -10,15 +10,15 @@ use Rattle.candidates.proofs.scratch_size.Tie as tie
 pairs : (c : tie.Start) → c.args.m * c.args.n ≤ 14400
 pairs c = mul-le-mul c.requires.0 c.requires.1
 
-mul-result : tie.Need-overflow-mul-result
-mul-result c = omega (arith, pairs c)
+overflow_mul-result : tie.Need-overflow_mul-result
+overflow_mul-result c = omega (arith, pairs c)
 
-add-result : tie.Need-overflow-add-result
-add-result c = omega (arith, pairs c)
+overflow_add-result : tie.Need-overflow_add-result
+overflow_add-result c = omega (arith, pairs c)
 
 returns : tie.Need-returns
 unfolding scratch_size
 returns c = refl
 
 pub scratch_size_spec : {M : Type 1} → statement M
-scratch_size_spec = tie.close (tie.spec mul-result add-result returns)
+scratch_size_spec = tie.close (tie.spec overflow_mul-result overflow_add-result returns)

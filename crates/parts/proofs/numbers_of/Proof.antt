@@ -9,71 +9,71 @@ use Rattle.parts.proofs.Parts.{numbering_nil, entry_small, numbers_few, numbers_
 use Rattle.parts.proofs.numbers_of.Statement.{statement}
 use Rattle.parts.proofs.numbers_of.Tie as tie
 
-abbrev invariant-loop : tie.invariant-loop
-invariant-loop elements k numbers₀ i₀ numbers i = (i ≤ k) × (numbers ≡ numbering (take i elements))
+abbrev invariant-loop-i : tie.invariant-loop-i
+invariant-loop-i elements k numbers₀ i₀ numbers i = (i ≤ k) × (numbers ≡ numbering (take i elements))
 
-abbrev decreases-loop : tie.decreases-loop
-decreases-loop elements k numbers₀ i₀ numbers i = k - i
+abbrev decreases-loop-i : tie.decreases-loop-i
+decreases-loop-i elements k numbers₀ i₀ numbers i = k - i
 
-loop-holds : tie.Need-loop-init invariant-loop decreases-loop
-loop-holds c = (search rules, numbering_nil)
+loop-i-init : tie.Need-loop-i-init invariant-loop-i decreases-loop-i
+loop-i-init c = (search rules, numbering_nil)
 
-shared-slice-read-x : tie.Need-shared-slice-read-x invariant-loop decreases-loop
-shared-slice-read-x c =
-    let h = c.before.before.before.requires.0 in
-    let t = c.before.loop-test.true in
+bounds-elements-i : tie.Need-bounds-elements-i invariant-loop-i decreases-loop-i
+bounds-elements-i c =
+    let h = c.requires.0 in
+    let t = c.loop-i-test.true in
     omega arith
 
-cast-x : tie.Need-overflow-cast-x invariant-loop decreases-loop
-cast-x c =
-    omega (arith, c.shared-slice-known.given c.before.before.loop.i)
+overflow_cast-x : tie.Need-overflow_cast-x invariant-loop-i decreases-loop-i
+overflow_cast-x c =
+    omega (arith, c.shared_slice_known-1.given c.loop-i.i)
 
-add-i : tie.Need-overflow-add-i invariant-loop decreases-loop
-add-i c =
-    let h = c.before.before.before.requires.0 in
-    let t = c.before.loop-test.true in
+overflow_add-i : tie.Need-overflow_add-i invariant-loop-i decreases-loop-i
+overflow_add-i c =
+    let h = c.requires.0 in
+    let t = c.loop-i-test.true in
     omega arith
 
-cast-numbers : tie.Need-overflow-cast-numbers invariant-loop decreases-loop
-cast-numbers c =
-    let p = c.before.before.before.requires in
+overflow_cast-numbers : tie.Need-overflow_cast-numbers invariant-loop-i decreases-loop-i
+overflow_cast-numbers c =
+    let p = c.requires in
     let h = numbers_few _ _ p.0 p.1.0 p.1.1 in
-    let t = c.before.loop-test.true in
+    let t = c.loop-i-test.true in
     omega arith
 
-array-write-numbers : tie.Need-array-write-numbers invariant-loop decreases-loop
-array-write-numbers c =
-    let p = c.before.before.before.requires in
-    let h = entry_small _ _ p.0 p.1.0 _ c.before.loop-test.true in
+bounds-numbers-x : tie.Need-bounds-numbers-x invariant-loop-i decreases-loop-i
+bounds-numbers-x c =
+    let p = c.requires in
+    let h = entry_small _ _ p.0 p.1.0 _ c.loop-i-test.true in
     omega arith
 
-loop-less : tie.Need-loop-smaller invariant-loop decreases-loop
-loop-less c = omega arith
+loop-i-smaller : tie.Need-loop-i-smaller invariant-loop-i decreases-loop-i
+loop-i-smaller c = omega arith
 
-loop-again : tie.Need-loop-preserved invariant-loop decreases-loop
-loop-again c =
-    let p = c.before.before.before.requires in
-    (omega arith, numbers_next _ _ p.0 p.1.0 p.1.1 _ _ c.before.loop-test.true c.before.before.loop.invariant.1)
+loop-i-preserved : tie.Need-loop-i-preserved invariant-loop-i decreases-loop-i
+loop-i-preserved c =
+    let p = c.requires in
+    (omega arith, numbers_next _ _ p.0 p.1.0 p.1.1 _ _ c.loop-i-test.true c.loop-i.invariant.1)
 
-returns : tie.Need-returns invariant-loop decreases-loop
+returns : tie.Need-returns invariant-loop-i decreases-loop-i
 returns c =
-    let v = c.before.loop.invariant in
-    let t = c.loop-test.false in
-    let s = c.before.before in
-    v.1 ∙ ap (λ (j : ℕ). numbering (take j s.args.elements.now)) (let z : c.before.loop.i ≡ s.args.k = omega arith in z)
+    let v = c.loop-i.invariant in
+    let t = c.loop-i-test.false in
+    let s = c in
+    v.1 ∙ ap (λ (j : ℕ). numbering (take j s.args.elements.now)) (let z : c.loop-i.i ≡ s.args.k = omega arith in z)
 
 pub numbers_of_spec : {M : Type 1} → statement M
 numbers_of_spec =
     tie.close
     (tie.spec
-    invariant-loop
-    decreases-loop
-    loop-holds
-    shared-slice-read-x
-    cast-x
-    add-i
-    cast-numbers
-    array-write-numbers
-    loop-less
-    loop-again
+    invariant-loop-i
+    decreases-loop-i
+    loop-i-init
+    bounds-elements-i
+    overflow_cast-x
+    overflow_add-i
+    overflow_cast-numbers
+    bounds-numbers-x
+    loop-i-smaller
+    loop-i-preserved
     returns)

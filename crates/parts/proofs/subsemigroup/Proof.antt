@@ -20,146 +20,146 @@ use Rattle.parts.proofs.subsemigroup.Statement.{statement}
 use Rattle.parts.proofs.subsemigroup.Tie as tie
 
 -- What is known once the table's four questions have passed, and once 60 has.
-module _ (c : tie.After-enum-told) where
+module _ (c : tie.In_default) where
   abbrev start : tie.Start
-  start = c.before.before.before.before.before.before.before
+  start = c.before.before.before.before.before.before
 
   table_passes : table_refusal start.args.n start.args.cells.now ≡ none
-  table_passes = sym c.before.before.check.ensures ∙ ap verdict_refusal c.enum_told.given.1
+  table_passes = sym c.check-table.ensures ∙ ap verdict_refusal c.in_default.is
 
   table_accepted : Accepted start.args.n start.args.cells.now
   table_accepted = accepted _ _ table_passes
 
-module _ (c : tie.After-enum-told3) where
-  abbrev table-told : tie.After-enum-told
-  table-told = c.before.before.before.before
+module _ (c : tie.In_default-entry) where
+  abbrev table-told : tie.In_default
+  table-told = c.before.before.before
 
   one : 1 ≤ length (start table-told).args.chosen.now
-  one = c.before.before.before.if1.false
+  one = c.if-chosen-lt1.false
 
   inside : Inside (start table-told).args.n (start table-told).args.chosen.now
-  inside = entries_inside _ _ (sym c.before.before.outside.ensures ∙ ap place_option c.enum-told3.given.1)
+  inside = entries_inside _ _ (sym c.outside-entry.ensures ∙ ap place_option c.in_default-entry.is)
 
 -- What is known once all questions have passed.
-ready : (c : tie.Else3) → let s = (start (table-told c.before.before.before)).args in
-    let r = c.before.before.generate.result in
+ready : (c : tie.Else-elements-k) → let s = (start (table-told c.before.before.before)).args in
+    let r = c.generate-generated.result in
     Ready s.n s.cells.now s.chosen.now s.part.now s.elements.now r.count r.marks
 ready c =
     let g = c.before.before in
     let t = g.before in
-    let e = g.generate.ensures.1 in
-    let h = c.if3.false in
+    let e = g.generate-generated.ensures.1 in
+    let h = c.if-elements-k.false in
     record {
       passes = record {
         table = table_accepted (table-told t);
         one = one t;
         inside = inside t;
-        cells_room = subst (λ (k : ℕ). k * k ≤ length (start (table-told t)).args.part.now) e c.before.if2.false;
+        cells_room = subst (λ (k : ℕ). k * k ≤ length (start (table-told t)).args.part.now) e c.if-part-k.false;
         elements_room = omega arith;
       };
       order = e;
-      marked = g.generate.ensures.0;
+      marked = g.generate-generated.ensures.0;
     }
 
-check-requires : tie.Need-check-requires
-check-requires c κs = search rules
+check-table-requires : tie.Need-check-table-requires
+check-table-requires c κs = search rules
 
-enum-known-table : tie.Need-enum-known-table
-enum-known-table c = search rules
+enum_known-table : tie.Need-enum_known-table
+enum_known-table c = search rules
 
 no-requires : tie.Need-no-requires
 no-requires c κs = search rules
 
-returns : tie.Need-returns
-returns c =
-    let k = c.before.before in
-    let table = kept _ _ _ _ _ _ (table_refused _ _ _ _ _ _ (sym k.before.before.check.ensures ∙ ap verdict_refusal k.table.given.1)) in
+returns-in-Refused : tie.Need-returns-in-Refused
+returns-in-Refused c =
+    let k = c in
+    let table = kept _ _ _ _ _ _ (table_refused _ _ _ _ _ _ (sym k.check-table.ensures ∙ ap verdict_refusal k.in-Refused.is)) in
     (ap {B = Answer ℕ} refused c.no.ensures ∙ table.0, table.1)
 
-enum_told : tie.Need-enum-told
-enum_told c = search rules
+enum_told-1 : tie.Need-enum_told-1
+enum_told-1 c = search rules
 
-returns-2 : tie.Need-returns-2
-returns-2 c = kept _ _ _ _ _ _ (none_chosen _ _ _ _ _ (table_passes c.before) c.if1.true)
+returns-then-chosen-lt1 : tie.Need-returns-then-chosen-lt1
+returns-then-chosen-lt1 c = kept _ _ _ _ _ _ (none_chosen _ _ _ _ _ (table_passes c.before) c.if-chosen-lt1.true)
 
-outside-requires : tie.Need-outside-requires
-outside-requires c κs = search rules
+outside-entry-requires : tie.Need-outside-entry-requires
+outside-entry-requires c κs = search rules
 
-enum-told-2 : tie.Need-enum-told-2
-enum-told-2 c = search rules
+enum_told-in-At : tie.Need-enum_told-in-At
+enum_told-in-At c = search rules
 
-returns-3 : tie.Need-returns-3
-returns-3 c =
+returns-in-At : tie.Need-returns-in-At
+returns-in-At c =
     let o = c.before.before in
-    kept _ _ _ _ _ _ (not_inside _ _ _ _ _ (table_passes o.before.before) (entry_outside _ _ _ (sym o.outside.ensures ∙ ap place_option c.enum-told2.given.1)))
+    kept _ _ _ _ _ _ (not_inside _ _ _ _ _ (table_passes o.before) (entry_outside _ _ _ (sym c.outside-entry.ensures ∙ ap place_option c.in-At.is)))
 
-enum-told-3 : tie.Need-enum-told-3
-enum-told-3 c = search rules
+enum_told-in_default-entry : tie.Need-enum_told-in_default-entry
+enum_told-in_default-entry c = search rules
 
-generate-requires : tie.Need-generate-requires
-generate-requires c κs = ((table_accepted (table-told c)).filled, inside c)
+generate-generated-requires : tie.Need-generate-generated-requires
+generate-generated-requires c κs = ((table_accepted (table-told c)).filled, inside c)
 
-mul-if2 : tie.Need-overflow-mul-if2
-mul-if2 c =
-    let e = c.generate.ensures.1 in
+overflow_mul-k : tie.Need-overflow_mul-k
+overflow_mul-k c =
+    let e = c.generate-generated.ensures.1 in
     let s = order_small _ _ (start (table-told c.before)).args.chosen.now (table_accepted (table-told c.before)) in
-    omega (arith, square_small c.generate.result.count (omega arith))
+    omega (arith, square_small c.generate-generated.result.count (omega arith))
 
-returns-4 : tie.Need-returns-4
-returns-4 c =
+returns-then-part-k : tie.Need-returns-then-part-k
+returns-then-part-k c =
     let g = c.before in
     let t = g.before in
-    short_cells _ _ _ _ _ (table_passes (table-told t)) (one t) (inside t) _ g.generate.ensures.1 c.if2.true
+    short_cells _ _ _ _ _ (table_passes (table-told t)) (one t) (inside t) _ g.generate-generated.ensures.1 c.if-part-k.true
 
-returns-5 : tie.Need-returns-5
-returns-5 c =
+returns-then-elements-k : tie.Need-returns-then-elements-k
+returns-then-elements-k c =
     let g = c.before.before in
     let t = g.before in
-    short_elements _ _ _ _ _ (table_passes (table-told t)) (one t) (inside t) _ g.generate.ensures.1 c.before.if2.false c.if3.true
+    short_elements _ _ _ _ _ (table_passes (table-told t)) (one t) (inside t) _ g.generate-generated.ensures.1 c.if-part-k.false c.if-elements-k.true
 
-write-elements-requires : tie.Need-write-elements-requires
-write-elements-requires c κs = let p = ready c.before.before.before in (p.passes.table.filled.order.1, marked_room p)
+write_elements-requires : tie.Need-write_elements-requires
+write_elements-requires c κs = let p = ready c.before.before.before in (p.passes.table.filled.order.1, marked_room p)
 
-write-part-requires : tie.Need-write-part-requires
-write-part-requires c κs =
+write_part-requires : tie.Need-write_part-requires
+write_part-requires c κs =
     let w = c.before.before.before.before in
     let f = w.before.before.before.before in
-    let p = ready f in
-    let e = w.write-elements.ensures in
-    (p.passes.table.filled, (after_room p e, (after_part p e, f.before.if2.false)))
+    let p = ready w.before.before.before in
+    let e = c.write_elements.ensures in
+    (p.passes.table.filled, (after_room p e, (after_part p e, f.if-part-k.false)))
 
-same_length : tie.Need-same-length
-same_length c = search rules
+shape_of-part : tie.Need-shape_of-part
+shape_of-part c = search rules
 
-same-length-2 : tie.Need-same-length-2
-same-length-2 c = search rules
+shape_of-elements : tie.Need-shape_of-elements
+shape_of-elements c = search rules
 
-returns-6 : tie.Need-returns-6
-returns-6 c =
+returns : tie.Need-returns
+returns c =
     let q = c.before.before in
     let w = q.before.before.before.before.before in
-    given (ready w.before.before.before.before) w.write-elements.ensures q.write-part.ensures
+    given (ready w.before.before.before) q.write_elements.ensures q.write_part.ensures
 
 pub subsemigroup_spec : {M : Type 1} → statement M
 subsemigroup_spec =
     tie.close
     (tie.spec
-    check-requires
-    enum-known-table
+    check-table-requires
+    enum_known-table
     no-requires
-    returns
-    enum_told
-    returns-2
-    outside-requires
-    enum-told-2
-    returns-3
-    enum-told-3
-    generate-requires
-    mul-if2
-    returns-4
-    returns-5
-    write-elements-requires
-    write-part-requires
-    same_length
-    same-length-2
-    returns-6)
+    returns-in-Refused
+    enum_told-1
+    returns-then-chosen-lt1
+    outside-entry-requires
+    enum_told-in-At
+    returns-in-At
+    enum_told-in_default-entry
+    generate-generated-requires
+    overflow_mul-k
+    returns-then-part-k
+    returns-then-elements-k
+    write_elements-requires
+    write_part-requires
+    shape_of-part
+    shape_of-elements
+    returns)

@@ -11,70 +11,70 @@ use Rattle.numbers.proofs.Sixteen.{put_value}
 use Rattle.words.proofs.words.Statement.{statement}
 use Rattle.words.proofs.words.Tie as tie
 
-abbrev invariant-loop : tie.invariant-loop
-invariant-loop number side values answer₀ i₀ answer i = (i ≤ length values) × (answer ≡ words number side (take i values))
+abbrev invariant-loop-i : tie.invariant-loop-i
+invariant-loop-i number side values answer₀ i₀ answer i = (i ≤ length values) × (answer ≡ words number side (take i values))
 
-abbrev decreases-loop : tie.decreases-loop
-decreases-loop number side values answer₀ i₀ answer i = length values - i
+abbrev decreases-loop-i : tie.decreases-loop-i
+decreases-loop-i number side values answer₀ i₀ answer i = length values - i
 
-array-write-answer : tie.Need-array-write-answer invariant-loop decreases-loop
-array-write-answer c = search rules
+bounds-answer-0 : tie.Need-bounds-answer-0 invariant-loop-i decreases-loop-i
+bounds-answer-0 c = search rules
 
-array-write-answer-2 : tie.Need-array-write-answer-2 invariant-loop decreases-loop
-array-write-answer-2 c = search rules
+bounds-answer-1 : tie.Need-bounds-answer-1 invariant-loop-i decreases-loop-i
+bounds-answer-1 c = search rules
 
-loop-holds : tie.Need-loop-init invariant-loop decreases-loop
-loop-holds c = (omega arith, refl)
+loop-i-init : tie.Need-loop-i-init invariant-loop-i decreases-loop-i
+loop-i-init c = (omega arith, refl)
 
-mul-answer : tie.Need-overflow-mul-answer invariant-loop decreases-loop
-mul-answer c = search rules
+offset_bounds-values-i : tie.Need-offset_bounds-values-i invariant-loop-i decreases-loop-i
+offset_bounds-values-i c = search rules
 
-shared-slice-read-answer : tie.Need-shared-slice-read-answer invariant-loop decreases-loop
-shared-slice-read-answer c = omega arith
+bounds-values-i : tie.Need-bounds-values-i invariant-loop-i decreases-loop-i
+bounds-values-i c = omega arith
 
-add-answer : tie.Need-overflow-add-answer invariant-loop decreases-loop
-add-answer c = omega arith
+overflow_add-answer : tie.Need-overflow_add-answer invariant-loop-i decreases-loop-i
+overflow_add-answer c = omega arith
 
-mul-answer-2 : tie.Need-overflow-mul-answer-2 invariant-loop decreases-loop
-mul-answer-2 c = search rules
+offset_bounds-answer-i : tie.Need-offset_bounds-answer-i invariant-loop-i decreases-loop-i
+offset_bounds-answer-i c = search rules
 
-array-write-answer-3 : tie.Need-array-write-answer-3 invariant-loop decreases-loop
-array-write-answer-3 c = omega arith
+bounds-answer-i : tie.Need-bounds-answer-i invariant-loop-i decreases-loop-i
+bounds-answer-i c = omega arith
 
-add-i : tie.Need-overflow-add-i invariant-loop decreases-loop
-add-i c = omega arith
+overflow_add-i : tie.Need-overflow_add-i invariant-loop-i decreases-loop-i
+overflow_add-i c = omega arith
 
-loop-less : tie.Need-loop-smaller invariant-loop decreases-loop
-loop-less c = omega arith
+loop-i-smaller : tie.Need-loop-i-smaller invariant-loop-i decreases-loop-i
+loop-i-smaller c = omega arith
 
-loop-again : tie.Need-loop-preserved invariant-loop decreases-loop
-loop-again c =
-    let z = c.before.before.before in
-    let l = c.before.before.loop in
+loop-i-preserved : tie.Need-loop-i-preserved invariant-loop-i decreases-loop-i
+loop-i-preserved c =
+    let z = c in
+    let l = c.loop-i in
     let a = z.args in
-    (omega arith, rw l.invariant.1 (put_value a.number a.side a.values.now z.requires l.i c.before.loop-test.true))
+    (omega arith, rw l.invariant.1 (put_value a.number a.side a.values.now z.requires l.i c.loop-i-test.true))
 
-returns : tie.Need-returns invariant-loop decreases-loop
+returns : tie.Need-returns invariant-loop-i decreases-loop-i
 returns c =
-    let l = c.before.loop in
-    let a = c.before.before.args in
+    let l = c.loop-i in
+    let a = c.args in
     l.invariant.1 ∙ ap (words a.number a.side) (take_all l.i a.values.now (omega arith))
 
 pub words_spec : {M : Type 1} → statement M
 words_spec =
     tie.close
     (tie.spec
-    invariant-loop
-    decreases-loop
-    array-write-answer
-    array-write-answer-2
-    loop-holds
-    mul-answer
-    shared-slice-read-answer
-    add-answer
-    mul-answer-2
-    array-write-answer-3
-    add-i
-    loop-less
-    loop-again
+    invariant-loop-i
+    decreases-loop-i
+    bounds-answer-0
+    bounds-answer-1
+    loop-i-init
+    offset_bounds-values-i
+    bounds-values-i
+    overflow_add-answer
+    offset_bounds-answer-i
+    bounds-answer-i
+    overflow_add-i
+    loop-i-smaller
+    loop-i-preserved
     returns)

@@ -9,10 +9,10 @@ use Rattle.judging.proofs.judged.compared.Tie as tie
 
 returns : tie.Need-returns
 returns c =
-    let said = c.before.before.before in
-    let agree = said.said_of.ensures ∙ ap said_of said.before.check.ensures ∙ sym c.before.before.judge.ensures in
-    let same = c.before.same-said.ensures ∙ same_said_itself _ _ agree in
-    c.counted.ensures ∙ ap (counted said.before.before.before.args.tally) same
+    let said = c in
+    let agree = said.said_of-said.ensures ∙ ap said_of said.check.ensures ∙ sym c.judge.ensures in
+    let same = c.same_said.ensures ∙ same_said_itself _ _ agree in
+    c.counted.ensures ∙ ap (counted said.args.tally) same
 
 pub compared_spec : {M : Type 1} → statement M
 compared_spec =

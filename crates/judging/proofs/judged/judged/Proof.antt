@@ -12,11 +12,11 @@ use Rattle.judging.proofs.judged.judged.Tie as tie
 
 returns : tie.Need-returns
 returns c =
-    let check = c.before.before.before.before in
-    let a = check.before.before.args in
-    let says = c.before.before.before.said_of.ensures ∙ ap said_of check.check.ensures in
-    let same = c.before.before.same-said.ensures ∙ ap (λ (x : Said). same_said x a.said) says in
-    c.compared.ensures ∙ ap (λ (t : Tally). counted t true) (c.before.counted.ensures ∙ ap (counted a.tally) same)
+    let check = c in
+    let a = check.args in
+    let says = c.said_of.ensures ∙ ap said_of check.check.ensures in
+    let same = c.same_said.ensures ∙ ap (λ (x : Said). same_said x a.said) says in
+    c.compared.ensures ∙ ap (λ (t : Tally). counted t true) (c.counted-answered.ensures ∙ ap (counted a.tally) same)
 
 pub judged_spec : {M : Type 1} → statement M
 judged_spec =

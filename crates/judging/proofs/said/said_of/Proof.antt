@@ -8,13 +8,13 @@ use Rattle.plain.specs.declared.Said.{Said}
 use Rattle.judging.proofs.said.said_of.Statement.{statement}
 use Rattle.judging.proofs.said.said_of.Tie as tie
 
-returns : tie.Need-returns
-returns c = c.failed.ensures ∙ sym (ap {B = Said} (λ (v : Verdict). said_of (verdict_refusal v)) c.before.enum_told.given.1)
+returns-in-Accepted : tie.Need-returns-in-Accepted
+returns-in-Accepted c = c.failed.ensures ∙ sym (ap {B = Said} (λ (v : Verdict). said_of (verdict_refusal v)) c.in-Accepted.is)
 
-returns-2 : tie.Need-returns-2
-returns-2 c =
-    c.said-of-no.ensures ∙ ap {B = Said} refusal_said c.before.no.ensures
-    ∙ sym (ap {B = Said} (λ (v : Verdict). said_of (verdict_refusal v)) c.before.before.before.verdict.given.1)
+returns-in-Refused : tie.Need-returns-in-Refused
+returns-in-Refused c =
+    c.said_of_no.ensures ∙ ap {B = Said} refusal_said c.no.ensures
+    ∙ sym (ap {B = Said} (λ (v : Verdict). said_of (verdict_refusal v)) c.in-Refused.is)
 
 pub said_of_spec : {M : Type 1} → statement M
 said_of_spec =
@@ -25,5 +25,5 @@ said_of_spec =
     (λ c. search rules)
     (λ c κs. search rules)
     (λ c κs. search rules)
-    returns
-    returns-2)
+    returns-in-Accepted
+    returns-in-Refused)

@@ -24,13 +24,13 @@ abbrev put_decimal_below : ℕ → In 1 put-decimal-kinds.ps
 put_decimal_below t =
     and 1 put-decimal-kinds.ps (falls 1 put-decimal-kinds.ps ◌<◌ μ-put-decimal t) put-decimal.Pre
 
-put_decimal_add_out : (t : ℕ) → put-decimal-lts.Need-overflow-add-out (
+put_decimal_add_out : (t : ℕ) → put-decimal-lts.Need-overflow_add-out (
   put_decimal_below t,
   put-decimal.Post,
 ) (put_decimal_at t) put-decimal.Post
 put_decimal_add_out t c = let h = c.if1.true in omega arith
 
-put_decimal_cast_out : (t : ℕ) → put-decimal-lts.Need-overflow-cast-out (
+put_decimal_cast_out : (t : ℕ) → put-decimal-lts.Need-overflow_cast-out (
   put_decimal_below t,
   put-decimal.Post,
 ) (put_decimal_at t) put-decimal.Post
@@ -45,7 +45,7 @@ put_decimal_slice_write_out t c =
     let h = c.if1.true in
     omega (arith, z.requires.1, ap length (one_digit z.args.k h))
 
-put_decimal_add_result : (t : ℕ) → put-decimal-lts.Need-overflow-add-result (
+put_decimal_add_result : (t : ℕ) → put-decimal-lts.Need-overflow_add-result (
   put_decimal_below t,
   put-decimal.Post,
 ) (put_decimal_at t) put-decimal.Post
@@ -77,13 +77,13 @@ put_decimal_put_decimal_requires t c κs =
     let room = z.requires.1 in
     (omega arith, omega (arith, digits_length z.args.k (omega arith) (omega arith)))
 
-put_decimal_add_out_2 : (t : ℕ) → put-decimal-lts.Need-overflow-add-out-2 (
+put_decimal_add_out_2 : (t : ℕ) → put-decimal-lts.Need-overflow_add-out-2 (
   put_decimal_below t,
   put-decimal.Post,
 ) (put_decimal_at t) put-decimal.Post
 put_decimal_add_out_2 t c = search rules
 
-put_decimal_cast_out_2 : (t : ℕ) → put-decimal-lts.Need-overflow-cast-out-2 (
+put_decimal_cast_out_2 : (t : ℕ) → put-decimal-lts.Need-overflow_cast-out-2 (
   put_decimal_below t,
   put-decimal.Post,
 ) (put_decimal_at t) put-decimal.Post
@@ -100,7 +100,7 @@ put_decimal_slice_write_out_2 t c =
     let wrote = c.before.before.put-decimal in
     omega (arith, digits_length z.args.k (omega arith) (omega arith), wrote.ensures.0, wrote.auto.0)
 
-put_decimal_add_result_2 : (t : ℕ) → put-decimal-lts.Need-overflow-add-result-2 (
+put_decimal_add_result_2 : (t : ℕ) → put-decimal-lts.Need-overflow_add-result-2 (
   put_decimal_below t,
   put-decimal.Post,
 ) (put_decimal_at t) put-decimal.Post

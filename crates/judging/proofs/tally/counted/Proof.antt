@@ -4,11 +4,11 @@ use borrow.Author.Rules.{rules}
 use Rattle.judging.proofs.tally.counted.Statement.{statement}
 use Rattle.judging.proofs.tally.counted.Tie as tie
 
-returns : tie.Need-returns
-returns c = let a = c.before.before.args in counted_same a.tally a.same c.up.result c.before.if1.true c.up.ensures
+returns-then-same : tie.Need-returns-then-same
+returns-then-same c = let a = c.args in counted_same a.tally a.same c.up.result c.if-same.true c.up.ensures
 
-returns-2 : tie.Need-returns-2
-returns-2 c = let a = c.before.before.args in counted_other a.tally a.same c.up2.result c.before.if1.false c.up2.ensures
+returns : tie.Need-returns
+returns c = let a = c.args in counted_other a.tally a.same c.up-2.result c.if-same.false c.up-2.ensures
 
 pub counted_spec : {M : Type 1} → statement M
-counted_spec = tie.close (tie.spec (λ c κs. search rules) returns (λ c κs. search rules) returns-2)
+counted_spec = tie.close (tie.spec (λ c κs. search rules) returns-then-same (λ c κs. search rules) returns)

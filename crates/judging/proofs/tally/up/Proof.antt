@@ -5,16 +5,16 @@ use borrow.Author.Rules.{rules}
 use Rattle.judging.proofs.tally.up.Statement.{statement}
 use Rattle.judging.proofs.tally.up.Tie as tie
 
+returns-then-k-eq18446744073709551615 : tie.Need-returns-then-k-eq18446744073709551615
+unfolding up
+returns-then-k-eq18446744073709551615 c = rw (eq-eqb _ _ c.if-k-eq18446744073709551615.true)
+
+overflow_add-result : tie.Need-overflow_add-result
+overflow_add-result c = search rules
+
 returns : tie.Need-returns
 unfolding up
-returns c = rw (eq-eqb _ _ c.if1.true)
-
-add-result : tie.Need-overflow-add-result
-add-result c = search rules
-
-returns-2 : tie.Need-returns-2
-unfolding up
-returns-2 c = rw (ne_eqb _ _ c.if1.false)
+returns c = rw (ne_eqb _ _ c.if-k-eq18446744073709551615.false)
 
 pub up_spec : {M : Type 1} → statement M
-up_spec = tie.close (tie.spec returns add-result returns-2)
+up_spec = tie.close (tie.spec returns-then-k-eq18446744073709551615 overflow_add-result returns)

@@ -4,17 +4,17 @@ use borrow.Author.Rules.{rules}
 use Rattle.progress.proofs.Classifier.wanted.Statement.{statement}
 use Rattle.progress.proofs.Classifier.wanted.Tie as tie
 
-returns : tie.Need-returns
-returns c = λ cells. wanted_new _ cells c.before.before.before.enum_told.given.1 c.before.if1.true
+returns-then-self-lt50 : tie.Need-returns-then-self-lt50
+returns-then-self-lt50 c = λ cells. wanted_new _ cells c.in-Read.is c.if-self-lt50.true
 
-returns-2 : tie.Need-returns-2
-returns-2 c = λ cells. wanted_full _ cells c.before.before.enum_told.given.1 c.if1.false
+returns-else-self-lt50 : tie.Need-returns-else-self-lt50
+returns-else-self-lt50 c = λ cells. wanted_full _ cells c.in-Read.is c.if-self-lt50.false
 
-returns-3 : tie.Need-returns-3
-returns-3 c = λ cells. wanted_again _ cells c.before.task.given.1
+returns-in-Compare : tie.Need-returns-in-Compare
+returns-in-Compare c = λ cells. wanted_again _ cells c.in-Compare.is
 
-returns-4 : tie.Need-returns-4
-returns-4 c = λ cells. wanted_none _ cells c.enum-told2.given.1
+returns-in-Stop : tie.Need-returns-in-Stop
+returns-in-Stop c = λ cells. wanted_none _ cells c.in-Stop.is
 
 pub wanted_spec : {M : Type 1} → statement M
 wanted_spec =
@@ -22,9 +22,9 @@ wanted_spec =
     (tie.spec
     (λ c. search rules)
     (λ c. search rules)
-    returns
+    returns-then-self-lt50
     (λ c. search rules)
     (λ c. search rules)
-    returns-2
-    returns-3
-    returns-4)
+    returns-else-self-lt50
+    returns-in-Compare
+    returns-in-Stop)
