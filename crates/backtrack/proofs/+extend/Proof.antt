@@ -114,7 +114,7 @@ extend_whole_requires t c κs = search rules
 extend_returns : (t : ℕ) → extend-lts.Need-returns (calls t) (extend_at t) extend.Post extend_Inv_loop extend_μ_loop
 extend_returns t c = let z = c.before.before.before.before.before.before.before in c.whole.ensures ∙ done_whole (s t z) z.args.m (r t z) z.args.n z.args.scratch.now z.args.after.now z.args.tight z.args.known.now z.args.held.now (map t z) z.requires.1.1 z.args.limit c.before.before.if1.true
 
-extend_note_newest_requires : (t : ℕ) → extend-lts.Need-note-newest-requires (calls t) (extend_at t) extend.Post extend_Inv_loop extend_μ_loop
+extend_note_newest_requires : (t : ℕ) → extend-lts.Need-note_newest-requires (calls t) (extend_at t) extend.Post extend_Inv_loop extend_μ_loop
 unfolding at
 extend_note_newest_requires t c κs =
     let z = c.before.before.before.before.before.before.before.before.before.before.before in
@@ -127,7 +127,7 @@ extend_note_newest_requires t c κs =
 extend_shared_slice_read_low : (t : ℕ) → extend-lts.Need-shared-slice-read-low (calls t) (extend_at t) extend.Post extend_Inv_loop extend_μ_loop
 extend_shared_slice_read_low t c = let b = c.before.before.before.before.before.before.before.before.before.before.before.before.before.before.requires.1.1.bound in let e = c.before.before.before.before.before.before.before.before.before.if1.false in omega arith
 
-extend_cast_low : (t : ℕ) → extend-lts.Need-overflow-cast-low (calls t) (extend_at t) extend.Post extend_Inv_loop extend_μ_loop
+extend_cast_low : (t : ℕ) → extend-lts.Need-overflow_cast-low (calls t) (extend_at t) extend.Post extend_Inv_loop extend_μ_loop
 extend_cast_low t c = omega (arith, c.shared-slice-known5.given (map t c.before.before.before.before.before.before.before.before.before.before.before.before.before.before).len)
 
 extend_loop_holds : (t : ℕ) → extend-lts.Need-loop-init (calls t) (extend_at t) extend.Post extend_Inv_loop extend_μ_loop
@@ -150,7 +150,7 @@ extend_open_requires t c κs =
 extend_pay_requires : (t : ℕ) → extend-lts.Need-pay-requires (calls t) (extend_at t) extend.Post extend_Inv_loop extend_μ_loop
 extend_pay_requires t c κs = search rules
 
-extend_no_map_requires : (t : ℕ) → extend-lts.Need-no-map-requires (calls t) (extend_at t) extend.Post extend_Inv_loop extend_μ_loop
+extend_no_map_requires : (t : ℕ) → extend-lts.Need-no_map-requires (calls t) (extend_at t) extend.Post extend_Inv_loop extend_μ_loop
 extend_no_map_requires t c κs = search rules
 
 extend_returns_2 : (t : ℕ) → extend-lts.Need-returns-2 (calls t) (extend_at t) extend.Post extend_Inv_loop extend_μ_loop
@@ -158,7 +158,7 @@ extend_returns_2 t c =
     let y = c.before.before.before.pay in
     c.no-map.ensures ∙ stop (turn t c.before.before.before.before.before) c.before.before.before.before.if3.true (unpaid y.result.enough y.result.left _ y.ensures.0 c.before.if4.true)
 
-extend_may_pass_requires : (t : ℕ) → extend-lts.Need-may-pass-requires (calls t) (extend_at t) extend.Post extend_Inv_loop extend_μ_loop
+extend_may_pass_requires : (t : ℕ) → extend-lts.Need-may_pass-requires (calls t) (extend_at t) extend.Post extend_Inv_loop extend_μ_loop
 extend_may_pass_requires t c κs =
     let k = c.before.before.before.before.before.before.before.before.before in
     let z = start t k in
@@ -204,7 +204,7 @@ extend_returns_4 t c =
     let i = c.before.before.extend in
     i.ensures ∙ found T w.before.before.before.before.before.before.before.before.before.before.before.before.before.if3.true y.result.left p w.tried.result.partial w.tried.result.ok (told t w) c.before.before.before.before.before.if6.true (ap (λ (r : Outcome). r.ok) (sym i.ensures) ∙ c.if8.true)
 
-extend_add_x : (t : ℕ) → extend-lts.Need-overflow-add-x (calls t) (extend_at t) extend.Post extend_Inv_loop extend_μ_loop
+extend_add_x : (t : ℕ) → extend-lts.Need-overflow_add-x (calls t) (extend_at t) extend.Post extend_Inv_loop extend_μ_loop
 extend_add_x t c = let n = c.before.before.before.before.before.before.before.before.before.before.before.before.before.before.before.before.before.before.before.requires.1.0.1.order in let t = c.before.before.before.before.loop-test.true in omega arith
 
 extend_loop_less : (t : ℕ) → extend-lts.Need-loop-smaller (calls t) (extend_at t) extend.Post extend_Inv_loop extend_μ_loop
@@ -234,7 +234,7 @@ extend_loop_again t c =
           c.if3.branch,
     )
 
-extend_no_map_requires_2 : (t : ℕ) → extend-lts.Need-no-map-requires-2 (calls t) (extend_at t) extend.Post extend_Inv_loop extend_μ_loop
+extend_no_map_requires_2 : (t : ℕ) → extend-lts.Need-no_map-requires-2 (calls t) (extend_at t) extend.Post extend_Inv_loop extend_μ_loop
 extend_no_map_requires_2 t c κs = search rules
 
 extend_returns_5 : (t : ℕ) → extend-lts.Need-returns-5 (calls t) (extend_at t) extend.Post extend_Inv_loop extend_μ_loop

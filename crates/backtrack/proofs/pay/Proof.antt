@@ -6,16 +6,16 @@ use Rattle.backtrack.proofs.Limits.{pay_none, pay_one}
 use Rattle.backtrack.proofs.pay.Statement.{statement}
 use Rattle.backtrack.proofs.pay.Tie as tie
 
+returns-then-left-eq0 : tie.Need-returns-then-left-eq0
+returns-then-left-eq0 c =
+    let none : c.args.left ≡ 0 = c.if-left-eq0.true in
+    (pay_none c.args.left none, omega arith)
+
+overflow_sub-result : tie.Need-overflow_sub-result
+overflow_sub-result c = search rules
+
 returns : tie.Need-returns
-returns c =
-    let none : c.before.args.left ≡ 0 = c.if1.true in
-    (pay_none c.before.args.left none, omega arith)
-
-sub-t3 : tie.Need-overflow-sub-t3
-sub-t3 c = search rules
-
-returns-2 : tie.Need-returns-2
-returns-2 c = (pay_one c.before.args.left c.if1.false, refl)
+returns c = (pay_one c.args.left c.if-left-eq0.false, refl)
 
 pub pay_spec : {M : Type 1} → statement M
-pay_spec = tie.close (tie.spec returns sub-t3 returns-2)
+pay_spec = tie.close (tie.spec returns-then-left-eq0 overflow_sub-result returns)

@@ -12,14 +12,14 @@ use Rattle.backtrack.proofs.whole.Tie as tie
 abbrev found : ℕ → List ℕ → Bool → Outcome
 found limit image tight = record { stopped = false; left = limit; ok = not tight; image = cond tight (replicate 120 0) image }
 
-no-map-requires : tie.Need-no-map-requires
-no-map-requires c κs = search rules
+no_map-requires : tie.Need-no_map-requires
+no_map-requires c κs = search rules
+
+returns-then-tight : tie.Need-returns-then-tight
+returns-then-tight c = let a = c.args in c.no_map.ensures ∙ ap (found a.limit a.image) (sym c.if-tight.true)
 
 returns : tie.Need-returns
-returns c = let a = c.before.before.args in c.no-map.ensures ∙ ap (found a.limit a.image) (sym c.before.if1.true)
-
-returns-2 : tie.Need-returns-2
-returns-2 c = let a = c.before.args in ap (found a.limit a.image) (sym c.if1.false)
+returns c = let a = c.args in ap (found a.limit a.image) (sym c.if-tight.false)
 
 pub whole_spec : {M : Type 1} → statement M
-whole_spec = tie.close (tie.spec no-map-requires returns returns-2)
+whole_spec = tie.close (tie.spec no_map-requires returns-then-tight returns)

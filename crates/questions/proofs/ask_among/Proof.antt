@@ -11,57 +11,57 @@ use Rattle.questions.proofs.ask_among.Statement.{statement}
 use Rattle.questions.proofs.ask_among.Tie as tie
 
 -- What is known once the questions of a search have passed.
-module _ (c : tie.After-enum-told) where
+module _ (c : tie.In_default) where
   abbrev start : tie.Start
-  start = c.before.before.before.before.before
+  start = c.before.before.before.before
 
   passed : let a = start.args in search_refusal a.m a.source.now a.n a.target.now a.images a.marks ≡ none
-  passed = sym c.before.before.ask.ensures ∙ ap questions_refusal c.enum_told.given.1
+  passed = sym c.ask-asked.ensures ∙ ap questions_refusal c.in_default.is
 
-ask-requires : tie.Need-ask-requires
-ask-requires c κs = search rules
+ask-asked-requires : tie.Need-ask-asked-requires
+ask-asked-requires c κs = search rules
 
-enum-known-asked : tie.Need-enum-known-asked
-enum-known-asked c = search rules
+enum_known-asked : tie.Need-enum_known-asked
+enum_known-asked c = search rules
 
-returns : tie.Need-returns
-returns c =
-    let a = c.before.before.before.before.before.before.args in
-    sym (search_refused a.m a.source.now a.n a.target.now a.images a.marks a.room _ (sym c.before.before.before.ask.ensures ∙ ap questions_refusal c.before.asked.given.1))
+returns-in-Failed : tie.Need-returns-in-Failed
+returns-in-Failed c =
+    let a = c.args in
+    sym (search_refused a.m a.source.now a.n a.target.now a.images a.marks a.room _ (sym c.ask-asked.ensures ∙ ap questions_refusal c.in-Failed.is))
 
-enum_told : tie.Need-enum-told
-enum_told c = search rules
+enum_told-1 : tie.Need-enum_told-1
+enum_told-1 c = search rules
 
-scratch-size-requires : tie.Need-scratch-size-requires
-scratch-size-requires c κs =
+scratch_size-requires : tie.Need-scratch_size-requires
+scratch_size-requires c κs =
     let a = (start c).args in
     let p = (search_passes a.m a.source.now a.n a.target.now a.images a.marks).0 (passed c) in
     (p.check.source_table.filled.order.1, p.check.target_table.filled.order.1)
 
-returns-2 : tie.Need-returns-2
-returns-2 c =
+returns-then-room-scratch_size : tie.Need-returns-then-room-scratch_size
+returns-then-room-scratch_size c =
     let k = c.before.before in
     let a = (start k).args in
-    let size = c.before.scratch_size_law.ensures in
-    let short = c.if1.true in
+    let size = c.scratch_size.ensures in
+    let short = c.if-room-scratch_size.true in
     sym (pairs_refused a.m a.source.now a.n a.target.now a.images a.marks a.room (passed k) (omega arith))
 
-returns-3 : tie.Need-returns-3
-returns-3 c =
+returns : tie.Need-returns
+returns c =
     let k = c.before.before in
     let a = (start k).args in
-    let size = c.before.scratch_size_law.ensures in
-    let enough = c.if1.false in
+    let size = c.scratch_size.ensures in
+    let enough = c.if-room-scratch_size.false in
     sym (pairs_passed a.m a.source.now a.n a.target.now a.images a.marks a.room (passed k) (omega arith))
 
 pub ask_among_spec : {M : Type 1} → statement M
 ask_among_spec =
     tie.close
     (tie.spec
-    ask-requires
-    enum-known-asked
-    returns
-    enum_told
-    scratch-size-requires
-    returns-2
-    returns-3)
+    ask-asked-requires
+    enum_known-asked
+    returns-in-Failed
+    enum_told-1
+    scratch_size-requires
+    returns-then-room-scratch_size
+    returns)
