@@ -1,9 +1,9 @@
 -- `write_elements` meets its contract. The invariant: the marked elements before x stand in the buffer, and those from x on are left. Assumes nothing.
-use mathlib.Core.Logic.{⊎_elim}
 use Prim.Native.Nat.{suc, ◌-◌}
 use native.Mathlib.Omega.{arith}
 use Rattle.parts.proofs.Parts.{AtElement, elements_begin, elements_length, element_skipped, element_room, element_written, elements_end}
 use Rattle.parts.proofs.write_elements.Statement.{statement}
+use Rattle.parts.proofs.write_elements.Lts.{then-marks-x-eq1, else-marks-x-eq1}
 use Rattle.parts.proofs.write_elements.Tie as tie
 
 abbrev invariant-loop-x : tie.invariant-loop-x
@@ -58,10 +58,10 @@ loop-x-preserved c =
     let l = c in
     let a = l.loop-x.invariant in
     let t = l.loop-x-test.true in
-    ⊎_elim
-    (λ w. rw (w.1, w.2) (element_written _ _ _ a t w.0.true l.requires.1))
-    (λ w. rw (w.1, w.2) (element_skipped _ _ _ a t w.0.left))
-    c.if-marks-x-eq1.branch
+    elim l.if-marks-x-eq1.branch [
+      then-marks-x-eq1 w ↦ rw (w.elements-is, w.place-is) (element_written _ _ _ a t w.if-marks-x-eq1.true l.requires.1)
+    | else-marks-x-eq1 w ↦ rw (w.elements-is, w.place-is) (element_skipped _ _ _ a t w.if-marks-x-eq1.false)
+    ]
 
 shape_of-elements : tie.Need-shape_of-elements invariant-loop-x decreases-loop-x
 shape_of-elements c =
