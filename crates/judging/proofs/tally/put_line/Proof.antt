@@ -9,9 +9,6 @@ use Rattle.judging.proofs.tally.put_line.Tie as tie
 put_bytes-at-requires : tie.Need-put_bytes-at-requires
 put_bytes-at-requires c κs = search rules
 
-slice-aggregate-put-bytes : tie.Need-slice-aggregate-put-bytes
-slice-aggregate-put-bytes c = search rules
-
 put_bytes-at-requires-2 : tie.Need-put_bytes-at-requires-2
 put_bytes-at-requires-2 c κs = search rules
 
@@ -22,9 +19,6 @@ put_decimal-at-requires c κs =
     let one = c.put_bytes-at in
     let two = c.put_bytes-at-2 in
     omega (arith, numeral_short 20 z.args.tally.agreeing, one.ensures.0, one.auto.out, two.ensures.0, two.auto.out)
-
-slice-aggregate-put-bytes-2 : tie.Need-slice-aggregate-put-bytes-2
-slice-aggregate-put-bytes-2 c = search rules
 
 put_bytes-at-requires-3 : tie.Need-put_bytes-at-requires-3
 put_bytes-at-requires-3 c κs =
@@ -44,9 +38,6 @@ put_decimal-at-requires-2 c κs =
     let four = c.put_bytes-at-3 in
     let short = z.requires in
     omega (arith, numeral_short 20 z.args.tally.agreeing, numeral_short 20 z.args.tally.differing, one.ensures.0, one.auto.out, two.ensures.0, two.auto.out, three.ensures.0, three.auto.out, four.ensures.0, four.auto.out)
-
-slice-aggregate-put-bytes-3 : tie.Need-slice-aggregate-put-bytes-3
-slice-aggregate-put-bytes-3 c = search rules
 
 put_bytes-requires : tie.Need-put_bytes-requires
 put_bytes-requires c κs =
@@ -75,12 +66,9 @@ put_line_spec =
     tie.close
     (tie.spec
     put_bytes-at-requires
-    slice-aggregate-put-bytes
     put_bytes-at-requires-2
     put_decimal-at-requires
-    slice-aggregate-put-bytes-2
     put_bytes-at-requires-3
     put_decimal-at-requires-2
-    slice-aggregate-put-bytes-3
     put_bytes-requires
     returns)
