@@ -12,113 +12,113 @@ use Rattle.renaming.proofs.Renaming.{none_passed, product_passed, non_product_ad
 use Rattle.renaming.proofs.products_last.Statement.{statement}
 use Rattle.renaming.proofs.products_last.Tie as tie
 
-abbrev invariant-loop : tie.invariant-loop
-invariant-loop cells n counts found₀ marks₀ count₀ x₀ found marks count x = (x ≤ n) × Found (non_products x cells) found marks count
+abbrev invariant-loop-x : tie.invariant-loop-x
+invariant-loop-x cells n counts found₀ marks₀ count₀ x₀ found marks count x = (x ≤ n) × Found (non_products x cells) found marks count
 
-abbrev decreases-loop : tie.decreases-loop
-decreases-loop cells n counts found₀ marks₀ count₀ x₀ found marks count x = n - x
+abbrev decreases-loop-x : tie.decreases-loop-x
+decreases-loop-x cells n counts found₀ marks₀ count₀ x₀ found marks count x = n - x
 
-abbrev invariant-loop2 : tie.invariant-loop2
-invariant-loop2 cells n found₀ marks₀ count₀ x i₀ found marks count i = (i ≤ length cells) × Found (adding_all (non_products n cells) (take i cells)) found marks count
+abbrev invariant-loop-i : tie.invariant-loop-i
+invariant-loop-i cells n found₀ marks₀ count₀ x i₀ found marks count i = (i ≤ length cells) × Found (adding_all (non_products n cells) (take i cells)) found marks count
 
-abbrev decreases-loop2 : tie.decreases-loop2
-decreases-loop2 cells n found₀ marks₀ count₀ x i₀ found marks count i = length cells - i
+abbrev decreases-loop-i : tie.decreases-loop-i
+decreases-loop-i cells n found₀ marks₀ count₀ x i₀ found marks count i = length cells - i
 
-frequencies-requires : tie.Need-frequencies-requires invariant-loop decreases-loop invariant-loop2 decreases-loop2
-frequencies-requires c κs = c.before.requires
+frequencies-counts-requires : tie.Need-frequencies-counts-requires invariant-loop-x decreases-loop-x invariant-loop-i decreases-loop-i
+frequencies-counts-requires c κs = c.requires
 
-loop-holds : tie.Need-loop-init invariant-loop decreases-loop invariant-loop2 decreases-loop2
-loop-holds c = (search rules, none_passed _)
+loop-x-init : tie.Need-loop-x-init invariant-loop-x decreases-loop-x invariant-loop-i decreases-loop-i
+loop-x-init c = (search rules, none_passed _)
 
-add-x : tie.Need-overflow-add-x invariant-loop decreases-loop invariant-loop2 decreases-loop2
-add-x c = let o = c.before.before.before.before.requires.order in omega arith
+overflow_add-x : tie.Need-overflow_add-x invariant-loop-x decreases-loop-x invariant-loop-i decreases-loop-i
+overflow_add-x c = let o = c.requires.order in omega arith
 
-sub-if1 : tie.Need-overflow-sub-if1 invariant-loop decreases-loop invariant-loop2 decreases-loop2
-sub-if1 c = let o = c.before.before.before.before.requires.order in omega arith
+overflow_sub-x : tie.Need-overflow_sub-x invariant-loop-x decreases-loop-x invariant-loop-i decreases-loop-i
+overflow_sub-x c = let o = c.requires.order in omega arith
 
-mul-if1 : tie.Need-overflow-mul-if1 invariant-loop decreases-loop invariant-loop2 decreases-loop2
-mul-if1 c = let o = c.before.before.before.before.requires.order in omega arith
+offset_bounds-counts-x : tie.Need-offset_bounds-counts-x invariant-loop-x decreases-loop-x invariant-loop-i decreases-loop-i
+offset_bounds-counts-x c = let o = c.requires.order in omega arith
 
-array-read-if1 : tie.Need-array-read-if1 invariant-loop decreases-loop invariant-loop2 decreases-loop2
-array-read-if1 c = let o = c.before.before.before.before.requires.order in omega arith
+bounds-counts-x : tie.Need-bounds-counts-x invariant-loop-x decreases-loop-x invariant-loop-i decreases-loop-i
+bounds-counts-x c = let o = c.requires.order in omega arith
 
-add-requires : tie.Need-add-requires invariant-loop decreases-loop invariant-loop2 decreases-loop2
-add-requires c κs =
-    let l = c.before.before.before.before in
-    let o = l.before.before.before.requires.order in
-    let t = c.before.before.before.loop-test.true in
-    (found_again l.loop.invariant.1, omega arith)
+add-count-requires : tie.Need-add-count-requires invariant-loop-x decreases-loop-x invariant-loop-i decreases-loop-i
+add-count-requires c κs =
+    let l = c in
+    let o = l.requires.order in
+    let t = c.loop-x-test.true in
+    (found_again l.loop-x.invariant.1, omega arith)
 
-loop-less : tie.Need-loop-smaller invariant-loop decreases-loop invariant-loop2 decreases-loop2
-loop-less c = let t = c.before.before.before.before.loop-test.true in omega arith
+loop-x-smaller-then-counts-x-eq0 : tie.Need-loop-x-smaller-then-counts-x-eq0 invariant-loop-x decreases-loop-x invariant-loop-i decreases-loop-i
+loop-x-smaller-then-counts-x-eq0 c = let t = c.loop-x-test.true in omega arith
 
-loop-again : tie.Need-loop-preserved invariant-loop decreases-loop invariant-loop2 decreases-loop2
-loop-again c =
-    let l = c.before.before.before.before.before in
-    let t = c.before.before.before.before.loop-test.true in
-    (omega arith, non_product_added _ _ l.before.before.before.requires _ l.before.frequencies.ensures _ t l.loop.invariant.1 c.before.before.before.if1.true c.add.ensures)
+loop-x-preserved-then-counts-x-eq0 : tie.Need-loop-x-preserved-then-counts-x-eq0 invariant-loop-x decreases-loop-x invariant-loop-i decreases-loop-i
+loop-x-preserved-then-counts-x-eq0 c =
+    let l = c in
+    let t = c.loop-x-test.true in
+    (omega arith, non_product_added _ _ l.requires _ l.frequencies-counts.ensures _ t l.loop-x.invariant.1 c.if-counts-x-eq0.true c.add-count.ensures)
 
-loop-less-2 : tie.Need-loop-smaller-2 invariant-loop decreases-loop invariant-loop2 decreases-loop2
-loop-less-2 c = let t = c.before.loop-test.true in omega arith
+loop-x-smaller : tie.Need-loop-x-smaller invariant-loop-x decreases-loop-x invariant-loop-i decreases-loop-i
+loop-x-smaller c = let t = c.loop-x-test.true in omega arith
 
-loop-again-2 : tie.Need-loop-preserved-2 invariant-loop decreases-loop invariant-loop2 decreases-loop2
-loop-again-2 c =
-    let l = c.before.before in
-    let t = c.before.loop-test.true in
-    (omega arith, product_passed _ _ l.before.before.before.requires _ l.before.frequencies.ensures _ t l.loop.invariant.1 c.if1.false)
+loop-x-preserved : tie.Need-loop-x-preserved invariant-loop-x decreases-loop-x invariant-loop-i decreases-loop-i
+loop-x-preserved c =
+    let l = c in
+    let t = c.loop-x-test.true in
+    (omega arith, product_passed _ _ l.requires _ l.frequencies-counts.ensures _ t l.loop-x.invariant.1 c.if-counts-x-eq0.false)
 
-loop2-holds : tie.Need-loop2-init invariant-loop decreases-loop invariant-loop2 decreases-loop2
-loop2-holds c = let l = c.before in (search rules, elements_passed _ _ l.before.before.before.requires _ l.loop.invariant.0 c.loop-test.false l.loop.invariant.1)
+loop-i-init : tie.Need-loop-i-init invariant-loop-x decreases-loop-x invariant-loop-i decreases-loop-i
+loop-i-init c = let l = c in (search rules, elements_passed _ _ l.requires _ l.loop-x.invariant.0 c.loop-x-test.false l.loop-x.invariant.1)
 
-shared-slice-read-y : tie.Need-shared-slice-read-y invariant-loop decreases-loop invariant-loop2 decreases-loop2
-shared-slice-read-y c = omega arith
+bounds-cells-i : tie.Need-bounds-cells-i invariant-loop-x decreases-loop-x invariant-loop-i decreases-loop-i
+bounds-cells-i c = omega arith
 
-cast-y : tie.Need-overflow-cast-y invariant-loop decreases-loop invariant-loop2 decreases-loop2
-cast-y c = omega (arith, c.shared-slice-known2.given c.before.before.loop2.i)
+overflow_cast-y : tie.Need-overflow_cast-y invariant-loop-x decreases-loop-x invariant-loop-i decreases-loop-i
+overflow_cast-y c = omega (arith, c.shared_slice_known-in-loop-i-1.given c.loop-i.i)
 
-add-requires-2 : tie.Need-add-requires-2 invariant-loop decreases-loop invariant-loop2 decreases-loop2
-add-requires-2 c κs =
-    let l = c.before.before.before.before in
-    (found_again l.loop2.invariant.1, cell_element _ _ l.before.before.before.before.before.requires _ c.before.before.before.loop2-test.true)
+add-count-requires-in-loop-i : tie.Need-add-count-requires-in-loop-i invariant-loop-x decreases-loop-x invariant-loop-i decreases-loop-i
+add-count-requires-in-loop-i c κs =
+    let l = c in
+    (found_again l.loop-i.invariant.1, cell_element _ _ l.requires _ c.loop-i-test.true)
 
-add-i : tie.Need-overflow-add-i invariant-loop decreases-loop invariant-loop2 decreases-loop2
-add-i c = omega arith
+overflow_add-i : tie.Need-overflow_add-i invariant-loop-x decreases-loop-x invariant-loop-i decreases-loop-i
+overflow_add-i c = omega arith
 
-loop2-less : tie.Need-loop2-smaller invariant-loop decreases-loop invariant-loop2 decreases-loop2
-loop2-less c = omega arith
+loop-i-smaller : tie.Need-loop-i-smaller invariant-loop-x decreases-loop-x invariant-loop-i decreases-loop-i
+loop-i-smaller c = omega arith
 
-loop2-again : tie.Need-loop2-preserved invariant-loop decreases-loop invariant-loop2 decreases-loop2
-loop2-again c =
-    let l = c.before.before.before.before.before in
-    (omega arith, entry_added _ _ _ _ c.before.before.before.before.loop2-test.true refl l.loop2.invariant.1 c.add2.ensures)
+loop-i-preserved : tie.Need-loop-i-preserved invariant-loop-x decreases-loop-x invariant-loop-i decreases-loop-i
+loop-i-preserved c =
+    let l = c in
+    (omega arith, entry_added _ _ _ _ c.loop-i-test.true refl l.loop-i.invariant.1 c.add-count-in-loop-i.ensures)
 
-returns : tie.Need-returns invariant-loop decreases-loop invariant-loop2 decreases-loop2
-returns c = let l = c.before in cells_added _ _ l.before.before.before.before.before.requires _ c.loop2-test.false l.loop2.invariant.1
+returns : tie.Need-returns invariant-loop-x decreases-loop-x invariant-loop-i decreases-loop-i
+returns c = let l = c in cells_added _ _ l.requires _ c.loop-i-test.false l.loop-i.invariant.1
 
 pub products_last_spec : {M : Type 1} → statement M
 products_last_spec =
     tie.close
     (tie.spec
-    invariant-loop
-    decreases-loop
-    invariant-loop2
-    decreases-loop2
-    frequencies-requires
-    loop-holds
-    add-x
-    sub-if1
-    mul-if1
-    array-read-if1
-    add-requires
-    loop-less
-    loop-again
-    loop-less-2
-    loop-again-2
-    loop2-holds
-    shared-slice-read-y
-    cast-y
-    add-requires-2
-    add-i
-    loop2-less
-    loop2-again
+    invariant-loop-x
+    decreases-loop-x
+    invariant-loop-i
+    decreases-loop-i
+    frequencies-counts-requires
+    loop-x-init
+    overflow_add-x
+    overflow_sub-x
+    offset_bounds-counts-x
+    bounds-counts-x
+    add-count-requires
+    loop-x-smaller-then-counts-x-eq0
+    loop-x-preserved-then-counts-x-eq0
+    loop-x-smaller
+    loop-x-preserved
+    loop-i-init
+    bounds-cells-i
+    overflow_cast-y
+    add-count-requires-in-loop-i
+    overflow_add-i
+    loop-i-smaller
+    loop-i-preserved
     returns)
