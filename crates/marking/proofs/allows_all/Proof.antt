@@ -8,57 +8,57 @@ use Rattle.marking.proofs.Masks.{Rest, clears_begin, clears_on, clears_one, clea
 use Rattle.marking.proofs.allows_all.Statement.{statement}
 use Rattle.marking.proofs.allows_all.Tie as tie
 
-abbrev invariant-loop : tie.invariant-loop
-invariant-loop pairs size scratch place₀ place = (place ≤ size) × (clears_nothing size pairs scratch ≡ Rest size pairs scratch place)
+abbrev invariant-loop-place : tie.invariant-loop-place
+invariant-loop-place pairs size scratch place₀ place = (place ≤ size) × (clears_nothing size pairs scratch ≡ Rest size pairs scratch place)
 
-abbrev decreases-loop : tie.decreases-loop
-decreases-loop pairs size scratch place₀ place = size - place
+abbrev decreases-loop-place : tie.decreases-loop-place
+decreases-loop-place pairs size scratch place₀ place = size - place
 
-loop-holds : tie.Need-loop-init invariant-loop decreases-loop
-loop-holds c = let a = c.args in (omega arith, clears_begin a.size a.pairs.now a.scratch.now)
+loop-place-init : tie.Need-loop-place-init invariant-loop-place decreases-loop-place
+loop-place-init c = let a = c.args in (omega arith, clears_begin a.size a.pairs.now a.scratch.now)
 
-shared-slice-read-marks : tie.Need-shared-slice-read-marks invariant-loop decreases-loop
-shared-slice-read-marks c = let room = c.before.before.before.requires.1 in let h = c.before.loop-test.true in omega arith
+bounds-scratch-place : tie.Need-bounds-scratch-place invariant-loop-place decreases-loop-place
+bounds-scratch-place c = let room = c.requires.1 in let h = c.loop-place-test.true in omega arith
 
-shared-slice-read-if1 : tie.Need-shared-slice-read-if1 invariant-loop decreases-loop
-shared-slice-read-if1 c = let room = c.before.before.before.before.requires.0 in let h = c.before.before.loop-test.true in omega arith
+bounds-pairs-place : tie.Need-bounds-pairs-place invariant-loop-place decreases-loop-place
+bounds-pairs-place c = let room = c.requires.0 in let h = c.loop-place-test.true in omega arith
 
-returns : tie.Need-returns invariant-loop decreases-loop
+returns-then-marks-pairs : tie.Need-returns-then-marks-pairs invariant-loop-place decreases-loop-place
+returns-then-marks-pairs c =
+    let a = c.args in
+    let l = c.loop-place in
+    sym (l.invariant.1 ∙ clears_one a.size a.pairs.now a.scratch.now l.place c.loop-place-test.true (ne_eqb _ _ c.if-marks-pairs.true))
+
+overflow_add-place : tie.Need-overflow_add-place invariant-loop-place decreases-loop-place
+overflow_add-place c = let h = c.loop-place-test.true in omega arith
+
+loop-place-smaller : tie.Need-loop-place-smaller invariant-loop-place decreases-loop-place
+loop-place-smaller c = let h = c.loop-place-test.true in omega arith
+
+loop-place-preserved : tie.Need-loop-place-preserved invariant-loop-place decreases-loop-place
+loop-place-preserved c =
+    let a = c.args in
+    let l = c.loop-place in
+    let h = c.loop-place-test.true in
+    (omega arith, l.invariant.1 ∙ clears_on a.size a.pairs.now a.scratch.now l.place h (eq-eqb _ _ c.if-marks-pairs.false))
+
+returns : tie.Need-returns invariant-loop-place decreases-loop-place
 returns c =
-    let a = c.before.before.before.before.before.args in
-    let l = c.before.before.before.before.loop in
-    sym (l.invariant.1 ∙ clears_one a.size a.pairs.now a.scratch.now l.place c.before.before.before.loop-test.true (ne_eqb _ _ c.if1.true))
-
-add-place : tie.Need-overflow-add-place invariant-loop decreases-loop
-add-place c = let h = c.before.before.before.loop-test.true in omega arith
-
-loop-less : tie.Need-loop-smaller invariant-loop decreases-loop
-loop-less c = let h = c.before.before.before.loop-test.true in omega arith
-
-loop-again : tie.Need-loop-preserved invariant-loop decreases-loop
-loop-again c =
-    let a = c.before.before.before.before.before.args in
-    let l = c.before.before.before.before.loop in
-    let h = c.before.before.before.loop-test.true in
-    (omega arith, l.invariant.1 ∙ clears_on a.size a.pairs.now a.scratch.now l.place h (eq-eqb _ _ c.if1.false))
-
-returns-2 : tie.Need-returns-2 invariant-loop decreases-loop
-returns-2 c =
-    let a = c.before.before.args in
-    let l = c.before.loop in
-    sym (l.invariant.1 ∙ clears_end a.size a.pairs.now a.scratch.now l.place c.loop-test.false)
+    let a = c.args in
+    let l = c.loop-place in
+    sym (l.invariant.1 ∙ clears_end a.size a.pairs.now a.scratch.now l.place c.loop-place-test.false)
 
 pub allows_all_spec : {M : Type 1} → statement M
 allows_all_spec =
     tie.close
     (tie.spec
-    invariant-loop
-    decreases-loop
-    loop-holds
-    shared-slice-read-marks
-    shared-slice-read-if1
-    returns
-    add-place
-    loop-less
-    loop-again
-    returns-2)
+    invariant-loop-place
+    decreases-loop-place
+    loop-place-init
+    bounds-scratch-place
+    bounds-pairs-place
+    returns-then-marks-pairs
+    overflow_add-place
+    loop-place-smaller
+    loop-place-preserved
+    returns)

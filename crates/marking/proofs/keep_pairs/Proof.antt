@@ -5,73 +5,73 @@ use Rattle.marking.proofs.Masks.{Masking, mask_begin, mask_length, mask_next, ma
 use Rattle.marking.proofs.keep_pairs.Statement.{statement}
 use Rattle.marking.proofs.keep_pairs.Tie as tie
 
-abbrev invariant-loop : tie.invariant-loop
-invariant-loop pairs size scratch₀ place₀ scratch place = Masking size pairs scratch₀ place scratch
+abbrev invariant-loop-place : tie.invariant-loop-place
+invariant-loop-place pairs size scratch₀ place₀ scratch place = Masking size pairs scratch₀ place scratch
 
-abbrev decreases-loop : tie.decreases-loop
-decreases-loop pairs size scratch₀ place₀ scratch place = size - place
+abbrev decreases-loop-place : tie.decreases-loop-place
+decreases-loop-place pairs size scratch₀ place₀ scratch place = size - place
 
-loop-holds : tie.Need-loop-init invariant-loop decreases-loop
-loop-holds c = let a = c.args in mask_begin a.size a.pairs.now a.scratch.now
+loop-place-init : tie.Need-loop-place-init invariant-loop-place decreases-loop-place
+loop-place-init c = let a = c.args in mask_begin a.size a.pairs.now a.scratch.now
 
-slice-read-scratch : tie.Need-slice-read-scratch invariant-loop decreases-loop
-slice-read-scratch c =
-    let k = c.before.before in
-    let p = k.before.requires in
+bounds-scratch-place : tie.Need-bounds-scratch-place invariant-loop-place decreases-loop-place
+bounds-scratch-place c =
+    let k = c in
+    let p = k.requires in
     let room = p.1 in
-    let h = c.before.loop-test.true in
-    omega (arith, mask_length k.before.args.size k.before.args.pairs.now k.before.args.scratch.now room k.loop.invariant)
+    let h = c.loop-place-test.true in
+    omega (arith, mask_length k.args.size k.args.pairs.now k.args.scratch.now room k.loop-place.invariant)
 
-shared-slice-read-scratch : tie.Need-shared-slice-read-scratch invariant-loop decreases-loop
-shared-slice-read-scratch c =
-    let k = c.before.before.before in
-    let room = k.before.requires.0 in
-    let h = c.before.before.loop-test.true in
+bounds-pairs-place : tie.Need-bounds-pairs-place invariant-loop-place decreases-loop-place
+bounds-pairs-place c =
+    let k = c in
+    let room = k.requires.0 in
+    let h = c.loop-place-test.true in
     omega arith
 
-slice-write-scratch : tie.Need-slice-write-scratch invariant-loop decreases-loop
-slice-write-scratch c =
-    let k = c.before.before.before in
-    let room = k.before.requires.1 in
-    let h = c.before.before.loop-test.true in
-    omega (arith, mask_length k.before.args.size k.before.args.pairs.now k.before.args.scratch.now room k.loop.invariant)
+bounds-scratch-place-in-loop-place : tie.Need-bounds-scratch-place-in-loop-place invariant-loop-place decreases-loop-place
+bounds-scratch-place-in-loop-place c =
+    let k = c in
+    let room = k.requires.1 in
+    let h = c.loop-place-test.true in
+    omega (arith, mask_length k.args.size k.args.pairs.now k.args.scratch.now room k.loop-place.invariant)
 
-add-place : tie.Need-overflow-add-place invariant-loop decreases-loop
-add-place c = let h = c.before.before.loop-test.true in omega arith
+overflow_add-place : tie.Need-overflow_add-place invariant-loop-place decreases-loop-place
+overflow_add-place c = let h = c.loop-place-test.true in omega arith
 
-loop-less : tie.Need-loop-smaller invariant-loop decreases-loop
-loop-less c = let h = c.before.before.loop-test.true in omega arith
+loop-place-smaller : tie.Need-loop-place-smaller invariant-loop-place decreases-loop-place
+loop-place-smaller c = let h = c.loop-place-test.true in omega arith
 
-loop-again : tie.Need-loop-preserved invariant-loop decreases-loop
-loop-again c =
-    let k = c.before.before.before in
-    let a = k.before.args in
-    mask_next a.size a.pairs.now a.scratch.now k.before.requires.1 k.loop.invariant c.before.before.loop-test.true
+loop-place-preserved : tie.Need-loop-place-preserved invariant-loop-place decreases-loop-place
+loop-place-preserved c =
+    let k = c in
+    let a = k.args in
+    mask_next a.size a.pairs.now a.scratch.now k.requires.1 k.loop-place.invariant c.loop-place-test.true
 
-same_length : tie.Need-same-length invariant-loop decreases-loop
-same_length c =
-    let k = c.before in
-    let a = k.before.args in
-    mask_length a.size a.pairs.now a.scratch.now k.before.requires.1 k.loop.invariant
+shape_of-scratch : tie.Need-shape_of-scratch invariant-loop-place decreases-loop-place
+shape_of-scratch c =
+    let k = c in
+    let a = k.args in
+    mask_length a.size a.pairs.now a.scratch.now k.requires.1 k.loop-place.invariant
 
-returns : tie.Need-returns invariant-loop decreases-loop
+returns : tie.Need-returns invariant-loop-place decreases-loop-place
 returns c =
-    let k = c.before in
-    let a = k.before.args in
-    mask_end a.size a.pairs.now a.scratch.now k.before.requires.1 k.loop.invariant c.loop-test.false
+    let k = c in
+    let a = k.args in
+    mask_end a.size a.pairs.now a.scratch.now k.requires.1 k.loop-place.invariant c.loop-place-test.false
 
 pub keep_pairs_spec : {M : Type 1} → statement M
 keep_pairs_spec =
     tie.close
     (tie.spec
-    invariant-loop
-    decreases-loop
-    loop-holds
-    slice-read-scratch
-    shared-slice-read-scratch
-    slice-write-scratch
-    add-place
-    loop-less
-    loop-again
-    same_length
+    invariant-loop-place
+    decreases-loop-place
+    loop-place-init
+    bounds-scratch-place
+    bounds-pairs-place
+    bounds-scratch-place-in-loop-place
+    overflow_add-place
+    loop-place-smaller
+    loop-place-preserved
+    shape_of-scratch
     returns)

@@ -15,15 +15,15 @@ use Rattle.marking.proofs.mark.Tie as tie
 abbrev filled : tie.Start → Bool → List ℕ
 filled z onto = let a = z.args in scratch_after a.m a.n (candidate (plain_kind onto) a.m (product a.m a.source.now) a.n (product a.n a.target.now)) a.scratch.now
 
-returns : tie.Need-returns
-returns c =
+returns-then-onto : tie.Need-returns-then-onto
+returns-then-onto c =
     let t = c.before.before.before.before in
-    c.before.before.fill-isomorphisms.ensures ∙ ap (filled t.before.before.before.before) (sym t.if1.true)
+    c.fill_isomorphisms.ensures ∙ ap (filled t.before.before.before.before) (sym t.if-onto.true)
 
-returns-2 : tie.Need-returns-2
-returns-2 c =
+returns-else-onto : tie.Need-returns-else-onto
+returns-else-onto c =
     let t = c.before.before.before.before in
-    c.before.before.fill-embeddings.ensures ∙ ap (filled t.before.before.before.before) (sym t.if1.false)
+    c.fill_embeddings.ensures ∙ ap (filled t.before.before.before.before) (sym t.if-onto.false)
 
 pub mark_spec : {M : Type 1} → statement M
 mark_spec =
@@ -32,6 +32,6 @@ mark_spec =
     (λ c κs. search rules)
     (λ c κs. search rules)
     (λ c. search rules)
-    returns
+    returns-then-onto
     (λ c. search rules)
-    returns-2)
+    returns-else-onto)

@@ -14,11 +14,11 @@ use Rattle.marking.proofs.mark_among.Tie as tie
 
 returns : tie.Need-returns
 returns c =
-    let a = c.before.before.before.before.before.before.before.before.before.before.before.before.before.before.before.args in
-    let size = c.before.before.before.before.before.before.scratch_size_law.ensures in
-    let marks = c.before.before.before.before.before.before.before.before.before.mark.ensures in (
-      c.before.before.before.before.allows-all.ensures ∙ ap₂ (λ (size : ℕ) (scratch : List ℕ). clears_nothing size a.pairs.now scratch) size marks,
-      c.before.before.keep-pairs.ensures ∙ ap₂ (λ (size : ℕ) (scratch : List ℕ). overwritten (masked_bytes size a.pairs.now scratch) scratch) size marks
+    let a = c.args in
+    let size = c.scratch_size-size.ensures in
+    let marks = c.mark.ensures in (
+      c.allows_all-all.ensures ∙ ap₂ (λ (size : ℕ) (scratch : List ℕ). clears_nothing size a.pairs.now scratch) size marks,
+      c.keep_pairs.ensures ∙ ap₂ (λ (size : ℕ) (scratch : List ℕ). overwritten (masked_bytes size a.pairs.now scratch) scratch) size marks
           ∙ masked_scratch a.m a.n (candidate embeddings a.m (product a.m a.source.now) a.n (product a.n a.target.now)) a.pairs.now a.scratch.now,
     )
 

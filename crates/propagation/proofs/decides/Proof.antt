@@ -6,53 +6,53 @@ use Rattle.propagation.specs.InnerRows.{decides}
 use Rattle.propagation.proofs.decides.Statement.{statement}
 use Rattle.propagation.proofs.decides.Tie as tie
 
+returns-then-looks-last : tie.Need-returns-then-looks-last
+unfolding decides
+returns-then-looks-last c = let a = c.args in rw (ne_eqb a.looks a.last.looks c.if-looks-last.true)
+
+same_row-requires : tie.Need-same_row-requires
+same_row-requires c κs = search rules
+
+returns-then-not-same_row : tie.Need-returns-then-not-same_row
+unfolding decides
+returns-then-not-same_row c =
+    let a = c.args in
+    let w = c.same_row in
+    rw (eq-eqb a.looks a.last.looks c.if-looks-last.false, sym w.ensures ∙ c.if-not-same_row.true)
+
+same_row-requires-2 : tie.Need-same_row-requires-2
+same_row-requires-2 c κs = search rules
+
+returns-then-not-same_row-2 : tie.Need-returns-then-not-same_row-2
+unfolding decides
+returns-then-not-same_row-2 c =
+    let k = c in
+    let a = k.args in
+    let w = k.same_row in
+    let v = c.same_row-2 in
+    rw (eq-eqb a.looks a.last.looks k.if-looks-last.false, sym w.ensures ∙ k.if-not-same_row.false, sym v.ensures ∙ c.if-not-same_row-2.true)
+
+is_inside-requires : tie.Need-is_inside-requires
+is_inside-requires c κs = search rules
+
 returns : tie.Need-returns
 unfolding decides
-returns c = let a = c.before.before.args in rw (ne_eqb a.looks a.last.looks c.if1.true)
-
-same-row-requires : tie.Need-same-row-requires
-same-row-requires c κs = search rules
-
-returns-2 : tie.Need-returns-2
-unfolding decides
-returns-2 c =
-    let a = c.before.before.before.before.before.args in
-    let w = c.before.same_row in
-    rw (eq-eqb a.looks a.last.looks c.before.before.before.if1.false, sym w.ensures ∙ not-true w.result c.if2.true)
-
-same-row-requires-2 : tie.Need-same-row-requires-2
-same-row-requires-2 c κs = search rules
-
-returns-3 : tie.Need-returns-3
-unfolding decides
-returns-3 c =
-    let k = c.before.before.before in
-    let a = k.before.before.before.before.before.args in
-    let w = k.before.same_row in
-    let v = c.before.same-row2 in
-    rw (eq-eqb a.looks a.last.looks k.before.before.before.if1.false, sym w.ensures ∙ not-false w.result k.if2.false, sym v.ensures ∙ not-true v.result c.if3.true)
-
-is-inside-requires : tie.Need-is-inside-requires
-is-inside-requires c κs = search rules
-
-returns-4 : tie.Need-returns-4
-unfolding decides
-returns-4 c =
+returns c =
     let i = c.before.before in
-    let k = i.before.before.before in
-    let a = k.before.before.before.before.before.args in
-    let w = k.before.same_row in
-    let v = i.before.same-row2 in
-    rw (eq-eqb a.looks a.last.looks k.before.before.before.if1.false, sym w.ensures ∙ not-false w.result k.if2.false, sym v.ensures ∙ not-false v.result i.if3.false) c.is_inside_law.ensures
+    let k = i in
+    let a = k.args in
+    let w = k.same_row in
+    let v = i.same_row-2 in
+    rw (eq-eqb a.looks a.last.looks k.if-looks-last.false, sym w.ensures ∙ k.if-not-same_row.false, sym v.ensures ∙ i.if-not-same_row-2.false) c.is_inside.ensures
 
 pub decides_spec : {M : Type 1} → statement M
 decides_spec =
     tie.close
     (tie.spec
-    returns
-    same-row-requires
-    returns-2
-    same-row-requires-2
-    returns-3
-    is-inside-requires
-    returns-4)
+    returns-then-looks-last
+    same_row-requires
+    returns-then-not-same_row
+    same_row-requires-2
+    returns-then-not-same_row-2
+    is_inside-requires
+    returns)

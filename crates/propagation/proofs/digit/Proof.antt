@@ -8,17 +8,17 @@ use Rattle.propagation.specs.InnerRows.{digit}
 use Rattle.propagation.proofs.digit.Statement.{statement}
 use Rattle.propagation.proofs.digit.Tie as tie
 
+returns-then-a-b : tie.Need-returns-then-a-b
+unfolding digit
+returns-then-a-b c =
+    let a = c.args in
+    (sym (ap {B = ℕ} (λ (b : Bool). cond b a.weight 0) (eq-eqb a.a a.b c.if-a-b.true)), omega arith)
+
 returns : tie.Need-returns
 unfolding digit
 returns c =
-    let a = c.before.args in
-    (sym (ap {B = ℕ} (λ (b : Bool). cond b a.weight 0) (eq-eqb a.a a.b c.if1.true)), omega arith)
-
-returns-2 : tie.Need-returns-2
-unfolding digit
-returns-2 c =
-    let a = c.before.args in
-    (sym (ap {B = ℕ} (λ (b : Bool). cond b a.weight 0) (ne_eqb a.a a.b c.if1.false)), omega arith)
+    let a = c.args in
+    (sym (ap {B = ℕ} (λ (b : Bool). cond b a.weight 0) (ne_eqb a.a a.b c.if-a-b.false)), omega arith)
 
 pub digit_spec : {M : Type 1} → statement M
-digit_spec = tie.close (tie.spec returns returns-2)
+digit_spec = tie.close (tie.spec returns-then-a-b returns)

@@ -9,45 +9,45 @@ use Rattle.propagation.specs.InnerLone.{KeepsSending, ForcedBefore, begun, furth
 use Rattle.propagation.proofs.force_all.Statement.{statement}
 use Rattle.propagation.proofs.force_all.Tie as tie
 
-abbrev invariant-loop : tie.invariant-loop
-invariant-loop source m target n rows₀ l x c₀ rows c = Element (m + 1) c × KeepsSending m (product m source) n (product n target) l x (has rows₀) (has rows) × Shrinks rows₀ rows × ForcedBefore (product m source) n (product n target) l x rows₀ c rows
+abbrev invariant-loop-c : tie.invariant-loop-c
+invariant-loop-c source m target n rows₀ l x c₀ rows c = Element (m + 1) c × KeepsSending m (product m source) n (product n target) l x (has rows₀) (has rows) × Shrinks rows₀ rows × ForcedBefore (product m source) n (product n target) l x rows₀ c rows
 
-abbrev decreases-loop : tie.decreases-loop
-decreases-loop source m target n rows₀ l x c₀ rows c = m + 1 - c
+abbrev decreases-loop-c : tie.decreases-loop-c
+decreases-loop-c source m target n rows₀ l x c₀ rows c = m + 1 - c
 
-loop-holds : tie.Need-loop-init invariant-loop decreases-loop
-loop-holds c = let a = c.before.before.args in (omega arith, (λ f F e h. h), shrinks_none a.rows.now, begun)
+loop-c-init : tie.Need-loop-c-init invariant-loop-c decreases-loop-c
+loop-c-init c = let a = c.args in (omega arith, (λ f F e h. h), shrinks_none a.rows.now, begun)
 
-force-with-requires : tie.Need-force-with-requires invariant-loop decreases-loop
-force-with-requires c κs = let z = c.before.before.before.before.before in (z.requires.0, (z.requires.1.0, z.requires.1.1, (c.before.before.loop.invariant.0.0, c.before.loop-test.true)))
+force_with-requires : tie.Need-force_with-requires invariant-loop-c decreases-loop-c
+force_with-requires c κs = let z = c in (z.requires.0, (z.requires.1.0, z.requires.1.1, (c.loop-c.invariant.0.0, c.loop-c-test.true)))
 
-add-c : tie.Need-overflow-add-c invariant-loop decreases-loop
-add-c c = let o = c.before.before.before.before.before.before.requires.0.0.order in let t = c.before.before.loop-test.true in omega arith
+overflow_add-c : tie.Need-overflow_add-c invariant-loop-c decreases-loop-c
+overflow_add-c c = let o = c.requires.0.0.order in let t = c.loop-c-test.true in omega arith
 
-loop-less : tie.Need-loop-smaller invariant-loop decreases-loop
-loop-less c = let t = c.before.before.loop-test.true in omega arith
+loop-c-smaller : tie.Need-loop-c-smaller invariant-loop-c decreases-loop-c
+loop-c-smaller c = let t = c.loop-c-test.true in omega arith
 
-loop-again : tie.Need-loop-preserved invariant-loop decreases-loop
-loop-again c =
-    let a = c.before.before.before.before.before.before.args in
-    let l = c.before.before.before.loop in
-    let w = c.force-with in
-    let new = w.new.1.1.1.1 in
+loop-c-preserved : tie.Need-loop-c-preserved invariant-loop-c decreases-loop-c
+loop-c-preserved c =
+    let a = c.args in
+    let l = c.loop-c in
+    let w = c.force_with in
+    let new = w.new.rows in
     let i = l.invariant.0 in
-    let t = c.before.before.loop-test.true in
+    let t = c.loop-c-test.true in
     (omega arith, (λ f F e h. w.ensures.0 f F e (l.invariant.1 f F e h)), shrinks_more l.rows new.0 a.rows.now l.invariant.2 w.ensures.1.0, further l.c l.rows new.0 l.invariant.3 w.ensures.1.1)
 
-returns : tie.Need-returns invariant-loop decreases-loop
+returns : tie.Need-returns invariant-loop-c decreases-loop-c
 returns c =
-    let a = c.before.before.before.before.args in
-    let l = c.before.loop in
+    let a = c.args in
+    let l = c.loop-c in
     let i = l.invariant in
     let h = i.0 in
-    let t = c.loop-test.false in
+    let t = c.loop-c-test.false in
     let end : l.c ≡ a.m + 1 = omega arith in
     (i.1, (i.2, subst (λ (k : ℕ). ForcedBefore (product a.m a.source.now) a.n (product a.n a.target.now) a.l a.x a.rows.now k l.rows) end i.3))
 
 pub force_all_spec : {M : Type 1} → statement M
 force_all_spec =
     tie.close
-    (tie.spec invariant-loop decreases-loop loop-holds force-with-requires add-c loop-less loop-again returns)
+    (tie.spec invariant-loop-c decreases-loop-c loop-c-init force_with-requires overflow_add-c loop-c-smaller loop-c-preserved returns)

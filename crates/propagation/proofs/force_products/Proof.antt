@@ -14,53 +14,53 @@ use Rattle.propagation.proofs.Narrowed.{pair_kept, multiplied_more}
 use Rattle.propagation.proofs.force_products.Statement.{statement}
 use Rattle.propagation.proofs.force_products.Tie as tie
 
-abbrev invariant-loop : tie.invariant-loop
-invariant-loop source m target n image rows₀ len j₀ rows j =
+abbrev invariant-loop-j : tie.invariant-loop-j
+invariant-loop-j source m target n image rows₀ len j₀ rows j =
     (1 ≤ j) × (j ≤ len + 1) × Keeps m (product m source) n (product n target) image len (has rows₀) (has rows)
     × Multiplied (product m source) (product n target) image len (j - 1) rows × Shrinks rows₀ rows × MultipliedBefore (product m source) (product n target) image len rows₀ j rows
 
-abbrev decreases-loop : tie.decreases-loop
-decreases-loop source m target n image rows₀ len j₀ rows j = len + 1 - j
+abbrev decreases-loop-j : tie.decreases-loop-j
+decreases-loop-j source m target n image rows₀ len j₀ rows j = len + 1 - j
 
-loop-holds : tie.Need-loop-init invariant-loop decreases-loop
-loop-holds c = let a = c.before.before.args in (omega arith, omega arith, (λ f F b h. h), (λ i h. absurd (let z : ⊥ = omega arith in z)), shrinks_none a.rows.now, begun)
+loop-j-init : tie.Need-loop-j-init invariant-loop-j decreases-loop-j
+loop-j-init c = let a = c.args in (omega arith, omega arith, (λ f F b h. h), (λ i h. absurd (let z : ⊥ = omega arith in z)), shrinks_none a.rows.now, begun)
 
-force-pair-requires : tie.Need-force-pair-requires invariant-loop decreases-loop
-force-pair-requires c κs =
-    let z = c.before.before.before.before.before in
-    let l = c.before.before.loop in
+force_pair-requires : tie.Need-force_pair-requires invariant-loop-j decreases-loop-j
+force_pair-requires c κs =
+    let z = c in
+    let l = c.loop-j in
     let i = l.invariant.0 in
-    let t = c.before.loop-test.true in
+    let t = c.loop-j-test.true in
     let images = z.requires.1.0 in
     let m = z.requires.1.1 in
     (z.requires.0, (omega arith, m, images l.j (omega arith), images z.args.len (omega arith)))
 
-force-pair-requires-2 : tie.Need-force-pair-requires-2 invariant-loop decreases-loop
-force-pair-requires-2 c κs =
-    let z = c.before.before.before.before.before.before.before in
-    let l = c.before.before.before.before.loop in
+force_pair-requires-in-loop-j : tie.Need-force_pair-requires-in-loop-j invariant-loop-j decreases-loop-j
+force_pair-requires-in-loop-j c κs =
+    let z = c in
+    let l = c.loop-j in
     let i = l.invariant.0 in
-    let t = c.before.before.before.loop-test.true in
+    let t = c.loop-j-test.true in
     let images = z.requires.1.0 in
     let m = z.requires.1.1 in
     (z.requires.0, (m, omega arith, images z.args.len (omega arith), images l.j (omega arith)))
 
-add-j : tie.Need-overflow-add-j invariant-loop decreases-loop
-add-j c =
-    let z = c.before.before.before.before.before.before.before.before in
-    let t = c.before.before.before.before.loop-test.true in
+overflow_add-j : tie.Need-overflow_add-j invariant-loop-j decreases-loop-j
+overflow_add-j c =
+    let z = c in
+    let t = c.loop-j-test.true in
     let m = z.requires.1.1 in
     let o = z.requires.0.0.order in
     omega arith
 
-loop-less : tie.Need-loop-smaller invariant-loop decreases-loop
-loop-less c =
-    let t = c.before.before.before.before.loop-test.true in
+loop-j-smaller : tie.Need-loop-j-smaller invariant-loop-j decreases-loop-j
+loop-j-smaller c =
+    let t = c.loop-j-test.true in
     omega arith
 
-loop-again : tie.Need-loop-preserved invariant-loop decreases-loop
-loop-again c =
-    let z = c.before.before.before.before.before.before.before.before in
+loop-j-preserved : tie.Need-loop-j-preserved invariant-loop-j decreases-loop-j
+loop-j-preserved c =
+    let z = c in
     let a = z.args in
     let s = product a.m a.source.now in
     let r = product a.n a.target.now in
@@ -69,14 +69,14 @@ loop-again c =
     let so = source.order in
     let to = target.order in
     let closed : Closed a.m s = product_element a.m a.source.now source.size source.in_range in
-    let l = c.before.before.before.before.before.loop in
+    let l = c.loop-j in
     let i = l.invariant in
-    let t = c.before.before.before.before.loop-test.true in
+    let t = c.loop-j-test.true in
     let m = z.requires.1.1 in
-    let one = c.before.before.force-pair in
-    let two = c.force-pair2 in
-    let rows₁ = one.new.1.1.1.1.1.0 in
-    let rows₂ = two.new.1.1.1.1.1.0 in
+    let one = c.force_pair in
+    let two = c.force_pair-in-loop-j in
+    let rows₁ = one.new.rows in
+    let rows₂ = two.new.rows in
     let i0 = i.0 in
     let hj : Element a.len l.j = omega arith in
     let hl : Element a.len a.len = omega arith in
@@ -97,13 +97,13 @@ loop-again c =
       further l.j l.rows rows₁ rows₂ i.5 one.ensures two.ensures,
     )
 
-returns : tie.Need-returns invariant-loop decreases-loop
+returns : tie.Need-returns invariant-loop-j decreases-loop-j
 returns c =
-    let a = c.before.before.before.before.args in
-    let l = c.before.loop in
+    let a = c.args in
+    let l = c.loop-j in
     let i = l.invariant in
     let i1 = i.1 in
-    let t = c.loop-test.false in
+    let t = c.loop-j-test.false in
     let end : l.j ≡ a.len + 1 = omega arith in
     (i.2, ((λ k hk. i.3 k (omega arith)), (i.4, subst (λ (k : ℕ). MultipliedBefore (product a.m a.source.now) (product a.n a.target.now) a.image.now a.len a.rows.now k l.rows) end i.5)))
 
@@ -111,12 +111,12 @@ pub force_products_spec : {M : Type 1} → statement M
 force_products_spec =
     tie.close
     (tie.spec
-    invariant-loop
-    decreases-loop
-    loop-holds
-    force-pair-requires
-    force-pair-requires-2
-    add-j
-    loop-less
-    loop-again
+    invariant-loop-j
+    decreases-loop-j
+    loop-j-init
+    force_pair-requires
+    force_pair-requires-in-loop-j
+    overflow_add-j
+    loop-j-smaller
+    loop-j-preserved
     returns)

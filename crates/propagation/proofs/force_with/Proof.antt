@@ -15,64 +15,64 @@ use Rattle.propagation.proofs.force_with.Statement.{statement}
 use Rattle.propagation.proofs.force_with.Tie as tie
 
 -- What row c holds alone is what `lone` returns.
-module _ (k : tie.After-lone) where
+module _ (k : tie.After-lone-y) where
   abbrev start : tie.Start
-  start = k.before.before.before.before.before
+  start = k.before.before.before.before
 
-  alone_is : (y : ℕ) → Element start.args.n y → row_of start.args.rows.now start.args.c ≡ single_row y → k.lone.result ≡ y
-  alone_is y hy e = let o = start.requires.0.1.order in k.lone.ensures.found y (omega arith) (k.before.row_of_law.ensures ∙ e)
+  alone_is : (y : ℕ) → Element start.args.n y → row_of start.args.rows.now start.args.c ≡ single_row y → k.lone-y.result ≡ y
+  alone_is y hy e = let o = start.requires.0.1.order in k.lone-y.ensures.found y (omega arith) (k.row_of.ensures ∙ e)
 
-row-of-requires : tie.Need-row-of-requires
-row-of-requires c κs = search rules
+row_of-requires : tie.Need-row_of-requires
+row_of-requires c κs = search rules
 
-lone-requires : tie.Need-lone-requires
-lone-requires c κs = search rules
+lone-y-requires : tie.Need-lone-y-requires
+lone-y-requires c κs = search rules
 
-returns : tie.Need-returns
-returns c =
+returns-then-y-eq0 : tie.Need-returns-then-y-eq0
+returns-then-y-eq0 c =
     let k = c.before in
     let a = (start k).args in (
       (λ f F e h. h),
       (
         shrinks_none a.rows.now,
         record {
-          alone = λ y hy e. absurd (let q = alone_is k y hy e in let none = c.if1.true in let z : ⊥ = omega arith in z);
+          alone = λ y hy e. absurd (let q = alone_is k y hy e in let none = c.if-y-eq0.true in let z : ⊥ = omega arith in z);
           otherwise = λ _. refl;
         },
       ),
     )
 
-returns-2 : tie.Need-returns-2
-returns-2 c =
+returns-then-n-y : tie.Need-returns-then-n-y
+returns-then-n-y c =
     let k = c.before.before in
     let a = (start k).args in (
       (λ f F e h. h),
       (
         shrinks_none a.rows.now,
         record {
-          alone = λ y hy e. absurd (let q = alone_is k y hy e in let above = c.if2.true in let z : ⊥ = omega arith in z);
+          alone = λ y hy e. absurd (let q = alone_is k y hy e in let above = c.if-n-y.true in let z : ⊥ = omega arith in z);
           otherwise = λ _. refl;
         },
       ),
     )
 
-force-product-requires : tie.Need-force-product-requires
-force-product-requires c κs =
-    let z = c.before.before.before.before.before.before.before.before in
-    let some = c.before.before.if1.false in
-    let most = c.before.if2.false in
+force_product-requires : tie.Need-force_product-requires
+force_product-requires c κs =
+    let z = c in
+    let some = c.if-y-eq0.false in
+    let most = c.if-n-y.false in
     (z.requires.0, (z.requires.1.0, z.requires.1.1, z.requires.1.2, omega arith))
 
-force-product-requires-2 : tie.Need-force-product-requires-2
-force-product-requires-2 c κs =
-    let z = c.before.before.before.before.before.before.before.before.before.before in
-    let some = c.before.before.before.before.if1.false in
-    let most = c.before.before.before.if2.false in
+force_product-requires-2 : tie.Need-force_product-requires-2
+force_product-requires-2 c κs =
+    let z = c in
+    let some = c.if-y-eq0.false in
+    let most = c.if-n-y.false in
     (z.requires.0, (z.requires.1.2, omega arith, z.requires.1.0, z.requires.1.1))
 
-returns-3 : tie.Need-returns-3
-returns-3 c =
-    let z = c.before.before.before.before.before.before.before.before.before.before.before in
+returns : tie.Need-returns
+returns c =
+    let z = c in
     let a = z.args in
     let s = product a.m a.source.now in
     let t = product a.n a.target.now in
@@ -84,16 +84,16 @@ returns-3 c =
     let hl = z.requires.1.0 in
     let hx = z.requires.1.1 in
     let hc = z.requires.1.2 in
-    let found = c.before.before.before.before.before.before.lone in
+    let found = c.lone-y in
     let y = found.result in
-    let some = c.before.before.before.before.before.if1.false in
-    let most = c.before.before.before.before.if2.false in
+    let some = c.if-y-eq0.false in
+    let most = c.if-n-y.false in
     let hy : Element 120 y = omega arith in
-    let row : row_of a.rows.now a.c ≡ single_row y = sym c.before.before.before.before.before.before.before.row_of_law.ensures ∙ found.ensures.holds hy.0 in
-    let one = c.before.before.force-product in
-    let two = c.force-product2 in
-    let rows₁ = one.new.1.1.1.1.0 in
-    let rows₂ = two.new.1.1.1.1.0 in
+    let row : row_of a.rows.now a.c ≡ single_row y = sym c.row_of.ensures ∙ found.ensures.holds hy.0 in
+    let one = c.force_product in
+    let two = c.force_product-2 in
+    let rows₁ = one.new.rows in
+    let rows₂ = two.new.rows in
     let left = closed a.l a.c hl hc in
     let right = closed a.c a.l hc hl in
     let k = c.before.before.before.before.before.before in
@@ -116,10 +116,10 @@ pub force_with_spec : {M : Type 1} → statement M
 force_with_spec =
     tie.close
     (tie.spec
-    row-of-requires
-    lone-requires
-    returns
-    returns-2
-    force-product-requires
-    force-product-requires-2
-    returns-3)
+    row_of-requires
+    lone-y-requires
+    returns-then-y-eq0
+    returns-then-n-y
+    force_product-requires
+    force_product-requires-2
+    returns)

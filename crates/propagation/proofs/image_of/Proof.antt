@@ -4,11 +4,11 @@ use Rattle.semigroups.specs.Lists.{at}
 use Rattle.propagation.proofs.image_of.Statement.{statement}
 use Rattle.propagation.proofs.image_of.Tie as tie
 
-sub_wide : tie.Need-overflow-sub-wide
-sub_wide c = search rules
+overflow_sub-i : tie.Need-overflow_sub-i
+overflow_sub-i c = search rules
 
-element-copy-out-wide : tie.Need-element-copy-out-wide
-element-copy-out-wide c = search rules
+bounds-image-i : tie.Need-bounds-image-i
+bounds-image-i c = search rules
 
 wide-requires : tie.Need-wide-requires
 wide-requires c κs = search rules
@@ -18,4 +18,4 @@ unfolding at
 returns c = c.wide.ensures
 
 pub image_of_spec : {M : Type 1} → statement M
-image_of_spec = tie.close (tie.spec sub_wide element-copy-out-wide wide-requires returns)
+image_of_spec = tie.close (tie.spec overflow_sub-i bounds-image-i wide-requires returns)

@@ -9,18 +9,18 @@ use Rattle.propagation.proofs.keep_by.Tie as tie
 decides-requires : tie.Need-decides-requires
 decides-requires c κs = search rules
 
-returns : tie.Need-returns
-returns c =
+returns-then-decides : tie.Need-returns-then-decides
+returns-then-decides c =
     let k = c.before.before.before.before.before in
-    let z = k.before.before.before in
+    let z = k in
     let a = z.args in
-    kept_again a.n (product a.n a.target.now) a.x a.looks a.left a.right a.old a.last z.requires.1 (sym k.before.decides.ensures ∙ k.if1.true)
+    kept_again a.n (product a.n a.target.now) a.x a.looks a.left a.right a.old a.last z.requires.1 (sym k.decides.ensures ∙ k.if-decides.true)
 
-keep-staying-requires : tie.Need-keep-staying-requires
-keep-staying-requires c κs = search rules
+keep_staying-requires : tie.Need-keep_staying-requires
+keep_staying-requires c κs = search rules
 
-returns-2 : tie.Need-returns-2
-returns-2 c = search rules
+returns : tie.Need-returns
+returns c = search rules
 
 pub keep_by_spec : {M : Type 1} → statement M
-keep_by_spec = tie.close (tie.spec decides-requires returns keep-staying-requires returns-2)
+keep_by_spec = tie.close (tie.spec decides-requires returns-then-decides keep_staying-requires returns)

@@ -11,26 +11,26 @@ use Rattle.propagation.proofs.Narrowed.{narrowed_staying}
 use Rattle.propagation.proofs.narrow_row.Statement.{statement}
 use Rattle.propagation.proofs.narrow_row.Tie as tie
 
-times-requires : tie.Need-times-requires
-times-requires c κs = search rules
+times-lc-requires : tie.Need-times-lc-requires
+times-lc-requires c κs = search rules
 
-times-requires-2 : tie.Need-times-requires-2
-times-requires-2 c κs = search rules
+times-cl-requires : tie.Need-times-cl-requires
+times-cl-requires c κs = search rules
 
-pattern-requires : tie.Need-pattern-requires
-pattern-requires c κs = search rules
+pattern-looks-requires : tie.Need-pattern-looks-requires
+pattern-looks-requires c κs = search rules
 
-row-of-requires : tie.Need-row-of-requires
-row-of-requires c κs = search rules
+row_of-left-requires : tie.Need-row_of-left-requires
+row_of-left-requires c κs = search rules
 
-row-of-requires-2 : tie.Need-row-of-requires-2
-row-of-requires-2 c κs = search rules
+row_of-right-requires : tie.Need-row_of-right-requires
+row_of-right-requires c κs = search rules
 
-row-of-requires-3 : tie.Need-row-of-requires-3
-row-of-requires-3 c κs = search rules
+row_of-old-requires : tie.Need-row_of-old-requires
+row_of-old-requires c κs = search rules
 
-keep-by-requires : tie.Need-keep-by-requires
-keep-by-requires c κs = search rules
+keep_by-kept-requires : tie.Need-keep_by-kept-requires
+keep_by-kept-requires c κs = search rules
 
 -- A narrowing of these parts.
 narrowing_of : ℕ → Row → Row → Row → Row → Narrowing
@@ -50,15 +50,15 @@ returns : tie.Need-returns
 unfolding narrowing_of
 returns c =
     let p = c.before.before.before.before in
-    let z = p.before.before.before.before.before in
+    let z = p in
     let a = z.args in
     let rows = a.rows.now in
     let s = product a.m a.source.now in
     let t = product a.n a.target.now in
-    let lc = p.before.before.times.ensures.0 in
-    let cl = p.before.times2.ensures.0 in
-    parts a.n t a.x (p.pattern.ensures ∙ ap₂ (pattern a.l a.c) lc cl) (c.before.before.before.row_of_law.ensures ∙ ap (row_of rows) lc)
-    (c.before.before.row-of2.ensures ∙ ap (row_of rows) cl) c.before.row-of3.ensures c.keep-by.ensures
+    let lc = p.times-lc.ensures.0 in
+    let cl = p.times-cl.ensures.0 in
+    parts a.n t a.x (p.pattern-looks.ensures ∙ ap₂ (pattern a.l a.c) lc cl) (c.row_of-left.ensures ∙ ap (row_of rows) lc)
+    (c.row_of-right.ensures ∙ ap (row_of rows) cl) c.row_of-old.ensures c.keep_by-kept.ensures
     ∙ ap (narrowing_of (pattern a.l a.c (s a.l a.c) (s a.c a.l)) (row_of rows (s a.l a.c)) (row_of rows (s a.c a.l)) (row_of rows a.c))
     (narrowed_staying s a.n t rows a.l a.x a.c)
 
@@ -66,11 +66,11 @@ pub narrow_row_spec : {M : Type 1} → statement M
 narrow_row_spec =
     tie.close
     (tie.spec
-    times-requires
-    times-requires-2
-    pattern-requires
-    row-of-requires
-    row-of-requires-2
-    row-of-requires-3
-    keep-by-requires
+    times-lc-requires
+    times-cl-requires
+    pattern-looks-requires
+    row_of-left-requires
+    row_of-right-requires
+    row_of-old-requires
+    keep_by-kept-requires
     returns)

@@ -10,49 +10,49 @@ use Rattle.propagation.specs.InnerLone.{Lone}
 use Rattle.propagation.proofs.next_lone.Statement.{statement}
 use Rattle.propagation.proofs.next_lone.Tie as tie
 
-abbrev invariant-loop : tie.invariant-loop
-invariant-loop rows used m c₀ c = (1 ≤ c) × (c ≤ m + 1) × ((d : ℕ) → Element m d → d < c → at used d ≡ 0 → Lone rows d → ⊥)
+abbrev invariant-loop-c : tie.invariant-loop-c
+invariant-loop-c rows used m c₀ c = (1 ≤ c) × (c ≤ m + 1) × ((d : ℕ) → Element m d → d < c → at used d ≡ 0 → Lone rows d → ⊥)
 
-abbrev decreases-loop : tie.decreases-loop
-decreases-loop rows used m c₀ c = m + 1 - c
+abbrev decreases-loop-c : tie.decreases-loop-c
+decreases-loop-c rows used m c₀ c = m + 1 - c
 
-loop-holds : tie.Need-loop-init invariant-loop decreases-loop
-loop-holds c = (omega arith, omega arith, λ d hd h. absurd (let z : ⊥ = omega arith in z))
+loop-c-init : tie.Need-loop-c-init invariant-loop-c decreases-loop-c
+loop-c-init c = (omega arith, omega arith, λ d hd h. absurd (let z : ⊥ = omega arith in z))
 
-waits-requires : tie.Need-waits-requires invariant-loop decreases-loop
-waits-requires c κs = let m = c.before.before.requires in let i = c.before.loop.invariant.0 in let t = c.loop-test.true in omega arith
+waits-requires : tie.Need-waits-requires invariant-loop-c decreases-loop-c
+waits-requires c κs = let m = c.requires in let i = c.loop-c.invariant.0 in let t = c.loop-c-test.true in omega arith
 
-returns : tie.Need-returns invariant-loop decreases-loop
-returns c =
-    let l = c.before.before.before.loop in
-    let w = c.before.waits.ensures in
-    let t = c.if1.true in
+returns-then-waits : tie.Need-returns-then-waits invariant-loop-c decreases-loop-c
+returns-then-waits c =
+    let l = c.loop-c in
+    let w = c.waits.ensures in
+    let t = c.if-waits.true in
     record {
-      most = c.before.before.loop-test.true;
+      most = c.loop-c-test.true;
       waits = λ h. (w.unused t, w.lone t);
       before = λ d hd h z o. l.invariant.2 d hd (h l.invariant.0) z o;
     }
 
-add-c : tie.Need-overflow-add-c invariant-loop decreases-loop
-add-c c = let m = c.before.before.before.before.requires in let t = c.before.before.loop-test.true in omega arith
+overflow_add-c : tie.Need-overflow_add-c invariant-loop-c decreases-loop-c
+overflow_add-c c = let m = c.requires in let t = c.loop-c-test.true in omega arith
 
-loop-less : tie.Need-loop-smaller invariant-loop decreases-loop
-loop-less c = let t = c.before.before.loop-test.true in omega arith
+loop-c-smaller : tie.Need-loop-c-smaller invariant-loop-c decreases-loop-c
+loop-c-smaller c = let t = c.loop-c-test.true in omega arith
 
-loop-again : tie.Need-loop-preserved invariant-loop decreases-loop
-loop-again c = let t = c.before.before.loop-test.true in (omega arith, omega arith, λ d hd h. go d hd (eq-or-lt_of_le (let z : d ≤ c.before.before.before.loop.c = omega arith in z)))
+loop-c-preserved : tie.Need-loop-c-preserved invariant-loop-c decreases-loop-c
+loop-c-preserved c = let t = c.loop-c-test.true in (omega arith, omega arith, λ d hd h. go d hd (eq-or-lt_of_le (let z : d ≤ c.loop-c.c = omega arith in z)))
   where
-    go : (d : ℕ) → Element c.before.before.before.before.args.m d → (d ≡ c.before.before.before.loop.c) ⊎ (d < c.before.before.before.loop.c) → at c.before.before.before.before.args.used.now d ≡ 0
-        → Lone c.before.before.before.before.args.rows.now d → ⊥
-    go d hd (inr b) = c.before.before.before.loop.invariant.2 d hd b
+    go : (d : ℕ) → Element c.args.m d → (d ≡ c.loop-c.c) ⊎ (d < c.loop-c.c) → at c.args.used.now d ≡ 0
+        → Lone c.args.rows.now d → ⊥
+    go d hd (inr b) = c.loop-c.invariant.2 d hd b
     go d hd (inl e) =
-        let a = c.before.before.before.before.args in
-        λ z o. c.before.waits.ensures.none c.if1.false (subst (λ (k : ℕ). at a.used.now k ≡ 0) e z) (subst (Lone a.rows.now) e o)
+        let a = c.args in
+        λ z o. c.waits.ensures.none c.if-waits.false (subst (λ (k : ℕ). at a.used.now k ≡ 0) e z) (subst (Lone a.rows.now) e o)
 
-returns-2 : tie.Need-returns-2 invariant-loop decreases-loop
-returns-2 c =
-    let l = c.before.loop in
-    let t = c.loop-test.false in
+returns : tie.Need-returns invariant-loop-c decreases-loop-c
+returns c =
+    let l = c.loop-c in
+    let t = c.loop-c-test.false in
     record {
       most = omega arith;
       waits = λ h. absurd (let z : ⊥ = omega arith in z);
@@ -63,12 +63,12 @@ pub next_lone_spec : {M : Type 1} → statement M
 next_lone_spec =
     tie.close
     (tie.spec
-    invariant-loop
-    decreases-loop
-    loop-holds
+    invariant-loop-c
+    decreases-loop-c
+    loop-c-init
     waits-requires
-    returns
-    add-c
-    loop-less
-    loop-again
-    returns-2)
+    returns-then-waits
+    overflow_add-c
+    loop-c-smaller
+    loop-c-preserved
+    returns)

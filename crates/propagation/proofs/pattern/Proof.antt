@@ -12,8 +12,8 @@ digit-requires c κs = search rules
 digit-requires-2 : tie.Need-digit-requires-2
 digit-requires-2 c κs = search rules
 
-add-one : tie.Need-overflow-add-one
-add-one c = search rules
+overflow_add-one : tie.Need-overflow_add-one
+overflow_add-one c = search rules
 
 digit-requires-3 : tie.Need-digit-requires-3
 digit-requires-3 c κs = search rules
@@ -21,8 +21,8 @@ digit-requires-3 c κs = search rules
 digit-requires-4 : tie.Need-digit-requires-4
 digit-requires-4 c κs = search rules
 
-add-two : tie.Need-overflow-add-two
-add-two c = search rules
+overflow_add-two : tie.Need-overflow_add-two
+overflow_add-two c = search rules
 
 digit-requires-5 : tie.Need-digit-requires-5
 digit-requires-5 c κs = search rules
@@ -30,24 +30,24 @@ digit-requires-5 c κs = search rules
 digit-requires-6 : tie.Need-digit-requires-6
 digit-requires-6 c κs = search rules
 
-add-three : tie.Need-overflow-add-three
-add-three c = search rules
+overflow_add-three : tie.Need-overflow_add-three
+overflow_add-three c = search rules
 
-add-result : tie.Need-overflow-add-result
-add-result c = search rules
+overflow_add-result : tie.Need-overflow_add-result
+overflow_add-result c = search rules
 
-add-result-2 : tie.Need-overflow-add-result-2
-add-result-2 c = search rules
+overflow_add-result-2 : tie.Need-overflow_add-result-2
+overflow_add-result-2 c = search rules
 
 returns : tie.Need-returns
 unfolding pattern
 returns c =
-    let one = c.before.before.before.before.before.digit.ensures.0 in
-    let two = c.before.before.before.before.digit2.ensures.0 in
-    let three = c.before.before.before.digit3.ensures.0 in
-    let four = c.before.before.digit4.ensures.0 in
-    let five = c.before.digit5.ensures.0 in
-    let six = c.digit6.ensures.0 in
+    let one = c.digit.ensures.0 in
+    let two = c.digit-2.ensures.0 in
+    let three = c.digit-3.ensures.0 in
+    let four = c.digit-4.ensures.0 in
+    let five = c.digit-5.ensures.0 in
+    let six = c.digit-6.ensures.0 in
     ap₂ ◌+◌ (ap₂ ◌+◌ (ap₂ ◌+◌ one two) (ap₂ ◌+◌ three four)) (ap₂ ◌+◌ five six)
 
 pub pattern_spec : {M : Type 1} → statement M
@@ -56,13 +56,13 @@ pattern_spec =
     (tie.spec
     digit-requires
     digit-requires-2
-    add-one
+    overflow_add-one
     digit-requires-3
     digit-requires-4
-    add-two
+    overflow_add-two
     digit-requires-5
     digit-requires-6
-    add-three
-    add-result
-    add-result-2
+    overflow_add-three
+    overflow_add-result
+    overflow_add-result-2
     returns)

@@ -24,43 +24,43 @@ use Rattle.propagation.proofs.propagate_from.Statement.{statement}
 use Rattle.propagation.proofs.propagate_from.Tie as tie
 
 -- What row l holds alone.
-module _ (k : tie.After-lone) where
+module _ (k : tie.After-lone-x) where
   abbrev start : tie.Start
-  start = k.before.before.before.before.before
+  start = k.before.before.before.before
 
   -- Row l holds x alone.
   abbrev Holds : ℕ → Type 0
   Holds x = row_of start.args.rows.now start.args.l ≡ single_row x
 
-  found : (x : ℕ) → Element start.args.n x → Holds x → k.lone.result ≡ x
-  found x hx e = let o = start.requires.0.1.order in k.lone.ensures.found x (omega arith) (k.before.row_of_law.ensures ∙ e)
+  found : (x : ℕ) → Element start.args.n x → Holds x → k.lone-x.result ≡ x
+  found x hx e = let o = start.requires.0.1.order in k.lone-x.ensures.found x (omega arith) (k.row_of.ensures ∙ e)
 
-row-of-requires : tie.Need-row-of-requires
-row-of-requires c κs = search rules
+row_of-requires : tie.Need-row_of-requires
+row_of-requires c κs = search rules
 
-lone-requires : tie.Need-lone-requires
-lone-requires c κs = search rules
+lone-x-requires : tie.Need-lone-x-requires
+lone-x-requires c κs = search rules
 
-returns : tie.Need-returns
-returns c =
+returns-then-x-eq0 : tie.Need-returns-then-x-eq0
+returns-then-x-eq0 c =
     let k = c.before in
     let a = (start k).args in
-    let none : (x : ℕ) → Element a.n x → Holds k x → ⊥ = λ x hx e. let q = found k x hx e in let zero = c.if1.true in omega arith in
+    let none : (x : ℕ) → Element a.n x → Holds k x → ⊥ = λ x hx e. let q = found k x hx e in let zero = c.if-x-eq0.true in omega arith in
     ((λ f F h. (refl, h)), (shrinks_none a.rows.now, ((λ _ x hx e. absurd (none x hx e)), record { alone = λ x hx e. absurd (none x hx e); otherwise = λ _. (refl, refl) })))
 
-returns-2 : tie.Need-returns-2
-returns-2 c =
+returns-then-n-x : tie.Need-returns-then-n-x
+returns-then-n-x c =
     let k = c.before.before in
     let a = (start k).args in
-    let none : (x : ℕ) → Element a.n x → Holds k x → ⊥ = λ x hx e. let q = found k x hx e in let above = c.if2.true in omega arith in
+    let none : (x : ℕ) → Element a.n x → Holds k x → ⊥ = λ x hx e. let q = found k x hx e in let above = c.if-n-x.true in omega arith in
     ((λ f F h. (refl, h)), (shrinks_none a.rows.now, ((λ _ x hx e. absurd (none x hx e)), record { alone = λ x hx e. absurd (none x hx e); otherwise = λ _. (refl, refl) })))
 
-force-all-requires : tie.Need-force-all-requires
-force-all-requires c κs = search rules
+force_all-requires : tie.Need-force_all-requires
+force_all-requires c κs = search rules
 
 -- What is known once the products are forced.
-module _ (k : tie.After-force-all) where
-  abbrev known : tie.After-lone
+module _ (k : tie.After-force_all) where
+  abbrev known : tie.After-lone-x
   known = k.before.before.before.before
 
   abbrev begin : tie.Start
@@ -76,17 +76,17 @@ module _ (k : tie.After-force-all) where
   rows = begin.args.rows.now
 
   abbrev forced : List ℕ
-  forced = k.force-all.last.1.1.1.1.0
+  forced = k.force_all.new.rows
 
   -- The element that row l holds alone.
   abbrev image : ℕ
-  image = known.lone.result
+  image = known.lone-x.result
 
   image_element : Element begin.args.n image
-  image_element = let some = k.before.before.before.if1.left in let most = k.before.before.if2.left in omega arith
+  image_element = let some = k.if-x-eq0.false in let most = k.if-n-x.false in omega arith
 
   row : Holds known image
-  row = sym known.before.row_of_law.ensures ∙ known.lone.ensures.holds image_element.0
+  row = sym known.row_of.ensures ∙ known.lone-x.ensures.holds image_element.0
 
   -- An embedding among the rows sends l to that element and is among the rows forced.
   kept : let a = begin.args in (f : List ℕ) → Embedding a.m s a.n t f → Among a.m (has rows) f → (at f a.l ≡ image) × Among a.m (has forced) f
@@ -96,7 +96,7 @@ module _ (k : tie.After-force-all) where
       let to = begin.requires.0.1.order in
       let hx = image_element in
       let e = lone_image a.m s a.n t f F so.1 to.1 rows h a.l image begin.requires.1 (omega arith) row in
-      (e, k.force-all.ensures.0 f F e h)
+      (e, k.force_all.ensures.0 f F e h)
 
   told : let a = begin.args in (ok : Bool) (newRows : List ℕ) → NarrowedWithRoom a.m s a.n t a.l image forced ok newRows → KeptOrEmptiedFrom a.m s a.n t a.l rows ok newRows
   told ok newRows N =
@@ -104,26 +104,26 @@ module _ (k : tie.After-force-all) where
       record {
         alone = λ v hv e.
             subst (λ (i : ℕ). (mid : List ℕ) × ForcedBefore s a.n t a.l i rows (a.m + 1) mid × NarrowedWithRoom a.m s a.n t a.l i mid ok newRows) (found known v hv e)
-            (forced, k.force-all.ensures.1.1, N);
+            (forced, k.force_all.ensures.1.1, N);
         otherwise = λ none. absurd (none image image_element row);
       }
 
-small-have-room-requires : tie.Need-small-have-room-requires
-small-have-room-requires c κs = search rules
+small_have_room-requires : tie.Need-small_have_room-requires
+small_have_room-requires c κs = search rules
 
-returns-3 : tie.Need-returns-3
-returns-3 c =
+returns-then-not-small_have_room : tie.Need-returns-then-not-small_have_room
+returns-then-not-small_have_room c =
     let k = c.before.before.before in
-    let a = (begin k).args in
-    let w = c.before.small-have-room in
-    let crowded : small_roomy (forced k) a.m ≡ false = sym w.ensures ∙ not-true w.result c.if3.true in (
+    let a = (begin c.before.before).args in
+    let w = c.small_have_room in
+    let crowded : small_roomy (forced c.before.before) a.m ≡ false = sym w.ensures ∙ c.if-not-small_have_room.true in (
       (λ f F h.
-          absurd (clash {b = roomy (forced k) a.m} (roomy_kept (forced k) a.m (s k) a.n (t k) f (begin k).requires.0.1.order.1 F (kept k f F h).1) (small_fails (forced k) a.m crowded))),
+          absurd (clash {b = roomy (forced c.before.before) a.m} (roomy_kept (forced c.before.before) a.m (s c.before.before) a.n (t c.before.before) f (begin k).requires.0.1.order.1 F (kept k f F h).1) (small_fails (forced k) a.m crowded))),
       (
-        k.force-all.ensures.1.0,
+        c.force_all.ensures.1.0,
         (
           (λ e. absurd (false≢true e)),
-          told k false (forced k) (record { in_turn_law = λ room. absurd (clash {b = small_roomy (forced k) a.m} room crowded); crowded = λ _. (refl, refl) }),
+          told c.before.before false (forced c.before.before) (record { in_turn_law = λ room. absurd (clash {b = small_roomy (forced c.before.before) a.m} room crowded); crowded = λ _. (refl, refl) }),
         ),
       ),
     )
@@ -131,27 +131,27 @@ returns-3 c =
 narrow-requires : tie.Need-narrow-requires
 narrow-requires c κs =
     let k = c.before.before.before.before in
-    ((begin k).requires.0, ((begin k).requires.1, image_element k))
+    ((begin c.before.before.before).requires.0, ((begin c.before.before.before).requires.1, image_element c.before.before.before))
 
-returns-4 : tie.Need-returns-4
-returns-4 c =
+returns : tie.Need-returns
+returns c =
     let k = c.before.before.before.before.before in
-    let a = (begin k).args in
-    let source = (begin k).requires.0.0 in
-    let closed : Closed a.m (s k) = product_element a.m a.source.now source.size source.in_range in
-    let less = k.force-all.ensures.1.0 in
-    let r = c.before.before.before.small-have-room in
-    let room : small_roomy (forced k) a.m ≡ true = sym r.ensures ∙ not-false r.result c.before.before.if3.false in
+    let a = (begin c.before.before.before.before).args in
+    let source = (begin c.before.before.before.before).requires.0.0 in
+    let closed : Closed a.m (s c.before.before.before.before) = product_element a.m a.source.now source.size source.in_range in
+    let less = c.force_all.ensures.1.0 in
+    let r = c.small_have_room in
+    let room : small_roomy (forced c.before.before.before.before) a.m ≡ true = sym r.ensures ∙ c.if-not-small_have_room.false in
     let w = c.narrow in
-    let new = w.new.1.1.1.1 in (
-      (λ f F h. let e = kept k f F h in w.ensures.0 f F e.0 e.1),
+    let new = w.new.rows in (
+      (λ f F h. let e = kept c.before.before.before.before f F h in w.ensures.0 f F e.0 e.1),
       (
-        shrinks_more (forced k) new.0 (rows k) less w.ensures.1.0,
+        shrinks_more (forced c.before.before.before.before) new.0 (rows k) less w.ensures.1.0,
         (
           (λ ok v hv e.
-              subst (λ (i : ℕ). Narrows a.m (s k) a.n (t k) a.l i (has (rows k)) (has new.0)) (found (known k) v hv e)
+              subst (λ (i : ℕ). Narrows a.m (s c.before.before.before.before) a.n (t c.before.before.before.before) a.l i (has (rows k)) (has new.0)) (found (known k) v hv e)
               (narrows_wider a.m (s k) a.n (t k) closed source.order.1 (rows k) (forced k) less a.l (image k) (begin k).requires.1 (has new.0) (w.ensures.1.1.0 ok))),
-          told k w.result new.0 (record { in_turn_law = λ _. (w.ensures.1.1.1.1, w.ensures.1.1.1.0); crowded = λ e. absurd (clash {b = small_roomy (forced k) a.m} room e) }),
+          told c.before.before.before.before w.result new.0 (record { in_turn_law = λ _. (w.ensures.1.1.1.1, w.ensures.1.1.1.0); crowded = λ e. absurd (clash {b = small_roomy (forced k) a.m} room e) }),
         ),
       ),
     )
@@ -160,12 +160,12 @@ pub propagate_from_spec : {M : Type 1} → statement M
 propagate_from_spec =
     tie.close
     (tie.spec
-    row-of-requires
-    lone-requires
-    returns
-    returns-2
-    force-all-requires
-    small-have-room-requires
-    returns-3
+    row_of-requires
+    lone-x-requires
+    returns-then-x-eq0
+    returns-then-n-x
+    force_all-requires
+    small_have_room-requires
+    returns-then-not-small_have_room
     narrow-requires
-    returns-4)
+    returns)
