@@ -1,7 +1,6 @@
 -- `narrow_word` meets its contract. The invariant: the word holds the bits kept before place k, and `rest` the old ones from there on. Assumes nothing.
 use mathlib.Core.Path.{◌≡◌, refl, sym, ◌∙◌}
 use mathlib.Core.Bool.{Bool, true}
-use mathlib.Core.Logic.{⊎_elim}
 use Prim.Native.Nat.{ℕ, ◌+◌, ◌-◌, ◌*◌, ◌/◌, ◌%◌, ◌^◌, ◌≤◌, ◌<◌}
 use native.Mathlib.Nat.{div-one}
 use native.Mathlib.Omega.{arith}
@@ -13,6 +12,7 @@ use Rattle.rows.proofs.Words.{kept, jump, done, hit, following, word_more, word_
 use Rattle.propagation.specs.InnerRows.{stays}
 use Rattle.propagation.proofs.narrow_word.Statement.{statement}
 use Rattle.propagation.proofs.narrow_word.Tie as tie
+use Rattle.propagation.proofs.narrow_word.Lts.{then-stays, else-stays}
 
 abbrev invariant-loop-rest : tie.invariant-loop-rest
 invariant-loop-rest target n x looks left right old from count w₀ rest₀ k₀ w rest k = (k ≤ count) × (rest ≡ old / 2 ^ k) × (w ≡ word (kept old from (stays (product n target) x looks left right)) from k)
@@ -115,7 +115,7 @@ loop-rest-preserved c =
     let b = e.if-count-k.false in (
       omega arith,
       following a.old a.from (test (turn e)) l.k l.rest l.invariant.1 (count_trailing_zeros 64 l.rest),
-      ⊎_elim (λ h. h.1 ∙ more e h.0.true) (λ h. h.1 ∙ word_as_was (kept a.old a.from (test (turn e))) a.from (place (turn e)) l.w (so_far (turn e)) (passes e ∙ h.0.left)) c.if-stays.branch,
+      elim c.if-stays.branch [ then-stays w ↦ w.w-is ∙ more e w.if-stays.true | else-stays w ↦ w.w-is ∙ word_as_was (kept a.old a.from (test (turn e))) a.from (place (turn e)) l.w (so_far (turn e)) (passes e ∙ w.if-stays.false) ],
     )
 
 returns : tie.Need-returns invariant-loop-rest decreases-loop-rest
