@@ -35,7 +35,7 @@ loop-c-preserved c =
     let new = w.new.rows in
     let i = l.invariant.0 in
     let t = c.loop-c-test.true in
-    (omega arith, (λ f F e h. w.ensures.0 f F e (l.invariant.1 f F e h)), shrinks_more l.rows new.0 a.rows.now l.invariant.2 w.ensures.1.0, further l.c l.rows new.0 l.invariant.3 w.ensures.1.1)
+    (omega arith, (λ f F e h. w.ensures.0 f F e (l.invariant.1 f F e h)), shrinks_more l.rows new a.rows.now l.invariant.2 w.ensures.1.0, further l.c l.rows new l.invariant.3 w.ensures.1.1)
 
 returns : tie.Need-returns invariant-loop-c decreases-loop-c
 returns c =

@@ -3,7 +3,6 @@
 use mathlib.Core.Path.{refl, subst}
 use mathlib.Core.Bool.{Bool, false≢true}
 use native.Mathlib.Omega.{arith}
-use borrow.Author.Tests.{not-true, not-false}
 use Rattle.semigroups.specs.Tables.{product}
 use Rattle.semigroups.specs.TablesLaws.{Closed}
 use Rattle.semigroups.proofs.Booleans.{clash}
@@ -71,11 +70,11 @@ returns-then-not-propagate_from c =
     let new = w.new.rows in (
       (λ f F h. absurd (clash {b = w.result} (w.ensures.0 f F (l.invariant.keeps f F h)).0 (c.if-not-propagate_from.true))),
       (
-        shrinks_more l.rows new.0 a.rows.now l.invariant.shrinks w.ensures.1.0,
+        shrinks_more l.rows new a.rows.now l.invariant.shrinks w.ensures.1.0,
         (
           (λ e. absurd (false≢true e)),
           told_no a.m s a.n t' (closed z) z.requires.0.order.1 a.rows.now l.rows l.used l.l l.invariant t.loop-l-test.true
-              new.0 w.ensures.1.0 (subst (λ (ok : Bool). KeptOrEmptiedFrom a.m s a.n t' l.l l.rows ok new.0) (not-true w.result c.if-not-propagate_from.true) w.ensures.1.1.1),
+              new w.ensures.1.0 (subst (λ (ok : Bool). KeptOrEmptiedFrom a.m s a.n t' l.l l.rows ok new) c.if-not-propagate_from.true w.ensures.1.1.1),
         ),
       ),
     )
@@ -101,8 +100,8 @@ loop-l-preserved c =
     let new = w.new.rows in
     let ok = c.if-not-propagate_from.false in
     propagating_more a.m (product a.m a.source.now) a.n (product a.n a.target.now) (closed z) z.requires.0.order.1 a.rows.now l.rows l.used l.l l.invariant c.loop-l-test.true
-    new.0 c.next_lone-l-in-loop-l.result (λ f F h. (refl, (w.ensures.0 f F h).1)) w.ensures.1.0 (w.ensures.1.1.0 ok)
-    (subst (λ (b : Bool). KeptOrEmptiedFrom a.m (product a.m a.source.now) a.n (product a.n a.target.now) l.l l.rows b new.0) ok w.ensures.1.1.1) c.next_lone-l-in-loop-l.ensures
+    new c.next_lone-l-in-loop-l.result (λ f F h. (refl, (w.ensures.0 f F h).1)) w.ensures.1.0 (w.ensures.1.1.0 ok)
+    (subst (λ (b : Bool). KeptOrEmptiedFrom a.m (product a.m a.source.now) a.n (product a.n a.target.now) l.l l.rows b new) ok w.ensures.1.1.1) c.next_lone-l-in-loop-l.ensures
 
 returns : tie.Need-returns invariant-loop-l decreases-loop-l
 returns c =

@@ -5,7 +5,6 @@ use mathlib.Core.List.{List}
 use Prim.Native.Nat.{ℕ, ◌+◌}
 use native.Mathlib.Omega.{arith}
 use borrow.Author.Rules.{rules}
-use borrow.Author.Tests.{not-true, not-false}
 use Rattle.semigroups.specs.Lists.{at}
 use Rattle.semigroups.specs.Tables.{Product, product, Element}
 use Rattle.semigroups.specs.TablesLaws.{Closed}
@@ -113,45 +112,45 @@ small_have_room-requires c κs = search rules
 
 returns-then-not-small_have_room : tie.Need-returns-then-not-small_have_room
 returns-then-not-small_have_room c =
-    let k = c.before.before.before in
-    let a = (begin c.before.before).args in
+    let k = c.before.before in
+    let a = (begin k).args in
     let w = c.small_have_room in
-    let crowded : small_roomy (forced c.before.before) a.m ≡ false = sym w.ensures ∙ c.if-not-small_have_room.true in (
+    let crowded : small_roomy (forced k) a.m ≡ false = sym w.ensures ∙ c.if-not-small_have_room.true in (
       (λ f F h.
-          absurd (clash {b = roomy (forced c.before.before) a.m} (roomy_kept (forced c.before.before) a.m (s c.before.before) a.n (t c.before.before) f (begin k).requires.0.1.order.1 F (kept k f F h).1) (small_fails (forced k) a.m crowded))),
+          absurd (clash {b = roomy (forced k) a.m} (roomy_kept (forced k) a.m (s k) a.n (t k) f (begin k).requires.0.1.order.1 F (kept k f F h).1) (small_fails (forced k) a.m crowded))),
       (
         c.force_all.ensures.1.0,
         (
           (λ e. absurd (false≢true e)),
-          told c.before.before false (forced c.before.before) (record { in_turn_law = λ room. absurd (clash {b = small_roomy (forced c.before.before) a.m} room crowded); crowded = λ _. (refl, refl) }),
+          told k false (forced k) (record { in_turn_law = λ room. absurd (clash {b = small_roomy (forced k) a.m} room crowded); crowded = λ _. (refl, refl) }),
         ),
       ),
     )
 
 narrow-requires : tie.Need-narrow-requires
 narrow-requires c κs =
-    let k = c.before.before.before.before in
-    ((begin c.before.before.before).requires.0, ((begin c.before.before.before).requires.1, image_element c.before.before.before))
+    let k = c.before.before.before in
+    ((begin k).requires.0, ((begin k).requires.1, image_element k))
 
 returns : tie.Need-returns
 returns c =
-    let k = c.before.before.before.before.before in
-    let a = (begin c.before.before.before.before).args in
-    let source = (begin c.before.before.before.before).requires.0.0 in
-    let closed : Closed a.m (s c.before.before.before.before) = product_element a.m a.source.now source.size source.in_range in
+    let k = c.before.before.before.before in
+    let a = (begin k).args in
+    let source = (begin k).requires.0.0 in
+    let closed : Closed a.m (s k) = product_element a.m a.source.now source.size source.in_range in
     let less = c.force_all.ensures.1.0 in
     let r = c.small_have_room in
-    let room : small_roomy (forced c.before.before.before.before) a.m ≡ true = sym r.ensures ∙ c.if-not-small_have_room.false in
+    let room : small_roomy (forced k) a.m ≡ true = sym r.ensures ∙ c.if-not-small_have_room.false in
     let w = c.narrow in
     let new = w.new.rows in (
-      (λ f F h. let e = kept c.before.before.before.before f F h in w.ensures.0 f F e.0 e.1),
+      (λ f F h. let e = kept k f F h in w.ensures.0 f F e.0 e.1),
       (
-        shrinks_more (forced c.before.before.before.before) new.0 (rows k) less w.ensures.1.0,
+        shrinks_more (forced k) new (rows k) less w.ensures.1.0,
         (
           (λ ok v hv e.
-              subst (λ (i : ℕ). Narrows a.m (s c.before.before.before.before) a.n (t c.before.before.before.before) a.l i (has (rows k)) (has new.0)) (found (known k) v hv e)
-              (narrows_wider a.m (s k) a.n (t k) closed source.order.1 (rows k) (forced k) less a.l (image k) (begin k).requires.1 (has new.0) (w.ensures.1.1.0 ok))),
-          told c.before.before.before.before w.result new.0 (record { in_turn_law = λ _. (w.ensures.1.1.1.1, w.ensures.1.1.1.0); crowded = λ e. absurd (clash {b = small_roomy (forced k) a.m} room e) }),
+              subst (λ (i : ℕ). Narrows a.m (s k) a.n (t k) a.l i (has (rows k)) (has new)) (found (known k) v hv e)
+              (narrows_wider a.m (s k) a.n (t k) closed source.order.1 (rows k) (forced k) less a.l (image k) (begin k).requires.1 (has new) (w.ensures.1.1.0 ok))),
+          told k w.result new (record { in_turn_law = λ _. (w.ensures.1.1.1.1, w.ensures.1.1.1.0); crowded = λ e. absurd (clash {b = small_roomy (forced k) a.m} room e) }),
         ),
       ),
     )
