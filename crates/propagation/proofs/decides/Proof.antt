@@ -1,7 +1,7 @@
 -- `decides` meets its contract. Assumes nothing.
 use mathlib.Core.Path.{sym, ◌∙◌}
 use borrow.Author.Rules.{rules}
-use borrow.Author.Tests.{eq-eqb, ne_eqb, not-true, not-false}
+use borrow.Author.Tests.{eq-eqb, ne_eqb}
 use Rattle.propagation.specs.InnerRows.{decides}
 use Rattle.propagation.proofs.decides.Statement.{statement}
 use Rattle.propagation.proofs.decides.Tie as tie

@@ -1,7 +1,6 @@
 -- `stays` meets its contract: one law for each way out. Assumes nothing.
 use mathlib.Core.Path.{sym, ap, ap₂, ◌∙◌}
 use Prim.Native.Nat.{ℕ}
-use borrow.Author.Tests.{not-true, not-false}
 use borrow.Author.Rules.{rules}
 use lib.Dec.{eqb}
 use Rattle.semigroups.specs.Tables.{product}
