@@ -28,16 +28,14 @@ all: library $(PROGRAMS)
 
 library: target/lib/libtickdrizzle.a target/lib/$(SHARED)
 
-# By its stamp rt takes a program for built that was moved away.
 target/bin/%:
-	rm -f target/stamp/$*
-	rt check $*
+	hosts/built $*
 
 $(DESK):
 	hosts/desk/build
 
 $(ARCHIVE):
-	rt staticlib exports
+	hosts/built exports
 
 target/lib/libtickdrizzle.a: $(ARCHIVE)
 	mkdir -p target/lib

@@ -27,7 +27,7 @@ fn link_built(root: &Path) {
     if !archive.exists() {
         make_archive(root);
     } else if newest(&root.join("crates")) > changed(&archive) {
-        println!("cargo:warning=crates are newer than target/staticlib/libexports.a: run `rt staticlib exports`");
+        println!("cargo:warning=crates are newer than target/staticlib/libexports.a: run `hosts/built exports`");
     }
     println!("cargo:rerun-if-changed={}", archive.display());
     println!("cargo:rerun-if-changed={}", root.join("crates").display());
@@ -74,7 +74,7 @@ fn changed(path: &Path) -> Option<SystemTime> {
 
 /// Proves the library and writes its archive, which takes some minutes.
 fn make_archive(root: &Path) {
-    let done = Command::new("rt").args(["staticlib", "exports"]).current_dir(root).status();
+    let done = Command::new(root.join("hosts/built")).arg("exports").status();
     let made = done.is_ok_and(|status| status.success());
-    assert!(made, "target/staticlib/libexports.a is missing: run `rt staticlib exports` in the root of the repository");
+    assert!(made, "target/staticlib/libexports.a is missing: run `hosts/built exports` in the root of the repository");
 }

@@ -29,7 +29,7 @@
 //!
 //! # Linking
 //!
-//! In the repository the package links the archive that `rt staticlib exports` makes. Anywhere else it links the installed
+//! In the repository the package links the archive that `hosts/built exports` makes. Anywhere else it links the installed
 //! library that `pkg-config` finds, and needs no toolchain but Rust's.
 
 #![warn(missing_docs, clippy::missing_errors_doc)]
