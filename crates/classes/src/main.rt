@@ -10,8 +10,7 @@ ghost use Rattle.rfc4180.specs.Questions.{longest_text};
 
 use progress::{Classifier, file_name};
 use reading::{Reading, descriptor, read_file};
-use std::fs;
-use std::str;
+use std::{fs, str};
 use tables::limits::{CELLS, FILE};
 
 // The descriptor of standard output.

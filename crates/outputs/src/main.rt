@@ -11,6 +11,7 @@ use tables::limits::OUTPUT;
 
 // The descriptors of standard input and output.
 const STDIN: i32 = 0;
+
 const STDOUT: i32 = 1;
 
 // Prints the output for two files with these bytes. Returns its length.

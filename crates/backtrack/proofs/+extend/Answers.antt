@@ -87,7 +87,7 @@ loop-x-init t c =
       omega arith,
       omega arith,
       elim c.if-tight.branch [
-        then-tight w ↦ w.low-is ∙ rw w.if-tight.true
+        | then-tight w ↦ w.low-is ∙ rw w.if-tight.true
         | else-tight w ↦ w.low-is ∙ rw w.if-tight.false
       ],
       ap (within a.limit) (begins (product a.m a.source.now) a.m (product a.n a.target.now) a.n a.scratch.now a.after.now a.tight a.known.now a.held.now a.p c.requires.ready c.if-m-at.false),
@@ -160,19 +160,19 @@ loop-x-preserved t c =
       omega arith,
       c.loop-x.invariant.2,
       elim c.if-open.branch [
-        then-open+else-not-paid+then-may_pass+then-q+else-r+else-r-2 w ↦
-          let y = w.pay-paid in
-          let e = w.tried-q.ensures in
-          let q = w.tried-q.result in
-          let i = w.extend-r.ensures.answer in
-          fail T w.if-open.true y.result.left (paid y.result.enough y.result.left _ y.ensures.answer w.if-not-paid.false) q.partial q.ok (told e.answer e.placing e.more) w.if-q.true (ap (λ (r : Outcome). r.stopped) (sym i) ∙ w.if-r.false) (ap (λ (r : Outcome). r.ok) (sym i) ∙ w.if-r-2.false)
-          ∙ rw (w.left-is, ap (λ (r : Outcome). r.left) i)
+        | then-open+else-not-paid+then-may_pass+then-q+else-r+else-r-2 w ↦
+            let y = w.pay-paid in
+            let e = w.tried-q.ensures in
+            let q = w.tried-q.result in
+            let i = w.extend-r.ensures.answer in
+            fail T w.if-open.true y.result.left (paid y.result.enough y.result.left _ y.ensures.answer w.if-not-paid.false) q.partial q.ok (told e.answer e.placing e.more) w.if-q.true (ap (λ (r : Outcome). r.stopped) (sym i) ∙ w.if-r.false) (ap (λ (r : Outcome). r.ok) (sym i) ∙ w.if-r-2.false)
+            ∙ rw (w.left-is, ap (λ (r : Outcome). r.left) i)
         | then-open+else-not-paid+then-may_pass+else-q w ↦
-          let y = w.pay-paid in
-          refuse T w.if-open.true y.result.left (paid y.result.enough y.result.left _ y.ensures.answer w.if-not-paid.false) (sym w.tried-q.ensures.answer ∙ w.if-q.false) ∙ rw w.left-is
+            let y = w.pay-paid in
+            refuse T w.if-open.true y.result.left (paid y.result.enough y.result.left _ y.ensures.answer w.if-not-paid.false) (sym w.tried-q.ensures.answer ∙ w.if-q.false) ∙ rw w.left-is
         | then-open+else-not-paid+else-may_pass w ↦
-          let y = w.pay-paid in
-          refuse T w.if-open.true y.result.left (paid y.result.enough y.result.left _ y.ensures.answer w.if-not-paid.false) (w.may_pass.ensures.refused w.if-may_pass.false) ∙ rw w.left-is
+            let y = w.pay-paid in
+            refuse T w.if-open.true y.result.left (paid y.result.enough y.result.left _ y.ensures.answer w.if-not-paid.false) (w.may_pass.ensures.refused w.if-may_pass.false) ∙ rw w.left-is
         | else-open w ↦ skip T w.if-open.false ∙ rw w.left-is
       ],
     )

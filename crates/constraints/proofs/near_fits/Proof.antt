@@ -21,8 +21,8 @@ module _ (k : tie.Joined-len-eq0) where
   is_newest : (max 1 z.args.len ≡ newest) × Element (z.args.len + 1) newest
   is_newest =
       elim k.if-len-eq0.branch [
-        then-len-eq0 w ↦ (ap (max 1) w.if-len-eq0.true ∙ sym w.newest-is, omega (arith, w.if-len-eq0.true, w.newest-is))
-      | else-len-eq0 w ↦ (max-eq_right (omega (arith, w.if-len-eq0.false)) ∙ sym w.newest-is, omega (arith, w.if-len-eq0.false, w.newest-is))
+        | then-len-eq0 w ↦ (ap (max 1) w.if-len-eq0.true ∙ sym w.newest-is, omega (arith, w.if-len-eq0.true, w.newest-is))
+        | else-len-eq0 w ↦ (max-eq_right (omega (arith, w.if-len-eq0.false)) ∙ sym w.newest-is, omega (arith, w.if-len-eq0.false, w.newest-is))
       ]
 
 overflow_add-len : tie.Need-overflow_add-len

@@ -70,8 +70,8 @@ loop-b-preserved c =
     let row = first.times-product.ensures.0 in
     let column = second.times-turned.ensures.0 in
     elim c.if-product-turned.branch [
-      then-product-turned w ↦ omega (arith, w.found-is, count_element_hit (test t) l.b e.0 (eq-eqb _ _ (sym row ∙ w.if-product-turned.true ∙ column)))
-    | else-product-turned w ↦ omega (arith, w.found-is, count_element_miss (test t) l.b e.0 (ne_eqb _ _ (λ q. w.if-product-turned.false (row ∙ q ∙ sym column))))
+      | then-product-turned w ↦ omega (arith, w.found-is, count_element_hit (test t) l.b e.0 (eq-eqb _ _ (sym row ∙ w.if-product-turned.true ∙ column)))
+      | else-product-turned w ↦ omega (arith, w.found-is, count_element_miss (test t) l.b e.0 (ne_eqb _ _ (λ q. w.if-product-turned.false (row ∙ q ∙ sym column))))
     ]
 
 returns : tie.Need-returns invariant-loop-b decreases-loop-b

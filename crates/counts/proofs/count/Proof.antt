@@ -41,8 +41,8 @@ loop-i-preserved c =
     let l = t.loop-i in
     let a = t.args in
     elim c.if-cells-i.branch [
-      then-cells-i w ↦ omega (arith, occurs a.a a.step a.cells.now l.i w.if-cells-i.true)
-    | else-cells-i w ↦ omega (arith, occurs_not a.a a.step a.cells.now l.i w.if-cells-i.false)
+      | then-cells-i w ↦ omega (arith, occurs a.a a.step a.cells.now l.i w.if-cells-i.true)
+      | else-cells-i w ↦ omega (arith, occurs_not a.a a.step a.cells.now l.i w.if-cells-i.false)
     ]
 
 returns : tie.Need-returns invariant-loop-i decreases-loop-i

@@ -38,7 +38,7 @@ slice_bounds-check-end-2 c =
 pub returns-in-Refused-clause-answer : goal.returns-in-Refused-clause-answer
 returns-in-Refused-clause-answer c =
     ap {B = Answer ℕ} refused c.no.ensures.answer
-        ∙ judged_table _ _ _ (sym c.load-loaded.ensures.answer ∙ ap numbered_says c.in-Number.is) c.load-loaded.ensures.cells (sym (ap verdict_refusal c.in-Refused.is) ∙ c.check-verdict.ensures.answer)
+    ∙ judged_table _ _ _ (sym c.load-loaded.ensures.answer ∙ ap numbered_says c.in-Number.is) c.load-loaded.ensures.cells (sym (ap verdict_refusal c.in-Refused.is) ∙ c.check-verdict.ensures.answer)
 
 pub returns-in-Accepted-clause-answer : goal.returns-in-Accepted-clause-answer
 returns-in-Accepted-clause-answer c =

@@ -93,8 +93,8 @@ loop-j-preserved c =
     let j = l.loop-j.j in
     let list = s.args.list.now in
     elim c.if-middles-j-ne0.branch [
-      then-middles-j-ne0+in_default w ↦ (omega arith, v.1, v.2 ∙ pair_skip _ _ _ _ t (λ k h. no_failing_through (table s) list i j k (third_none (table s) _ i j (sym w.failing_third-third.ensures ∙ ap place_option w.in_default.is) k h)))
-    | else-middles-j-ne0 w ↦ (omega arith, v.1, v.2 ∙ pair_skip _ _ _ _ t (λ k h. unlisted (table s) list i j k (unmarked list _ (omega arith) (sym (ap (λ (m : List ℕ). get_or m j 0) l.marked-middles.ensures) ∙ w.if-middles-j-ne0.false))))
+      | then-middles-j-ne0+in_default w ↦ (omega arith, v.1, v.2 ∙ pair_skip _ _ _ _ t (λ k h. no_failing_through (table s) list i j k (third_none (table s) _ i j (sym w.failing_third-third.ensures ∙ ap place_option w.in_default.is) k h)))
+      | else-middles-j-ne0 w ↦ (omega arith, v.1, v.2 ∙ pair_skip _ _ _ _ t (λ k h. unlisted (table s) list i j k (unmarked list _ (omega arith) (sym (ap (λ (m : List ℕ). get_or m j 0) l.marked-middles.ensures) ∙ w.if-middles-j-ne0.false))))
     ]
 
 overflow_add-i : tie.Need-overflow_add-i invariant-loop-j decreases-loop-j invariant-triples decreases-triples

@@ -59,8 +59,8 @@ loop-x-preserved c =
     let a = l.loop-x.invariant in
     let t = l.loop-x-test.true in
     elim l.if-marks-x-eq1.branch [
-      then-marks-x-eq1 w ↦ rw (w.elements-is, w.place-is) (element_written _ _ _ a t w.if-marks-x-eq1.true l.requires.1)
-    | else-marks-x-eq1 w ↦ rw (w.elements-is, w.place-is) (element_skipped _ _ _ a t w.if-marks-x-eq1.false)
+      | then-marks-x-eq1 w ↦ rw (w.elements-is, w.place-is) (element_written _ _ _ a t w.if-marks-x-eq1.true l.requires.1)
+      | else-marks-x-eq1 w ↦ rw (w.elements-is, w.place-is) (element_skipped _ _ _ a t w.if-marks-x-eq1.false)
     ]
 
 shape_of-elements : tie.Need-shape_of-elements invariant-loop-x decreases-loop-x

@@ -93,9 +93,9 @@ loop-more-preserved-then-not-field c =
     let f = field x in
     let comma : comma_follows (text_of x) (at-loop x).loop-more.at ≡ false = sym (ap (λ (r : Field). r.comma) f) ∙ not-true _ c.if-not-field.true in
     rw f
-    (elim c.if-column-n.branch
-    [ then-column-n w ↦ rw w.square-is (judge_uneven (inv x) (goes_on x) (passes x) comma w.if-column-n.true)
-    | else-column-n w ↦ rw w.square-is (judge_break (inv x) (goes_on x) (passes x) comma w.if-column-n.false)
+    (elim c.if-column-n.branch [
+      | then-column-n w ↦ rw w.square-is (judge_uneven (inv x) (goes_on x) (passes x) comma w.if-column-n.true)
+      | else-column-n w ↦ rw w.square-is (judge_break (inv x) (goes_on x) (passes x) comma w.if-column-n.false)
     ])
 
 loop-more-smaller : tie.Need-loop-more-smaller invariant-loop-more decreases-loop-more
