@@ -73,7 +73,7 @@ turn t k =
     }
 
 abbrev Tried : ℕ → Type 0
-Tried t = extend-lts.After-tried-rising (calls t) (extend_at t) extend.Post extend_Inv_loop extend_μ_loop
+Tried t = extend-lts.After-tried_rising (calls t) (extend_at t) extend.Post extend_Inv_loop extend_μ_loop
 
 -- What the test says of x once it is tried.
 told : (t : ℕ) (k : Tried t) → let a = (start t k.before.before).args in
@@ -107,7 +107,7 @@ extend_returns_3 t c =
 extend_shared_slice_read_low : (t : ℕ) → extend-lts.Need-shared-slice-read-low (calls t) (extend_at t) extend.Post extend_Inv_loop extend_μ_loop
 extend_shared_slice_read_low t c = let b = c.before.before.before.before.before.before.before.before.requires.1.1.bound in let e = c.before.before.if2.false in omega arith
 
-extend_cast_low : (t : ℕ) → extend-lts.Need-overflow-cast-low (calls t) (extend_at t) extend.Post extend_Inv_loop extend_μ_loop
+extend_cast_low : (t : ℕ) → extend-lts.Need-overflow_cast-low (calls t) (extend_at t) extend.Post extend_Inv_loop extend_μ_loop
 extend_cast_low t c = omega (arith, c.shared-slice-known5.given c.before.before.before.before.before.before.before.before.args.t9.len)
 
 extend_loop_holds : (t : ℕ) → extend-lts.Need-loop-init (calls t) (extend_at t) extend.Post extend_Inv_loop extend_μ_loop
@@ -129,7 +129,7 @@ extend_open_requires t c κs =
     let test = c.before.before.loop-test.true in
     ((omega arith, (c.before.before.before.loop.invariant.0, test), n.1), row_marked (product a.m a.source.now) a.m (product a.n a.target.now) a.n a.scratch.now a.after.now (shares_later a.group.now) a.tight a.t9 z.requires.1.1 e)
 
-extend_tried_rising_requires : (t : ℕ) → extend-lts.Need-tried-rising-requires (calls t) (extend_at t) extend.Post extend_Inv_loop extend_μ_loop
+extend_tried_rising_requires : (t : ℕ) → extend-lts.Need-tried_rising-requires (calls t) (extend_at t) extend.Post extend_Inv_loop extend_μ_loop
 extend_tried_rising_requires t c κs =
     let k = c.before in
     let T = turn t k in
@@ -152,7 +152,7 @@ extend_returns_4 t c =
     let i = c.before.extend in
     i.ensures ∙ found (turn t k) w.before.if5.true w.tried-rising.result (told t w) (ap (λ (f : Outcome). f.ok) (sym i.ensures) ∙ c.if6.true) k.before.before.before.before.loop.invariant.3
 
-extend_add_x : (t : ℕ) → extend-lts.Need-overflow-add-x (calls t) (extend_at t) extend.Post extend_Inv_loop extend_μ_loop
+extend_add_x : (t : ℕ) → extend-lts.Need-overflow_add-x (calls t) (extend_at t) extend.Post extend_Inv_loop extend_μ_loop
 extend_add_x t c = let n = c.before.before.before.before.before.before.before.before.before.before.before.before.before.requires.1.0.1.order in let t = c.before.before.before.before.loop-test.true in omega arith
 
 extend_loop_less : (t : ℕ) → extend-lts.Need-loop-smaller (calls t) (extend_at t) extend.Post extend_Inv_loop extend_μ_loop

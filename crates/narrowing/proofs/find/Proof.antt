@@ -11,18 +11,18 @@ use Rattle.narrowing.proofs.Budget.{not_stopped}
 use Rattle.narrowing.proofs.find.Statement.{statement}
 use Rattle.narrowing.proofs.find.Tie as tie
 
-returns : tie.Need-returns
-returns c = c.find-by-rows.ensures
+returns-then-easy : tie.Need-returns-then-easy
+returns-then-easy c = c.find_by_rows.ensures
 
-returns-2 : tie.Need-returns-2
-returns-2 c =
-    let a = c.before.before.before.before.before.before.before.args in
+returns : tie.Need-returns
+returns c =
+    let a = c.args in
     let s = product a.m a.source.now in
     let t = product a.n a.target.now in
     let candidate = marked a.n a.scratch.now in
     let ask = bounded a.next a.after.now in
-    let w = c.before.before.find-within in
-    not_stopped 8000 (counted s t candidate ask a.n a.m []) w.result w.ensures c.before.if1.false ∙ ap found_in (counted_finds s t candidate ask a.n a.m [])
+    let w = c.find_within-easy in
+    not_stopped 8000 (counted s t candidate ask a.n a.m []) w.result w.ensures c.if-easy.false ∙ ap found_in (counted_finds s t candidate ask a.n a.m [])
 
 pub find_spec : {M : Type 1} → statement M
-find_spec = tie.close (tie.spec (λ c κs. search rules) (λ c κs. search rules) returns returns-2)
+find_spec = tie.close (tie.spec (λ c κs. search rules) (λ c κs. search rules) returns-then-easy returns)

@@ -22,7 +22,7 @@ use Rattle.narrowing.proofs.Extending.{start as begin, all_found, nowhere}
 use Rattle.narrowing.proofs.find_by_rows.Statement.{statement}
 use Rattle.narrowing.proofs.find_by_rows.Tie as tie
 
-module _ (k : tie.After-start) where
+module _ (k : tie.After-start-p) where
   abbrev first : tie.Start
   first = k.before.before.before.before.before
 
@@ -35,49 +35,49 @@ module _ (k : tie.After-start) where
   len_none : k.«start».result.len ≡ 0
   len_none = ap (λ (p : Partial). p.len) k.«start».ensures
 
-start-requires : tie.Need-start-requires
-start-requires c κs = search rules
+start-p-requires : tie.Need-start-p-requires
+start-p-requires c κs = search rules
 
-is-roomy-requires : tie.Need-is-roomy-requires
-is-roomy-requires c κs = search rules
+is_roomy-requires : tie.Need-is_roomy-requires
+is_roomy-requires c κs = search rules
 
 nothing-requires : tie.Need-nothing-requires
 nothing-requires c κs = search rules
 
-returns : tie.Need-returns
-returns c =
+returns-then-not-is_roomy : tie.Need-returns-then-not-is_roomy
+returns-then-not-is_roomy c =
     let k = c.before.before.before.before.before in
-    let a = (first k).args in
+    let a = (first c.before.before.before.before).args in
     let s = product a.m a.source.now in
     let t = product a.n a.target.now in
-    let p = k.«start».result in
-    let w = c.before.before.is-roomy in
+    let p = c.«start».result in
+    let w = c.is_roomy in
     c.nothing.ensures
     ∙ nowhere s a.m t a.n a.scratch.now a.after.now a.next (closed k)
-    (λ f F among. clash {b = w.result} (w.ensures ∙ roomy_kept p.rows a.m s a.n t f (first k).requires.0.1.order.1 F (covers k f F among)) (not-true w.result c.before.if1.true))
+    (λ f F among. clash {b = w.result} (w.ensures ∙ roomy_kept p.rows a.m s a.n t f (first k).requires.0.1.order.1 F (covers k f F among)) (not-true w.result c.if-not-is_roomy.true))
 
-groups-requires : tie.Need-groups-requires
-groups-requires c κs =
-    let z = first c.before.before.before.before in
+groups-group-requires : tie.Need-groups-group-requires
+groups-group-requires c κs =
+    let z = first c.before.before.before in
     (z.requires.0.0, z.requires.0.1.order.1, z.requires.1.0)
 
 extend-requires : tie.Need-extend-requires
 extend-requires c κs =
     let g = c.before in
     let k = g.before.before.before.before.before in
-    let z = first k in
+    let z = first g.before.before.before.before in
     let a = z.args in
-    let e = k.«start».ensures in
-    (z.requires.0, begin (product a.m a.source.now) a.m (product a.n a.target.now) a.n a.scratch.now a.after.now (shares_later g.groups.result) a.next k.«start».result (len_none k) (ap (λ (p : Partial). p.image) e) (ap (λ (p : Partial). p.ok) e) (covers k) z.requires.1.0 z.requires.1.1 (shares_later_law g.groups.result))
+    let e = c.«start».ensures in
+    (z.requires.0, begin (product a.m a.source.now) a.m (product a.n a.target.now) a.n a.scratch.now a.after.now (shares_later g.groups-group.result) a.next k.«start».result (len_none k) (ap (λ (p : Partial). p.image) e) (ap (λ (p : Partial). p.ok) e) (covers k) z.requires.1.0 z.requires.1.1 (shares_later_law g.groups-group.result))
 
-returns-2 : tie.Need-returns-2
-returns-2 c =
+returns : tie.Need-returns
+returns c =
     let g = c.before.before in
     let k = g.before.before.before.before.before in
-    let z = first k in
+    let z = first g.before.before.before.before in
     let a = z.args in
     c.extend.ensures
-    ∙ ap found_in (all_found (product a.m a.source.now) a.m (product a.n a.target.now) a.n a.scratch.now a.after.now g.groups.result a.next k.«start».result (len_none k) (closed k) g.groups.ensures)
+    ∙ ap found_in (all_found (product a.m a.source.now) a.m (product a.n a.target.now) a.n a.scratch.now a.after.now g.groups-group.result a.next c.«start».result (len_none k) (closed k) g.groups-group.ensures)
 
 pub find_by_rows_spec : {M : Type 1} → statement M
-find_by_rows_spec = tie.close (tie.spec start-requires is-roomy-requires nothing-requires returns groups-requires extend-requires returns-2)
+find_by_rows_spec = tie.close (tie.spec start-p-requires is_roomy-requires nothing-requires returns-then-not-is_roomy groups-group-requires extend-requires returns)

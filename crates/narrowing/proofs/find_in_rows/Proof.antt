@@ -23,7 +23,7 @@ room : (m n : ℕ) → m ≤ 120 → n ≤ 120 → scratch_size m n ≤ length z
 room m n lm ln = subst (λ (k : ℕ). scratch_size m n ≤ k) (sym (length-replicate {A = ℕ} 1800 0)) (size_limit m n lm ln)
 
 -- What is known once the marks are written.
-module _ (k : tie.After-write-marks) where
+module _ (k : tie.After-write_marks) where
   abbrev start : tie.Start
   start = k.before.before.before.before.before
 
@@ -31,28 +31,28 @@ module _ (k : tie.After-write-marks) where
   left = has start.args.rows.now
 
   abbrev bytes : List ℕ
-  bytes = k.write-marks.last.1.1.1.0
+  bytes = k.write_marks.new.marks
 
   long : length bytes ≡ 1800
   long =
       let a = start.args in
-      ap length k.write-marks.ensures ∙ length_scratch a.m a.n left zeros (room a.m a.n start.requires.0.0.order.1 start.requires.0.1.order.1) ∙ length-replicate {A = ℕ} 1800 0
+      ap length k.write_marks.ensures ∙ length_scratch a.m a.n left zeros (room a.m a.n start.requires.0.0.order.1 start.requires.0.1.order.1) ∙ length-replicate {A = ℕ} 1800 0
 
   same : (i j : ℕ) → Element start.args.m i → Element start.args.n j → marked start.args.n bytes i j ≡ left i j
-  same i j hi hj = let a = start.args in ap (λ (l : List ℕ). marked a.n l i j) k.write-marks.ensures ∙ marked_candidate a.m a.n left zeros i j hi hj
+  same i j hi hj = let a = start.args in ap (λ (l : List ℕ). marked a.n l i j) k.write_marks.ensures ∙ marked_candidate a.m a.n left zeros i j hi hj
 
-slice-aggregate-write-marks : tie.Need-slice-aggregate-write-marks
-slice-aggregate-write-marks c = search rules
+slice_bounds-write_marks-end : tie.Need-slice_bounds-write_marks-end
+slice_bounds-write_marks-end c = search rules
 
-write-marks-requires : tie.Need-write-marks-requires
-write-marks-requires c κs =
-    let z = c.before.before.before.before in
+write_marks-requires : tie.Need-write_marks-requires
+write_marks-requires c κs =
+    let z = c in
     let so = z.requires.0.0.order in
     let to = z.requires.0.1.order in
     ((so.1, to), room z.args.m z.args.n so.1 to.1)
 
-slice-aggregate-find : tie.Need-slice-aggregate-find
-slice-aggregate-find c = search rules
+slice_bounds-find-end : tie.Need-slice_bounds-find-end
+slice_bounds-find-end c = search rules
 
 find-requires : tie.Need-find-requires
 find-requires c κs =
@@ -75,8 +75,8 @@ pub find_in_rows_spec : {M : Type 1} → statement M
 find_in_rows_spec =
     tie.close
     (tie.spec
-    slice-aggregate-write-marks
-    write-marks-requires
-    slice-aggregate-find
+    slice_bounds-write_marks-end
+    write_marks-requires
+    slice_bounds-find-end
     find-requires
     returns)

@@ -28,7 +28,7 @@ use Rattle.narrowing.proofs.find_narrowed.Tie as tie
 
 -- What is known once the rows are narrowed.
 module _ (k : tie.After-propagate) where
-  abbrev marking : tie.After-keep-marked
+  abbrev marking : tie.After-keep_marked-p
   marking = k.before.before.before
 
   abbrev start : tie.Start
@@ -50,23 +50,23 @@ module _ (k : tie.After-propagate) where
   candidate = marked n start.args.scratch.now
 
   abbrev left : ℕ → ℕ → Bool
-  left = has k.propagate.last.1.1.1.1.0
+  left = has k.propagate.new.rows
 
   closed : Closed m s
   closed = filled_closed m start.args.source.now start.requires.0.0
 
-  row : (i j : ℕ) → Element m i → Element n j → rows_in marking.keep-marked.result i j ≡ candidate i j
+  row : (i j : ℕ) → Element m i → Element n j → rows_in marking.keep_marked-p.result i j ≡ candidate i j
   row i j hi hj =
-      ap (λ (p : Partial). rows_in p i j) (marking.keep-marked.ensures ∙ ap (kept_partial m n candidate) marking.before.new.ensures)
+      ap (λ (p : Partial). rows_in p i j) (marking.keep_marked-p.ensures ∙ ap (kept_partial m n candidate) marking.new.ensures)
       ∙ rows_marked m n start.requires.0.0.order.1 start.requires.0.1.order.1 candidate i j hi hj
 
-  covered : (f : List ℕ) → Embedding m s n t f → Among m candidate f → Among m (rows_in marking.keep-marked.result) f
+  covered : (f : List ℕ) → Embedding m s n t f → Among m candidate f → Among m (rows_in marking.keep_marked-p.result) f
   covered f F among i hi = row i (at f i) hi (F.homomorphism.within i hi) ∙ among i hi
 
   none_added : (f : List ℕ) → Embedding m s n t f → Among m left f → Among m candidate f
   none_added f F among i hi =
-      let p = marking.keep-marked.result in
-      let new = k.propagate.last.1.1.1.1 in
+      let p = marking.keep_marked-p.result in
+      let new = k.propagate.new.rows in
       let o = start.requires.0.0.order in
       sym (row i (at f i) hi (F.homomorphism.within i hi)) ∙ shrinks_has p.rows new.0 k.propagate.ensures.1.0 i (at f i) (omega arith) (among i hi)
 
@@ -76,8 +76,8 @@ module _ (k : tie.After-propagate) where
 new-requires : tie.Need-new-requires
 new-requires c κs = search rules
 
-keep-marked-requires : tie.Need-keep-marked-requires
-keep-marked-requires c κs = search rules
+keep_marked-p-requires : tie.Need-keep_marked-p-requires
+keep_marked-p-requires c κs = search rules
 
 propagate-requires : tie.Need-propagate-requires
 propagate-requires c κs = search rules
@@ -85,49 +85,49 @@ propagate-requires c κs = search rules
 nothing-requires : tie.Need-nothing-requires
 nothing-requires c κs = search rules
 
-returns : tie.Need-returns
-returns c =
+returns-then-not-propagate : tie.Need-returns-then-not-propagate
+returns-then-not-propagate c =
     let k = c.before.before in
     let a = (start k).args in
     c.nothing.ensures
-    ∙ nowhere (s k) (m k) (t k) (n k) a.scratch.now a.after.now a.next (closed k) (λ f F among. clash {b = k.propagate.result} (none_lost k f F among).0 (not-true k.propagate.result c.before.if1.true))
+    ∙ nowhere (s k) (m k) (t k) (n k) a.scratch.now a.after.now a.next (closed k) (λ f F among. clash {b = k.propagate.result} (none_lost k f F among).0 (c.if-not-propagate.true))
 
-is-roomy-requires : tie.Need-is-roomy-requires
-is-roomy-requires c κs = c.before.before.before.before.before.before.before.before.before.before.before.requires.0.0.order.1
+is_roomy-requires : tie.Need-is_roomy-requires
+is_roomy-requires c κs = c.requires.0.0.order.1
 
-nothing-requires-2 : tie.Need-nothing-requires-2
-nothing-requires-2 c κs = search rules
+nothing-requires-then-not-is_roomy : tie.Need-nothing-requires-then-not-is_roomy
+nothing-requires-then-not-is_roomy c κs = search rules
 
-returns-2 : tie.Need-returns-2
-returns-2 c =
+returns-then-not-is_roomy : tie.Need-returns-then-not-is_roomy
+returns-then-not-is_roomy c =
     let k = c.before.before.before.before.before in
     let a = (start k).args in
-    let w = c.before.before.is-roomy in
-    let new = k.propagate.new.1.1.1.1 in
-    c.nothing2.ensures
+    let w = c.is_roomy in
+    let new = k.propagate.new.rows in
+    c.nothing-then-not-is_roomy.ensures
     ∙ nowhere (s k) (m k) (t k) (n k) a.scratch.now a.after.now a.next (closed k)
-    (λ f F among. clash {b = w.result} (w.ensures ∙ roomy_kept new.0 (m k) (s k) (n k) (t k) f (start k).requires.0.1.order.1 F (none_lost k f F among).1) (not-true w.result c.before.if2.true))
+    (λ f F among. clash {b = w.result} (w.ensures ∙ roomy_kept new.0 (m k) (s k) (n k) (t k) f (start k).requires.0.1.order.1 F (none_lost k f F among).1) (not-true w.result c.if-not-is_roomy.true))
 
-find-in-rows-requires : tie.Need-find-in-rows-requires
-find-in-rows-requires c κs = let z = c.before.before.before.before.before.before.before.before.before.before.before.before.before.before in (z.requires.0, z.requires.1.1)
+find_in_rows-requires : tie.Need-find_in_rows-requires
+find_in_rows-requires c κs = let z = c in (z.requires.0, z.requires.1.1)
 
-returns-3 : tie.Need-returns-3
-returns-3 c =
+returns : tie.Need-returns
+returns c =
     let k = c.before.before.before.before.before.before in
     let a = (start k).args in
-    c.find-in-rows.ensures ∙ ap found_in (search_alike (m k) (s k) (n k) (t k) (left k) (candidate k) (none_added k) (λ f F among. (none_lost k f F among).1) (bounded a.next a.after.now) (closed k))
+    c.find_in_rows.ensures ∙ ap found_in (search_alike (m k) (s k) (n k) (t k) (left k) (candidate k) (none_added k) (λ f F among. (none_lost k f F among).1) (bounded a.next a.after.now) (closed k))
 
 pub find_narrowed_spec : {M : Type 1} → statement M
 find_narrowed_spec =
     tie.close
     (tie.spec
     new-requires
-    keep-marked-requires
+    keep_marked-p-requires
     propagate-requires
     nothing-requires
-    returns
-    is-roomy-requires
-    nothing-requires-2
-    returns-2
-    find-in-rows-requires
-    returns-3)
+    returns-then-not-propagate
+    is_roomy-requires
+    nothing-requires-then-not-is_roomy
+    returns-then-not-is_roomy
+    find_in_rows-requires
+    returns)
