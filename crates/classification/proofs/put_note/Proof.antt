@@ -20,7 +20,7 @@ slice-aggregate-put-record c = search rules
 put-record-requires : tie.Need-put-record-requires
 put-record-requires c κs =
     let s = c.before.before.before.before in
-    let n = s.ranges.number in
+    let n = s.ranges.number.fits in
     ((s.requires.0, omega arith), note_fits s.args.k s.args.at (is_refused s c.before.before.if1.true) s.requires.1)
 
 same_length : tie.Need-same-length
@@ -35,8 +35,8 @@ returns c =
 put-class-requires : tie.Need-put-class-requires
 put-class-requires c κs =
     let s = c.before.before.before in
-    let o = s.ranges.order in
-    let n = s.ranges.number in
+    let o = s.ranges.order.fits in
+    let n = s.ranges.number.fits in
     ((s.requires.0, omega arith, omega arith), note_fits s.args.k s.args.at (sym (is_class s.args.order s.args.number c.before.if1.false)) s.requires.1)
 
 same-length-2 : tie.Need-same-length-2
