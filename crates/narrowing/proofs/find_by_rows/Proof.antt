@@ -4,7 +4,6 @@ use mathlib.Core.Path.{◌≡◌, ap, ◌∙◌}
 use mathlib.Core.List.{List}
 use Prim.Native.Nat.{ℕ}
 use borrow.Author.Rules.{rules}
-use borrow.Author.Tests.{not-true}
 use Rattle.semigroups.specs.Tables.{product}
 use Rattle.semigroups.specs.TablesLaws.{Closed}
 use Rattle.semigroups.specs.Scratch.{marked}
@@ -29,11 +28,11 @@ module _ (k : tie.After-start-p) where
   closed : Closed first.args.m (product first.args.m first.args.source.now)
   closed = let source = first.requires.0.0 in product_element first.args.m first.args.source.now source.size source.in_range
 
-  covers : let a = first.args in (f : List ℕ) → Embedding a.m (product a.m a.source.now) a.n (product a.n a.target.now) f → Among a.m (marked a.n a.scratch.now) f → Among a.m (rows_in k.«start».result) f
-  covers = let a = first.args in start_covers a.m a.source.now a.n a.target.now first.requires.0.0 first.requires.0.1 (marked a.n a.scratch.now) k.«start».result k.«start».ensures
+  covers : let a = first.args in (f : List ℕ) → Embedding a.m (product a.m a.source.now) a.n (product a.n a.target.now) f → Among a.m (marked a.n a.scratch.now) f → Among a.m (rows_in k.start-p.result) f
+  covers = let a = first.args in start_covers a.m a.source.now a.n a.target.now first.requires.0.0 first.requires.0.1 (marked a.n a.scratch.now) k.start-p.result k.start-p.ensures
 
-  len_none : k.«start».result.len ≡ 0
-  len_none = ap (λ (p : Partial). p.len) k.«start».ensures
+  len_none : k.start-p.result.len ≡ 0
+  len_none = ap (λ (p : Partial). p.len) k.start-p.ensures
 
 start-p-requires : tie.Need-start-p-requires
 start-p-requires c κs = search rules
@@ -46,38 +45,35 @@ nothing-requires c κs = search rules
 
 returns-then-not-is_roomy : tie.Need-returns-then-not-is_roomy
 returns-then-not-is_roomy c =
-    let k = c.before.before.before.before.before in
-    let a = (first c.before.before.before.before).args in
+    let k = c.before.before.before.before in
+    let a = c.args in
     let s = product a.m a.source.now in
     let t = product a.n a.target.now in
-    let p = c.«start».result in
+    let p = c.start-p.result in
     let w = c.is_roomy in
     c.nothing.ensures
     ∙ nowhere s a.m t a.n a.scratch.now a.after.now a.next (closed k)
-    (λ f F among. clash {b = w.result} (w.ensures ∙ roomy_kept p.rows a.m s a.n t f (first k).requires.0.1.order.1 F (covers k f F among)) (not-true w.result c.if-not-is_roomy.true))
+    (λ f F among. clash {b = w.result} (w.ensures ∙ roomy_kept p.rows a.m s a.n t f (first k).requires.0.1.order.1 F (covers k f F among)) c.if-not-is_roomy.true)
 
 groups-group-requires : tie.Need-groups-group-requires
 groups-group-requires c κs =
-    let z = first c.before.before.before in
-    (z.requires.0.0, z.requires.0.1.order.1, z.requires.1.0)
+    (c.requires.0.0, c.requires.0.1.order.1, c.requires.1.0)
 
 extend-requires : tie.Need-extend-requires
 extend-requires c κs =
     let g = c.before in
-    let k = g.before.before.before.before.before in
-    let z = first g.before.before.before.before in
-    let a = z.args in
-    let e = c.«start».ensures in
-    (z.requires.0, begin (product a.m a.source.now) a.m (product a.n a.target.now) a.n a.scratch.now a.after.now (shares_later g.groups-group.result) a.next k.«start».result (len_none k) (ap (λ (p : Partial). p.image) e) (ap (λ (p : Partial). p.ok) e) (covers k) z.requires.1.0 z.requires.1.1 (shares_later_law g.groups-group.result))
+    let k = g.before.before.before.before in
+    let a = c.args in
+    let e = c.start-p.ensures in
+    (c.requires.0, begin (product a.m a.source.now) a.m (product a.n a.target.now) a.n a.scratch.now a.after.now (shares_later g.groups-group.result) a.next k.start-p.result (len_none k) (ap (λ (p : Partial). p.image) e) (ap (λ (p : Partial). p.ok) e) (covers k) c.requires.1.0 c.requires.1.1 (shares_later_law g.groups-group.result))
 
 returns : tie.Need-returns
 returns c =
     let g = c.before.before in
-    let k = g.before.before.before.before.before in
-    let z = first g.before.before.before.before in
-    let a = z.args in
+    let k = g.before.before.before.before in
+    let a = c.args in
     c.extend.ensures
-    ∙ ap found_in (all_found (product a.m a.source.now) a.m (product a.n a.target.now) a.n a.scratch.now a.after.now g.groups-group.result a.next c.«start».result (len_none k) (closed k) g.groups-group.ensures)
+    ∙ ap found_in (all_found (product a.m a.source.now) a.m (product a.n a.target.now) a.n a.scratch.now a.after.now g.groups-group.result a.next c.start-p.result (len_none k) (closed k) g.groups-group.ensures)
 
 pub find_by_rows_spec : {M : Type 1} → statement M
 find_by_rows_spec = tie.close (tie.spec start-p-requires is_roomy-requires nothing-requires returns-then-not-is_roomy groups-group-requires extend-requires returns)

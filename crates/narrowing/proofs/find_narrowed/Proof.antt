@@ -6,7 +6,6 @@ use mathlib.Core.List.{List}
 use Prim.Native.Nat.{ℕ}
 use native.Mathlib.Omega.{arith}
 use borrow.Author.Rules.{rules}
-use borrow.Author.Tests.{not-true}
 use Rattle.semigroups.specs.Lists.{at}
 use Rattle.semigroups.specs.Tables.{Product, product, Element}
 use Rattle.semigroups.specs.TablesLaws.{Closed}
@@ -68,7 +67,7 @@ module _ (k : tie.After-propagate) where
       let p = marking.keep_marked-p.result in
       let new = k.propagate.new.rows in
       let o = start.requires.0.0.order in
-      sym (row i (at f i) hi (F.homomorphism.within i hi)) ∙ shrinks_has p.rows new.0 k.propagate.ensures.1.0 i (at f i) (omega arith) (among i hi)
+      sym (row i (at f i) hi (F.homomorphism.within i hi)) ∙ shrinks_has p.rows new k.propagate.ensures.1.0 i (at f i) (omega arith) (among i hi)
 
   none_lost : (f : List ℕ) → Embedding m s n t f → Among m candidate f → (k.propagate.result ≡ true) × Among m left f
   none_lost f F among = k.propagate.ensures.0 f F (covered f F among)
@@ -106,7 +105,7 @@ returns-then-not-is_roomy c =
     let new = k.propagate.new.rows in
     c.nothing-then-not-is_roomy.ensures
     ∙ nowhere (s k) (m k) (t k) (n k) a.scratch.now a.after.now a.next (closed k)
-    (λ f F among. clash {b = w.result} (w.ensures ∙ roomy_kept new.0 (m k) (s k) (n k) (t k) f (start k).requires.0.1.order.1 F (none_lost k f F among).1) (not-true w.result c.if-not-is_roomy.true))
+    (λ f F among. clash {b = w.result} (w.ensures ∙ roomy_kept new (m k) (s k) (n k) (t k) f (start k).requires.0.1.order.1 F (none_lost k f F among).1) c.if-not-is_roomy.true)
 
 find_in_rows-requires : tie.Need-find_in_rows-requires
 find_in_rows-requires c κs = let z = c in (z.requires.0, z.requires.1.1)

@@ -1,6 +1,6 @@
 -- `open` meets its contract: one law for each way out. Assumes nothing.
 use mathlib.Core.Path.{sym, ◌∙◌}
-use borrow.Author.Tests.{lt-leb, le-leb, not-true, not-false}
+use borrow.Author.Tests.{lt-leb, le-leb}
 use borrow.Author.Rules.{rules}
 use Rattle.narrowing.proofs.open.Statement.{statement}
 use Rattle.narrowing.proofs.open.Tie as tie
