@@ -9,9 +9,9 @@ use Rattle.kinds.proofs.find.Tie as tie
 returns : tie.Need-returns
 returns c =
     let w = c.before.before.before.before in
-    let s = w.before.before.before.before.before.before.before in
+    let s = w in
     let a = s.args in
-    as_answered (kind_of a.kind) a.next (lend a.source.now a.m a.target.now a.n a.map.now a.scratch.now) s.requires.0.0 s.requires.0.1 w.search-kind.result w.search-kind.ensures
+    as_answered (kind_of a.kind) a.next (lend a.source.now a.m a.target.now a.n a.map.now a.scratch.now) s.requires.0.0 s.requires.0.1 w.search_kind-result.result w.search_kind-result.ensures
 
 pub find_spec : {M : Type 1} → statement M
 find_spec = tie.close (tie.spec (λ c κs. search rules) (λ c. search rules) (λ c. search rules) returns)

@@ -15,33 +15,33 @@ use Rattle.kinds.proofs.find_among.Statement.{statement}
 use Rattle.kinds.proofs.find_among.Tie as tie
 
 -- What is known once scratch is marked.
-module _ (c : tie.After-mark-among) where
+module _ (c : tie.After-mark_among-all) where
   abbrev start : tie.Start
   start = c.before.before.before.before.before.before.before
 
   abbrev lent : Lent
   lent = let a = start.args in lend a.source.now a.m a.target.now a.n a.map.now a.scratch.now
 
-returns : tie.Need-returns
-returns c =
+returns-then-n-m : tie.Need-returns-then-n-m
+returns-then-n-m c =
     let k = c.before.before.before in
     let a = (start k).args in
     as_answered_among (bounded a.next a.map.now) a.pairs.now (lent k) false none
-    (allowed_none a.m (product a.m a.source.now) a.n (product a.n a.target.now) a.pairs.now (bounded a.next a.map.now) c.if1.true)
-    refl refl k.mark-among.ensures.1
+    (allowed_none a.m (product a.m a.source.now) a.n (product a.n a.target.now) a.pairs.now (bounded a.next a.map.now) c.if-n-m.true)
+    refl refl k.mark_among-all.ensures.1
 
-returns-2 : tie.Need-returns-2
-returns-2 c =
+returns : tie.Need-returns
+returns c =
     let f = c.before.before.before.before in
     let k = f.before.before.before.before.before.before in
-    let s = start k in
+    let s = start f.before.before.before.before in
     let a = s.args in
-    let r = f.find-allowed.result in
-    let is = f.find-allowed.ensures in
-    let map = c.before.before.put-found.ensures ∙ written a.next a.m a.source.now a.n a.target.now a.map.now _ s.requires.0.0.filled Unlimited r is in
-    as_answered_among (bounded a.next a.map.now) a.pairs.now (lent k) r.ok _
-    (work_allowed a.next a.m a.source.now a.n a.target.now a.pairs.now a.map.now a.scratch.now _ s.requires.0.0 s.requires.0.1 k.mark-among.ensures.1)
-    (unlimited_says (marked_work a.next a.m a.source.now a.n a.target.now a.map.now _) r is) map k.mark-among.ensures.1
+    let r = f.find_allowed-result.result in
+    let is = f.find_allowed-result.ensures in
+    let map = c.put_found.ensures ∙ written a.next a.m a.source.now a.n a.target.now a.map.now _ s.requires.0.0.filled Unlimited r is in
+    as_answered_among (bounded a.next a.map.now) a.pairs.now (lent f.before.before.before.before) r.ok _
+    (work_allowed a.next a.m a.source.now a.n a.target.now a.pairs.now a.map.now a.scratch.now _ s.requires.0.0 s.requires.0.1 k.mark_among-all.ensures.1)
+    (unlimited_says (marked_work a.next a.m a.source.now a.n a.target.now a.map-1.now _) r is) map k.mark_among-all.ensures.1
 
 pub find_among_spec : {M : Type 1} → statement M
 find_among_spec =
@@ -49,9 +49,9 @@ find_among_spec =
     (tie.spec
     (λ c κs. search rules)
     (λ c. search rules)
-    returns
+    returns-then-n-m
     (λ c κs. search rules)
     (λ c κs. search rules)
     (λ c. search rules)
     (λ c. search rules)
-    returns-2)
+    returns)

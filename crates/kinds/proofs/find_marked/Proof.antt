@@ -8,17 +8,17 @@ use Rattle.kinds.proofs.Marked.{marked_unlimited}
 use Rattle.kinds.proofs.find_marked.Statement.{statement}
 use Rattle.kinds.proofs.find_marked.Tie as tie
 
-returns : tie.Need-returns
-returns c =
-    let a = c.before.before.before.before.before.before.before.args in
+returns-in-Unlimited : tie.Need-returns-in-Unlimited
+returns-in-Unlimited c =
+    let a = c.args in
     c.find.ensures ∙ marked_unlimited a.next a.m a.source.now a.n a.target.now a.after.now a.scratch.now
-    ∙ ap (λ (l : Limit). outcome_of (remainder_under l (marked_work a.next a.m a.source.now a.n a.target.now a.after.now a.scratch.now))) (sym c.before.enum_told.given.1)
+    ∙ ap (λ (l : Limit). outcome_of (remainder_under l (marked_work a.next a.m a.source.now a.n a.target.now a.after.now a.scratch.now))) (sym c.in-Unlimited.is)
 
-returns-2 : tie.Need-returns-2
-returns-2 c =
-    let a = c.before.before.before.before.before.before.before.before.args in
-    c.find-within.ensures
-    ∙ ap (λ (l : Limit). outcome_of (remainder_under l (marked_work a.next a.m a.source.now a.n a.target.now a.after.now a.scratch.now))) (sym c.before.before.limit.given.1)
+returns-in-Trials : tie.Need-returns-in-Trials
+returns-in-Trials c =
+    let a = c.args in
+    c.find_within.ensures
+    ∙ ap (λ (l : Limit). outcome_of (remainder_under l (marked_work a.next a.m a.source.now a.n a.target.now a.after.now a.scratch.now))) (sym c.in-Trials.is)
 
 pub find_marked_spec : {M : Type 1} → statement M
 find_marked_spec =
@@ -28,5 +28,5 @@ find_marked_spec =
     (λ c κs. search rules)
     (λ c. search rules)
     (λ c κs. search rules)
-    returns
-    returns-2)
+    returns-in-Unlimited
+    returns-in-Trials)

@@ -6,11 +6,11 @@ use Rattle.semigroups.specs.InnerSearch.{plain_kind}
 use Rattle.kinds.proofs.order_fits.Statement.{statement}
 use Rattle.kinds.proofs.order_fits.Tie as tie
 
-returns : tie.Need-returns
-returns c = let a = c.before.args in ap (λ (b : Bool). order_fits (plain_kind b) a.m a.n) (sym c.if1.true)
+returns-then-onto : tie.Need-returns-then-onto
+returns-then-onto c = let a = c.args in ap (λ (b : Bool). order_fits (plain_kind b) a.m a.n) (sym c.if-onto.true)
 
-returns-2 : tie.Need-returns-2
-returns-2 c = let a = c.before.args in ap (λ (b : Bool). order_fits (plain_kind b) a.m a.n) (sym c.if1.false)
+returns : tie.Need-returns
+returns c = let a = c.args in ap (λ (b : Bool). order_fits (plain_kind b) a.m a.n) (sym c.if-onto.false)
 
 pub order_fits_spec : {M : Type 1} → statement M
-order_fits_spec = tie.close (tie.spec returns returns-2)
+order_fits_spec = tie.close (tie.spec returns-then-onto returns)

@@ -18,14 +18,14 @@ asked s kind = let a = s.args in searched kind a.next a.limit (lend a.source.now
 as_asked : (s : tie.Start) {kind : Kind} → s.args.kind ≡ kind → asked s (kind_of kind) ≡ asked s (kind_of s.args.kind)
 as_asked s e = ap (λ (k : Kind). asked s (kind_of k)) (sym e)
 
-returns : tie.Need-returns
-returns c = c.before.before.before.before.search-straight.ensures ∙ as_asked c.before.before.before.before.before.before.before.before.before.before.before.before.before c.before.before.before.before.before.before.before.enum_told.given.1
+returns-in-Embeddings : tie.Need-returns-in-Embeddings
+returns-in-Embeddings c = c.search_straight.ensures ∙ as_asked c.before.before.before.before.before.before.before.before.before.before.before.before c.in-Embeddings.is
 
-returns-2 : tie.Need-returns-2
-returns-2 c = c.before.before.before.before.search-straight2.ensures ∙ as_asked c.before.before.before.before.before.before.before.before.before.before.before.before.before c.before.before.before.before.before.before.before.enum-told2.given.1
+returns-in-Isomorphisms : tie.Need-returns-in-Isomorphisms
+returns-in-Isomorphisms c = c.search_straight-in-Isomorphisms.ensures ∙ as_asked c.before.before.before.before.before.before.before.before.before.before.before.before c.in-Isomorphisms.is
 
-returns-3 : tie.Need-returns-3
-returns-3 c = c.before.before.before.before.search-reversed.ensures ∙ as_asked c.before.before.before.before.before.before.before.before.before.before.before.before.before c.before.before.before.before.before.before.before.enum-told3.given.1
+returns-in-Reversed : tie.Need-returns-in-Reversed
+returns-in-Reversed c = c.search_reversed.ensures ∙ as_asked c.before.before.before.before.before.before.before.before.before.before.before.before c.in-Reversed.is
 
 pub search_kind_spec : {M : Type 1} → statement M
 search_kind_spec =
@@ -39,10 +39,10 @@ search_kind_spec =
     (λ c κs. search rules)
     (λ c. search rules)
     (λ c. search rules)
-    returns
+    returns-in-Embeddings
     (λ c. search rules)
     (λ c. search rules)
-    returns-2
+    returns-in-Isomorphisms
     (λ c. search rules)
     (λ c. search rules)
-    returns-3)
+    returns-in-Reversed)

@@ -24,59 +24,59 @@ module _ (c : tie.After-turn) where
   target = start.args.target.now
 
   abbrev room : List ℕ
-  room = c.turn.new.1.1.0
+  room = c.turn.new.turned
 
   fits : n * n ≤ length room
-  fits = let k = c.turn.auto.1.1.0 in let h = start.requires.1.1 in omega arith
+  fits = let k = c.turn.auto.turned.1.0 in let h = start.requires.1.1 in omega arith
 
-mul-size : tie.Need-overflow-mul-size
-mul-size c = search rules
+overflow_mul-size : tie.Need-overflow_mul-size
+overflow_mul-size c = search rules
 
 turn-requires : tie.Need-turn-requires
 turn-requires c κs = search rules
 
-slice-reshare-prefix-search-straight : tie.Need-slice-reshare-prefix-search-straight
-slice-reshare-prefix-search-straight c = search rules
+slice_bounds-search_straight-end : tie.Need-slice_bounds-search_straight-end
+slice_bounds-search_straight-end c = search rules
 
-slice-aggregate-search-straight : tie.Need-slice-aggregate-search-straight
-slice-aggregate-search-straight c = let t = c.before.before.before in let z = start t in part_length (n t) (target t) z.args.room.now (room t) z.requires.0.1 (fits t) t.turn.ensures
+slice_bounds-search_straight-end-2 : tie.Need-slice_bounds-search_straight-end-2
+slice_bounds-search_straight-end-2 c = let t = c.before.before.before in let z = start c.before.before in part_length (n c.before.before) (target c.before.before) z.args.room.now (room c.before.before) z.requires.0.1 (fits t) t.turn.ensures
 
-search-straight-requires : tie.Need-search-straight-requires
-search-straight-requires c κs =
+search_straight-requires : tie.Need-search_straight-requires
+search_straight-requires c κs =
     let t = c.before.before.before.before.before in
-    let z = start t in
-    ((z.requires.0.0, part_accepted (n t) (target t) z.args.room.now (room t) z.requires.0.1 (fits t) t.turn.ensures), z.requires.1.0)
+    let z = start c.before.before.before.before in
+    ((z.requires.0.0, part_accepted (n c.before.before.before.before) (target c.before.before.before.before) z.args.room.now (room c.before.before.before.before) z.requires.0.1 (fits t) t.turn.ensures), z.requires.1.0)
 
-same_length : tie.Need-same-length
-same_length c = search rules
+shape_of-map : tie.Need-shape_of-map
+shape_of-map c = search rules
 
-same-length-2 : tie.Need-same-length-2
-same-length-2 c = search rules
+shape_of-scratch : tie.Need-shape_of-scratch
+shape_of-scratch c = search rules
 
-same-length-3 : tie.Need-same-length-3
-same-length-3 c = search rules
+shape_of-room : tie.Need-shape_of-room
+shape_of-room c = search rules
 
 returns : tie.Need-returns
 returns c =
     let t = c.before.before.before.before.before.before.before.before.before.before in
-    let z = start t in
+    let z = start c.before.before.before.before.before.before.before.before.before in
     let a = z.args in (
-      c.before.before.before.before.search-straight.ensures
-          ∙ ap (λ (g : List ℕ). searched isomorphisms a.next a.limit (lend a.source.now a.m g (n t) a.map.now a.scratch.now)) (turned_part (n t) (target t) a.room.now (room t) z.requires.0.1 (fits t) t.turn.ensures)
-          ∙ turned_call a.next a.limit a.m a.source.now (n t) (target t) a.map.now a.scratch.now z.requires.0.1,
-      t.turn.ensures,
+      c.search_straight.ensures
+          ∙ ap (λ (g : List ℕ). searched isomorphisms a.next a.limit (lend a.source.now a.m g (n c.before.before.before.before.before.before.before.before.before) a.map.now a.scratch.now)) (turned_part (n c.before.before.before.before.before.before.before.before.before) (target c.before.before.before.before.before.before.before.before.before) a.room-1.now (room t) z.requires.0.1 (fits t) t.turn.ensures)
+          ∙ turned_call a.next a.limit a.m a.source.now (n t) (target t) a.map-1.now a.scratch-1.now z.requires.0.1,
+      c.turn.ensures,
     )
 
 pub search_turned_spec : {M : Type 1} → statement M
 search_turned_spec =
     tie.close
     (tie.spec
-    mul-size
+    overflow_mul-size
     turn-requires
-    slice-reshare-prefix-search-straight
-    slice-aggregate-search-straight
-    search-straight-requires
-    same_length
-    same-length-2
-    same-length-3
+    slice_bounds-search_straight-end
+    slice_bounds-search_straight-end-2
+    search_straight-requires
+    shape_of-map
+    shape_of-scratch
+    shape_of-room
     returns)
