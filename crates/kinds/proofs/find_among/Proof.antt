@@ -28,7 +28,7 @@ returns-then-n-m c =
     let a = (start k).args in
     as_answered_among (bounded a.next a.map.now) a.pairs.now (lent k) false none
     (allowed_none a.m (product a.m a.source.now) a.n (product a.n a.target.now) a.pairs.now (bounded a.next a.map.now) c.if-n-m.true)
-    refl refl k.mark_among-all.ensures.1
+    refl refl c.mark_among-all.ensures.1
 
 returns : tie.Need-returns
 returns c =
@@ -40,8 +40,8 @@ returns c =
     let is = f.find_allowed-result.ensures in
     let map = c.put_found.ensures ∙ written a.next a.m a.source.now a.n a.target.now a.map.now _ s.requires.0.0.filled Unlimited r is in
     as_answered_among (bounded a.next a.map.now) a.pairs.now (lent f.before.before.before.before) r.ok _
-    (work_allowed a.next a.m a.source.now a.n a.target.now a.pairs.now a.map.now a.scratch.now _ s.requires.0.0 s.requires.0.1 k.mark_among-all.ensures.1)
-    (unlimited_says (marked_work a.next a.m a.source.now a.n a.target.now a.map-1.now _) r is) map k.mark_among-all.ensures.1
+    (work_allowed a.next a.m a.source.now a.n a.target.now a.pairs.now a.map.now a.scratch.now _ s.requires.0.0 s.requires.0.1 c.mark_among-all.ensures.1)
+    (unlimited_says (marked_work a.next a.m a.source.now a.n a.target.now a.map.now _) r is) map c.mark_among-all.ensures.1
 
 pub find_among_spec : {M : Type 1} → statement M
 find_among_spec =

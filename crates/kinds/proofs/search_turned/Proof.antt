@@ -27,7 +27,7 @@ module _ (c : tie.After-turn) where
   room = c.turn.new.turned
 
   fits : n * n ≤ length room
-  fits = let k = c.turn.auto.turned.1.0 in let h = start.requires.1.1 in omega arith
+  fits = let k = c.turn.auto.turned in let h = start.requires.1.1 in omega arith
 
 overflow_mul-size : tie.Need-overflow_mul-size
 overflow_mul-size c = search rules
