@@ -43,8 +43,8 @@ returns c =
     let a = s.args in
     let filled = k.mark.ensures in
     let w = work_marked a.onto a.next a.m a.source.now a.n a.target.now a.map.now a.scratch.now _ filled (fits f.before.before (f.if-not-order_fits.false)) in
-    let map = c.put_found.ensures ∙ written a.next a.m a.source.now a.n a.target.now a.map-1.now _ s.requires.0.0.filled a.limit f.find_marked-result.result f.find_marked-result.ensures in
-    as_searched (plain_kind a.onto) a.next a.limit (lent k) f.find_marked-result.result _ w f.find_marked-result.ensures map filled
+    let map = c.put_found.ensures ∙ written a.next a.m a.source.now a.n a.target.now a.map.now _ s.requires.0.0.filled a.limit f.find_marked-result.result f.find_marked-result.ensures in
+    as_searched (plain_kind a.onto) a.next a.limit (lent f.before.before) f.find_marked-result.result _ w f.find_marked-result.ensures map filled
 
 pub search_straight_spec : {M : Type 1} → statement M
 search_straight_spec =

@@ -39,13 +39,13 @@ slice_bounds-search_straight-end : tie.Need-slice_bounds-search_straight-end
 slice_bounds-search_straight-end c = search rules
 
 slice_bounds-search_straight-end-2 : tie.Need-slice_bounds-search_straight-end-2
-slice_bounds-search_straight-end-2 c = let t = c.before.before.before in let z = start c.before.before in part_length (n c.before.before) (target c.before.before) z.args.room.now (room c.before.before) z.requires.0.1 (fits t) t.turn.ensures
+slice_bounds-search_straight-end-2 c = let t = c.before.before in let z = start t in part_length (n t) (target t) z.args.room.now (room t) z.requires.0.1 (fits t) t.turn.ensures
 
 search_straight-requires : tie.Need-search_straight-requires
 search_straight-requires c κs =
-    let t = c.before.before.before.before.before in
-    let z = start c.before.before.before.before in
-    ((z.requires.0.0, part_accepted (n c.before.before.before.before) (target c.before.before.before.before) z.args.room.now (room c.before.before.before.before) z.requires.0.1 (fits t) t.turn.ensures), z.requires.1.0)
+    let t = c.before.before.before.before in
+    let z = start t in
+    ((z.requires.0.0, part_accepted (n t) (target t) z.args.room.now (room t) z.requires.0.1 (fits t) t.turn.ensures), z.requires.1.0)
 
 shape_of-map : tie.Need-shape_of-map
 shape_of-map c = search rules
@@ -58,12 +58,12 @@ shape_of-room c = search rules
 
 returns : tie.Need-returns
 returns c =
-    let t = c.before.before.before.before.before.before.before.before.before.before in
-    let z = start c.before.before.before.before.before.before.before.before.before in
+    let t = c.before.before.before.before.before.before.before.before.before in
+    let z = start t in
     let a = z.args in (
       c.search_straight.ensures
-          ∙ ap (λ (g : List ℕ). searched isomorphisms a.next a.limit (lend a.source.now a.m g (n c.before.before.before.before.before.before.before.before.before) a.map.now a.scratch.now)) (turned_part (n c.before.before.before.before.before.before.before.before.before) (target c.before.before.before.before.before.before.before.before.before) a.room-1.now (room t) z.requires.0.1 (fits t) t.turn.ensures)
-          ∙ turned_call a.next a.limit a.m a.source.now (n t) (target t) a.map-1.now a.scratch-1.now z.requires.0.1,
+          ∙ ap (λ (g : List ℕ). searched isomorphisms a.next a.limit (lend a.source.now a.m g (n t) a.map.now a.scratch.now)) (turned_part (n t) (target t) a.room.now (room t) z.requires.0.1 (fits t) t.turn.ensures)
+          ∙ turned_call a.next a.limit a.m a.source.now (n t) (target t) a.map.now a.scratch.now z.requires.0.1,
       c.turn.ensures,
     )
 
