@@ -12,50 +12,50 @@ use Rattle.classification.proofs.begun.Statement.{statement}
 use Rattle.classification.proofs.begun.Tie as tie
 
 -- What is known if the file is accepted.
-module _ (c : tie.After-verdict) where
-  abbrev loaded : tie.After-load-then-check
+module _ (c : tie.In-Number) where
+  abbrev loaded : tie.After-load_then_check-verdict
   loaded = c.before.before.before.before
 
   abbrev start_of : tie.Start
   start_of = loaded.before.before.before.before
 
-  file_given : file_answer start_of.args.text.now start_of.args.cells.now ≡ gives c.verdict.given.0.0
-  file_given = sym loaded.load-then-check.ensures.0 ∙ ap numbered_says c.verdict.given.1
+  file_given : file_answer start_of.args.text.now start_of.args.cells.now ≡ gives c.in-Number.n
+  file_given = sym loaded.load_then_check-verdict.ensures.0 ∙ ap numbered_says c.in-Number.is
 
-  file_holds : Holds start_of.args.text.now loaded.load-then-check.last.1.0 c.verdict.given.0.0
-  file_holds = holds _ _ _ file_given loaded.load-then-check.ensures.1 loaded.load-then-check.kept.1.0
+  file_holds : Holds start_of.args.text.now loaded.load_then_check-verdict.new.cells c.in-Number.n
+  file_holds = holds _ _ _ file_given loaded.load_then_check-verdict.ensures.1 loaded.load_then_check-verdict.kept.1.0
 
-load-then-check-requires : tie.Need-load-then-check-requires
-load-then-check-requires c κs = search rules
+load_then_check-verdict-requires : tie.Need-load_then_check-verdict-requires
+load_then_check-verdict-requires c κs = search rules
 
-enum-known-verdict : tie.Need-enum-known-verdict
-enum-known-verdict c = search rules
+enum_known-verdict : tie.Need-enum_known-verdict
+enum_known-verdict c = search rules
 
-enum_told : tie.Need-enum-told
-enum_told c = search rules
+enum_told-1 : tie.Need-enum_told-1
+enum_told-1 c = search rules
 
-failed-question-requires : tie.Need-failed-question-requires
-failed-question-requires c κs = search rules
+failed_question-requires : tie.Need-failed_question-requires
+failed_question-requires c κs = search rules
 
 noted-requires : tie.Need-noted-requires
 noted-requires c κs =
     let loaded = c.before.before.before.before.before in
-    let z = loaded.before.before.before.before in
-    let small = failed_small _ _ loaded.load-then-check.result loaded.load-then-check.ensures.0 c.failed-question.ensures in
+    let z = loaded in
+    let small = failed_small _ _ c.load_then_check-verdict.result c.load_then_check-verdict.ensures.0 c.failed_question.ensures in
     (z.requires.0, omega arith, omega arith)
 
-same_length : tie.Need-same-length
-same_length c = search rules
+shape_of-cells-in_default : tie.Need-shape_of-cells-in_default
+shape_of-cells-in_default c = search rules
 
-returns : tie.Need-returns
-returns c =
+returns-in_default : tie.Need-returns-in_default
+returns-in_default c =
     let m = c.before.before.before in
     let loaded = m.before.before.before in
-    let z = loaded.before.before.before.before in
-    let no = not_accepted loaded.load-then-check.result m.match.keys2 in (
+    let z = loaded in
+    let no = not_accepted m.load_then_check-verdict.result c.in_default.in_default-own.keys2 in (
       c.noted.ensures.0 _
-          ∙ begun_refused _ _ z.requires.1 _ no.by (sym loaded.load-then-check.ensures.0 ∙ no.says) _ (c.before.failed-question.ensures ∙ ap failed_number no.says),
-      (c.noted.ensures.1.0, (c.noted.ensures.1.1, loaded.load-then-check.ensures.1)),
+          ∙ begun_refused _ _ z.requires.1 _ no.by (sym m.load_then_check-verdict.ensures.0 ∙ no.says) _ (c.failed_question.ensures ∙ ap failed_number no.says),
+      (c.noted.ensures.1.0, (c.noted.ensures.1.1, m.load_then_check-verdict.ensures.1)),
     )
 
 onward-requires : tie.Need-onward-requires
@@ -65,27 +65,27 @@ onward-requires c κs =
     let z = (start_of v).requires in
     (z.0, o.0, o.1, omega arith)
 
-same-length-2 : tie.Need-same-length-2
-same-length-2 c = search rules
+shape_of-cells : tie.Need-shape_of-cells
+shape_of-cells c = search rules
 
-returns-2 : tie.Need-returns-2
-returns-2 c =
+returns : tie.Need-returns
+returns c =
     let v = c.before.before in (
-      c.onward.ensures.0 _ ∙ begun_accepted _ _ (start_of v).requires.1 _ _ (file_given v) (file_holds v),
-      (c.onward.ensures.1.0, (c.onward.ensures.1.1, (loaded v).load-then-check.ensures.1)),
+      c.onward.ensures.0 _ ∙ begun_accepted _ _ (start_of c.before).requires.1 _ _ (file_given v) (file_holds v),
+      (c.onward.ensures.1.0, (c.onward.ensures.1.1, (loaded c.before).load_then_check-verdict.ensures.1)),
     )
 
 pub begun_spec : {M : Type 1} → statement M
 begun_spec =
     tie.close
     (tie.spec
-    load-then-check-requires
-    enum-known-verdict
-    enum_told
-    failed-question-requires
+    load_then_check-verdict-requires
+    enum_known-verdict
+    enum_told-1
+    failed_question-requires
     noted-requires
-    same_length
-    returns
+    shape_of-cells-in_default
+    returns-in_default
     onward-requires
-    same-length-2
-    returns-2)
+    shape_of-cells
+    returns)

@@ -7,39 +7,39 @@ use borrow.Author.Rules.{rules}
 use Rattle.classification.proofs.compared.Statement.{statement}
 use Rattle.classification.proofs.compared.Tie as tie
 
-mul-size : tie.Need-overflow-mul-size
-mul-size c = omega (arith, square_small _ c.before.before.requires.3.filled.order.1)
+overflow_mul-size : tie.Need-overflow_mul-size
+overflow_mul-size c = omega (arith, square_small _ c.requires.3.filled.order.1)
 
-slice-aggregate-holds-like : tie.Need-slice-aggregate-holds-like
-slice-aggregate-holds-like c = search rules
+slice_bounds-holds_like-end : tie.Need-slice_bounds-holds_like-end
+slice_bounds-holds_like-end c = search rules
 
-holds-like-requires : tie.Need-holds-like-requires
-holds-like-requires c κs = search rules
+holds_like-requires : tie.Need-holds_like-requires
+holds_like-requires c κs = search rules
 
 noted-requires : tie.Need-noted-requires
 noted-requires c κs = search rules
 
-returns : tie.Need-returns
-returns c =
-    let z = c.before.before.before.before.before.before in
-    (c.noted.ensures.0 _ ∙ compared_same _ _ _ _ _ z.requires.3.filled.order.0 (sym c.before.before.holds-like.ensures ∙ c.before.if1.true), c.noted.ensures.1)
+returns-then-holds_like : tie.Need-returns-then-holds_like
+returns-then-holds_like c =
+    let z = c in
+    (c.noted.ensures.0 _ ∙ compared_same _ _ _ _ _ z.requires.3.filled.order.0 (sym c.holds_like.ensures ∙ c.if-holds_like.true), c.noted.ensures.1)
 
 onward-requires : tie.Need-onward-requires
 onward-requires c κs = search rules
 
-returns-2 : tie.Need-returns-2
-returns-2 c =
-    let z = c.before.before.before.before.before.before in
-    (c.onward.ensures.0 _ ∙ compared_other _ _ _ _ _ (sym c.before.before.holds-like.ensures ∙ c.before.if1.false), c.onward.ensures.1)
+returns : tie.Need-returns
+returns c =
+    let z = c.before in
+    (c.onward.ensures.0 _ ∙ compared_other _ _ _ _ _ (sym c.holds_like.ensures ∙ c.if-holds_like.false), c.onward.ensures.1)
 
 pub compared_spec : {M : Type 1} → statement M
 compared_spec =
     tie.close
     (tie.spec
-    mul-size
-    slice-aggregate-holds-like
-    holds-like-requires
+    overflow_mul-size
+    slice_bounds-holds_like-end
+    holds_like-requires
     noted-requires
-    returns
+    returns-then-holds_like
     onward-requires
-    returns-2)
+    returns)

@@ -4,11 +4,11 @@ use borrow.Author.Rules.{rules}
 use Rattle.classification.proofs.is_in.Statement.{statement}
 use Rattle.classification.proofs.is_in.Tie as tie
 
-returns : tie.Need-returns
-returns c = search rules
+returns-then-order-eq0 : tie.Need-returns-then-order-eq0
+returns-then-order-eq0 c = search rules
 
-returns-2 : tie.Need-returns-2
-returns-2 c = in_class_law _ _ c.if1.false _
+returns : tie.Need-returns
+returns c = in_class_law _ _ c.if-order-eq0.false _
 
 pub is_in_spec : {M : Type 1} → statement M
-is_in_spec = tie.close (tie.spec returns returns-2)
+is_in_spec = tie.close (tie.spec returns-then-order-eq0 returns)

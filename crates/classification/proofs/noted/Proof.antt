@@ -14,7 +14,7 @@ use Rattle.classification.proofs.noted.Tie as tie
 
 returns : tie.Need-returns
 returns c =
-    let s = c.before.before in
+    let s = c in
     let z = s.args.classifier in
     let p = s.requires.0 in
     let l : length z.orders ≡ 50 = search rules in

@@ -9,27 +9,27 @@ use borrow.Author.Rules.{rules}
 use Rattle.classification.proofs.put.Statement.{statement}
 use Rattle.classification.proofs.put.Tie as tie
 
-put-notes-requires : tie.Need-put-notes-requires
-put-notes-requires c κs = search rules
+put_notes-at-requires : tie.Need-put_notes-at-requires
+put_notes-at-requires c κs = search rules
 
-put-totals-requires : tie.Need-put-totals-requires
-put-totals-requires c κs =
-    let s = c.before.before.before.before.before.before.before.before.before in
+put_totals-requires : tie.Need-put_totals-requires
+put_totals-requires c κs =
+    let s = c in
     let z = s.args.classifier in
     let few = s.requires.0 in
     let size : length s.args.out.now ≡ 1700 = search rules in
-    let n = c.before.before.before.put-notes in
-    (few, omega (arith, n.ensures.0, n.auto.0, notes_short (notes_in z), length_from z.orders z.numbers z.count))
+    let n = c.put_notes-at in
+    (few, omega (arith, n.ensures.0, n.auto.out, notes_short (notes_in z), length_from z.orders z.numbers z.count))
 
 returns : tie.Need-returns
 returns c =
-    let s = c.before.before.before.before.before.before.before.before.before.before in
+    let s = c in
     let z = s.args.classifier in
     let few = s.requires.0 in
     let size : length s.args.out.now ≡ 1700 = search rules in
-    let n = c.before.before.before.before.put-notes.ensures in
-    let t = c.put-totals.ensures in
+    let n = c.put_notes-at.ensures in
+    let t = c.put_totals.ensures in
     text_written (notes_in z) s.args.out.now (omega (arith, length_from z.orders z.numbers z.count)) n.0 n.1 t.0 t.1
 
 pub put_spec : {M : Type 1} → statement M
-put_spec = tie.close (tie.spec put-notes-requires put-totals-requires returns)
+put_spec = tie.close (tie.spec put_notes-at-requires put_totals-requires returns)

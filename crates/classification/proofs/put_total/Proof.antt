@@ -9,71 +9,67 @@ use borrow.Author.Rules.{rules}
 use Rattle.classification.proofs.put_total.Statement.{statement}
 use Rattle.classification.proofs.put_total.Tie as tie
 
-sub-is-in : tie.Need-overflow-sub-is-in
-sub-is-in c = search rules
+overflow_sub-a : tie.Need-overflow_sub-a
+overflow_sub-a c = search rules
 
-element-copy-out-is-in : tie.Need-element-copy-out-is-in
-element-copy-out-is-in c = search rules
+bounds-orders-a : tie.Need-bounds-orders-a
+bounds-orders-a c = search rules
 
-sub-is-in-2 : tie.Need-overflow-sub-is-in-2
-sub-is-in-2 c = search rules
+overflow_sub-a-2 : tie.Need-overflow_sub-a-2
+overflow_sub-a-2 c = search rules
 
-element-copy-out-is-in-2 : tie.Need-element-copy-out-is-in-2
-element-copy-out-is-in-2 c = search rules
+bounds-numbers-a : tie.Need-bounds-numbers-a
+bounds-numbers-a c = search rules
 
-is-in-requires : tie.Need-is-in-requires
-is-in-requires c κs = search rules
+is_in-requires : tie.Need-is_in-requires
+is_in-requires c κs = search rules
 
-members-requires : tie.Need-members-requires
-members-requires c κs = search rules
+members-total-requires : tie.Need-members-total-requires
+members-total-requires c κs = search rules
 
-slice-aggregate-put-record : tie.Need-slice-aggregate-put-record
-slice-aggregate-put-record c = search rules
-
-put-record-requires : tie.Need-put-record-requires
-put-record-requires c κs =
-    let s = c.before.before.before.before.before.before.before.before in
+put_record-requires : tie.Need-put_record-requires
+put_record-requires c κs =
+    let s = c in
     let z = s.args in
     let p = s.requires.0 in
     let p0 = p.0 in
     let p2 = p.2 in
-    let m = c.before.before.members in
+    let m = c.members-total in
     let most = m.ensures.1 in
-    let e = total_is z.orders.now z.numbers.now z.count z.a (p.1, p.2) m.result (sym c.before.before.before.before.is-in.ensures ∙ c.before.before.before.if1.true) m.ensures.0 in
+    let e = total_is z.orders.now z.numbers.now z.count z.a (p.1, p.2) m.result (sym c.is_in.ensures ∙ c.if-is_in.true) m.ensures.0 in
     ((omega arith, omega arith), subst (λ (t : List ℕ). z.at + length t ≤ length z.out.now) (sym e) s.requires.1)
 
-same_length : tie.Need-same-length
-same_length c = search rules
+shape_of-out-then-is_in : tie.Need-shape_of-out-then-is_in
+shape_of-out-then-is_in c = search rules
+
+returns-then-is_in : tie.Need-returns-then-is_in
+returns-then-is_in c =
+    let s = c in
+    let z = s.args in
+    let p = s.requires.0 in
+    let m = c.members-total in
+    let l = c.put_record.ensures in
+    let e = total_is z.orders.now z.numbers.now z.count z.a (p.1, p.2) m.result (sym c.is_in.ensures ∙ c.if-is_in.true) m.ensures.0 in
+    total_put z.orders.now z.numbers.now z.count z.a (p.1, p.2) z.out.now z.at e l.0 l.1
 
 returns : tie.Need-returns
 returns c =
-    let s = c.before.before.before.before.before.before.before.before.before.before.before in
+    let s = c in
     let z = s.args in
     let p = s.requires.0 in
-    let m = c.before.before.before.before.before.members in
-    let l = c.before.before.put_record.ensures in
-    let e = total_is z.orders.now z.numbers.now z.count z.a (p.1, p.2) m.result (sym c.before.before.before.before.before.before.before.is-in.ensures ∙ c.before.before.before.before.before.before.if1.true) m.ensures.0 in
-    total_put z.orders.now z.numbers.now z.count z.a (p.1, p.2) z.out.now z.at e l.0 l.1
-
-returns-2 : tie.Need-returns-2
-returns-2 c =
-    let s = c.before.before.before.before.before in
-    let z = s.args in
-    let p = s.requires.0 in
-    total_kept z.orders.now z.numbers.now z.count z.a (p.1, p.2) z.out.now z.at (total_none z.orders.now z.numbers.now z.count z.a (p.1, p.2) (sym c.before.is-in.ensures ∙ c.if1.false))
+    total_kept z.orders.now z.numbers.now z.count z.a (p.1, p.2) z.out.now z.at (total_none z.orders.now z.numbers.now z.count z.a (p.1, p.2) (sym c.is_in.ensures ∙ c.if-is_in.false))
 
 pub put_total_spec : {M : Type 1} → statement M
 put_total_spec =
     tie.close
     (tie.spec
-    sub-is-in
-    element-copy-out-is-in
-    sub-is-in-2
-    element-copy-out-is-in-2
-    is-in-requires
-    members-requires
-    slice-aggregate-put-record
-    put-record-requires
-    same_length
-    returns
-    returns-2)
+    overflow_sub-a
+    bounds-orders-a
+    overflow_sub-a-2
+    bounds-numbers-a
+    is_in-requires
+    members-total-requires
+    put_record-requires
+    shape_of-out-then-is_in
+    returns-then-is_in
+    returns)

@@ -9,51 +9,51 @@ use Rattle.classification.proofs.Text.{totals_left, totals_begun, totals_room, t
 use Rattle.classification.proofs.put_totals.Statement.{statement}
 use Rattle.classification.proofs.put_totals.Tie as tie
 
-abbrev invariant-loop : tie.invariant-loop
-invariant-loop out₀ start orders numbers count at₀ a₀ out at a = Writing out₀ start (rows_text (total_records (notes_from orders numbers count))) (totals_left (notes_from orders numbers count) a) out at × (1 ≤ a) × (a ≤ count + 1)
+abbrev invariant-loop-a : tie.invariant-loop-a
+invariant-loop-a out₀ start orders numbers count at₀ a₀ out at a = Writing out₀ start (rows_text (total_records (notes_from orders numbers count))) (totals_left (notes_from orders numbers count) a) out at × (1 ≤ a) × (a ≤ count + 1)
 
-abbrev decreases-loop : tie.decreases-loop
-decreases-loop out₀ start orders numbers count at₀ a₀ out at a = count + 1 - a
+abbrev decreases-loop-a : tie.decreases-loop-a
+decreases-loop-a out₀ start orders numbers count at₀ a₀ out at a = count + 1 - a
 
-loop-holds : tie.Need-loop-init invariant-loop decreases-loop
-loop-holds c = let z = c.before.args in (totals_begun z.orders.now z.numbers.now z.count z.out.now z.start, omega arith, omega arith)
+loop-a-init : tie.Need-loop-a-init invariant-loop-a decreases-loop-a
+loop-a-init c = let z = c.args in (totals_begun z.orders.now z.numbers.now z.count z.out.now z.start, omega arith, omega arith)
 
-put-total-requires : tie.Need-put-total-requires invariant-loop decreases-loop
-put-total-requires c κs =
-    let h = c.before.loop-test.true in
-    let v = c.before.before.loop.invariant in
-    let s = c.before.before.before.before in
+put_total-at-requires : tie.Need-put_total-at-requires invariant-loop-a decreases-loop-a
+put_total-at-requires c κs =
+    let h = c.loop-a-test.true in
+    let v = c.loop-a.invariant in
+    let s = c in
     ((s.requires.0, v.1, h), totals_room s.args.orders.now s.args.numbers.now s.args.count h s.requires.1 v.0)
 
-add_a : tie.Need-overflow-add-a invariant-loop decreases-loop
-add_a c = let h = c.before.before.before.before.loop-test.true in let p = c.before.before.before.before.before.before.before.requires.0 in omega arith
+overflow_add-a : tie.Need-overflow_add-a invariant-loop-a decreases-loop-a
+overflow_add-a c = let h = c.loop-a-test.true in let p = c.requires.0 in omega arith
 
-loop-less : tie.Need-loop-smaller invariant-loop decreases-loop
-loop-less c = let h = c.before.before.before.before.loop-test.true in omega arith
+loop-a-smaller : tie.Need-loop-a-smaller invariant-loop-a decreases-loop-a
+loop-a-smaller c = let h = c.loop-a-test.true in omega arith
 
-loop-again : tie.Need-loop-preserved invariant-loop decreases-loop
-loop-again c =
-    let h = c.before.before.before.before.loop-test.true in
-    let v = c.before.before.before.before.before.loop.invariant in
-    let l = c.before.before.put-total.ensures in
+loop-a-preserved : tie.Need-loop-a-preserved invariant-loop-a decreases-loop-a
+loop-a-preserved c =
+    let h = c.loop-a-test.true in
+    let v = c.loop-a.invariant in
+    let l = c.put_total-at.ensures in
     (totals_next _ _ _ h v.0 l.0 l.1, omega arith, omega arith)
 
-same_length : tie.Need-same-length invariant-loop decreases-loop
-same_length c = write_length c.before.loop.invariant.0
+shape_of-out : tie.Need-shape_of-out invariant-loop-a decreases-loop-a
+shape_of-out c = write_length c.loop-a.invariant.0
 
-returns : tie.Need-returns invariant-loop decreases-loop
-returns c = let h = c.loop-test.false in totals_done _ _ _ h c.before.loop.invariant.0
+returns : tie.Need-returns invariant-loop-a decreases-loop-a
+returns c = let h = c.loop-a-test.false in totals_done _ _ _ h c.loop-a.invariant.0
 
 pub put_totals_spec : {M : Type 1} → statement M
 put_totals_spec =
     tie.close
     (tie.spec
-    invariant-loop
-    decreases-loop
-    loop-holds
-    put-total-requires
-    add_a
-    loop-less
-    loop-again
-    same_length
+    invariant-loop-a
+    decreases-loop-a
+    loop-a-init
+    put_total-at-requires
+    overflow_add-a
+    loop-a-smaller
+    loop-a-preserved
+    shape_of-out
     returns)

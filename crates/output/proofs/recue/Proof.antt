@@ -25,159 +25,151 @@ printed : (before : List ℕ) {text whole : List ℕ} → text ≡ whole → {p 
 printed before e q w = (q ∙ ap length e, w ∙ ap (λ (l : List ℕ). overwritten l before) e)
 
 -- What is known if the source is accepted.
-module _ (c : tie.After-first) where
-  abbrev source-loaded : tie.After-load-then-check
+module _ (c : tie.In-Number) where
+  abbrev source-loaded : tie.After-load_then_check-first
   source-loaded = c.before.before.before
 
   abbrev start_of : tie.Start
   start_of = source-loaded.before.before.before.before
 
-  source_given : file_answer start_of.args.source.now (replicate 14400 0) ≡ gives c.first.given.0.0
-  source_given = sym source-loaded.load-then-check.ensures.0 ∙ ap numbered_says c.first.given.1
+  source_given : file_answer start_of.args.source.now (replicate 14400 0) ≡ gives c.in-Number.m
+  source_given = sym source-loaded.load_then_check-first.ensures.0 ∙ ap numbered_says c.in-Number.is
 
   source_passes : file_refusal start_of.args.source.now room ≡ none
   source_passes = accepted_file _ _ _ source_given
 
-  source_holds : Holds start_of.args.source.now source-loaded.load-then-check.last.1.0 c.first.given.0.0
-  source_holds = holds _ _ _ source_given source-loaded.load-then-check.ensures.1 source-loaded.load-then-check.kept.1.0
+  source_holds : Holds start_of.args.source.now source-loaded.load_then_check-first.new.cells c.in-Number.m
+  source_holds = holds _ _ _ source_given source-loaded.load_then_check-first.ensures.1 source-loaded.load_then_check-first.kept.1.0
 
 -- What is known if the target is accepted too.
-module _ (c : tie.After-second) where
-  abbrev target-loaded : tie.After-load-then-check2
+module _ (c : tie.In-Number-second-2) where
+  abbrev target-loaded : tie.After-load_then_check-second
   target-loaded = c.before.before.before
 
   abbrev target_text : List ℕ
   target_text = (start_of target-loaded.before.before.before).args.target.now
 
-  target_given : file_answer target_text (replicate 14400 0) ≡ gives c.second.given.0.0
-  target_given = sym target-loaded.load-then-check2.ensures.0 ∙ ap numbered_says c.second.given.1
+  target_given : file_answer target_text (replicate 14400 0) ≡ gives c.in-Number-second.n
+  target_given = sym target-loaded.load_then_check-second.ensures.0 ∙ ap numbered_says c.in-Number-second.is
 
   target_passes : file_refusal target_text room ≡ none
   target_passes = accepted_file _ _ _ target_given
 
-  target_holds : Holds target_text target-loaded.load-then-check2.last.1.0 c.second.given.0.0
-  target_holds = holds _ _ _ target_given target-loaded.load-then-check2.ensures.1 target-loaded.load-then-check2.kept.1.0
+  target_holds : Holds target_text target-loaded.load_then_check-second.last.1.0 c.in-Number-second.n
+  target_holds = holds _ _ _ target_given target-loaded.load_then_check-second.ensures.1 target-loaded.load_then_check-second.kept.1.0
 
-slice-aggregate-load-then-check : tie.Need-slice-aggregate-load-then-check
-slice-aggregate-load-then-check c = search rules
+slice_bounds-load_then_check-end : tie.Need-slice_bounds-load_then_check-end
+slice_bounds-load_then_check-end c = search rules
 
-load-then-check-requires : tie.Need-load-then-check-requires
-load-then-check-requires c κs = search rules
+load_then_check-first-requires : tie.Need-load_then_check-first-requires
+load_then_check-first-requires c κs = search rules
 
-enum-known-first : tie.Need-enum-known-first
-enum-known-first c = search rules
+enum_known-first : tie.Need-enum_known-first
+enum_known-first c = search rules
 
-enum_told : tie.Need-enum-told
-enum_told c = search rules
+enum_told-1 : tie.Need-enum_told-1
+enum_told-1 c = search rules
 
-slice-aggregate-put-first : tie.Need-slice-aggregate-put-first
-slice-aggregate-put-first c = search rules
+failed_question-requires : tie.Need-failed_question-requires
+failed_question-requires c κs = search rules
 
-failed-question-requires : tie.Need-failed-question-requires
-failed-question-requires c κs = search rules
-
-put-first-requires : tie.Need-put-first-requires
-put-first-requires c κs =
-    let loading = c.before.before.before.before.before.before in
-    let small = failed_small _ _ loading.load-then-check.result loading.load-then-check.ensures.0 c.failed-question.ensures in
+put_first-requires : tie.Need-put_first-requires
+put_first-requires c κs =
+    let loading = c in
+    let small = failed_small _ _ loading.load_then_check-first.result loading.load_then_check-first.ensures.0 c.failed_question.ensures in
     ((omega arith, omega arith), search rules)
 
-returns : tie.Need-returns
-returns c =
+returns-in_default : tie.Need-returns-in_default
+returns-in_default c =
     let loading = c.before.before.before.before.before.before.before in
-    let z = loading.before.before.before.before in
-    let no = not_accepted loading.load-then-check.result c.before.before.before.before.before.match.keys2 in
-    let w = refused_written _ 1 _ no.by (c.before.failed-question.ensures ∙ ap failed_number no.says) (search rules) c.put_first.ensures.0 c.put_first.ensures.1 in
-    printed z.args.out.now (prints_source z.args.source.now z.args.target.now (replicate 14400 0) refl no.by (sym loading.load-then-check.ensures.0 ∙ no.says)) w.size w.text
+    let z = loading in
+    let no = not_accepted loading.load_then_check-first.result c.in_default.in_default-own.keys2 in
+    let w = refused_written _ 1 _ no.by (c.failed_question.ensures ∙ ap failed_number no.says) (search rules) c.put_first.ensures.0 c.put_first.ensures.1 in
+    printed z.args.out.now (prints_source z.args.source.now z.args.target.now (replicate 14400 0) refl no.by (sym loading.load_then_check-first.ensures.0 ∙ no.says)) w.size w.text
 
-slice-aggregate-load-then-check-2 : tie.Need-slice-aggregate-load-then-check-2
-slice-aggregate-load-then-check-2 c = search rules
+slice_bounds-load_then_check-end-2 : tie.Need-slice_bounds-load_then_check-end-2
+slice_bounds-load_then_check-end-2 c = search rules
 
-load-then-check-requires-2 : tie.Need-load-then-check-requires-2
-load-then-check-requires-2 c κs = search rules
+load_then_check-second-requires : tie.Need-load_then_check-second-requires
+load_then_check-second-requires c κs = search rules
 
-enum-known-second : tie.Need-enum-known-second
-enum-known-second c = search rules
+enum_known-second : tie.Need-enum_known-second
+enum_known-second c = search rules
 
-enum-told-2 : tie.Need-enum-told-2
-enum-told-2 c = search rules
+enum_told-in_default-second : tie.Need-enum_told-in_default-second
+enum_told-in_default-second c = search rules
 
-slice-aggregate-put-first-2 : tie.Need-slice-aggregate-put-first-2
-slice-aggregate-put-first-2 c = search rules
+failed_question-requires-in_default-second : tie.Need-failed_question-requires-in_default-second
+failed_question-requires-in_default-second c κs = search rules
 
-failed-question-requires-2 : tie.Need-failed-question-requires-2
-failed-question-requires-2 c κs = search rules
-
-put-first-requires-2 : tie.Need-put-first-requires-2
-put-first-requires-2 c κs =
-    let loading = c.before.before.before.before.before.before in
-    let small = failed_small _ _ loading.load-then-check2.result loading.load-then-check2.ensures.0 c.failed-question2.ensures in
+put_first-requires-in_default-second : tie.Need-put_first-requires-in_default-second
+put_first-requires-in_default-second c κs =
+    let loading = c in
+    let small = failed_small _ _ loading.load_then_check-second.result loading.load_then_check-second.ensures.0 c.failed_question-in_default-second.ensures in
     ((omega arith, omega arith), search rules)
 
-returns-2 : tie.Need-returns-2
-returns-2 c =
+returns-in_default-second : tie.Need-returns-in_default-second
+returns-in_default-second c =
     let loading = c.before.before.before.before.before.before.before in
     let first = loading.before.before.before in
-    let z = start_of first in
-    let no = not_accepted loading.load-then-check2.result c.before.before.before.before.before.match2.keys2 in
-    let w = refused_written _ 2 _ no.by (c.before.failed-question2.ensures ∙ ap failed_number no.says) (search rules) c.put-first2.ensures.0 c.put-first2.ensures.1 in
-    printed z.args.out.now (prints_target z.args.source.now z.args.target.now (replicate 14400 0) refl no.by (source_passes first) (sym loading.load-then-check2.ensures.0 ∙ no.says)) w.size w.text
+    let z = start_of loading.before.before in
+    let no = not_accepted loading.load_then_check-second.result c.in_default-second.keys2 in
+    let w = refused_written _ 2 _ no.by (c.failed_question-in_default-second.ensures ∙ ap failed_number no.says) (search rules) c.put_first-in_default-second.ensures.0 c.put_first-in_default-second.ensures.1 in
+    printed z.args.out.now (prints_target z.args.source.now z.args.target.now (replicate 14400 0) refl no.by (source_passes first) (sym loading.load_then_check-second.ensures.0 ∙ no.says)) w.size w.text
 
-mul-source-size : tie.Need-overflow-mul-source-size
-mul-source-size c = omega (arith, square_small _ (source_holds c.before.before.before.before.before.before.before).small)
+overflow_mul-source_size : tie.Need-overflow_mul-source_size
+overflow_mul-source_size c = omega (arith, square_small _ (source_holds c.before.before.before.before.before.before.before).small)
 
-mul-target-size : tie.Need-overflow-mul-target-size
-mul-target-size c = omega (arith, square_small _ (target_holds c.before).small)
+overflow_mul-target_size : tie.Need-overflow_mul-target_size
+overflow_mul-target_size c = omega (arith, square_small _ (target_holds c.before).small)
 
-array-share-prefix-source-cells : tie.Need-array-share-prefix-source-cells
-array-share-prefix-source-cells c = (source_holds c.before.before.before.before.before.before.before.before).room
+slice_bounds-source_cells-end : tie.Need-slice_bounds-source_cells-end
+slice_bounds-source_cells-end c = (source_holds c.before.before.before.before.before.before.before.before).room
 
-slice-aggregate-put-answer : tie.Need-slice-aggregate-put-answer
-slice-aggregate-put-answer c = sym (length-take-le _ _ (source_holds c.before.before.before.before.before.before.before.before.before).room)
+slice_bounds-put_answer-end : tie.Need-slice_bounds-put_answer-end
+slice_bounds-put_answer-end c = sym (length-take-le _ _ (source_holds c.before.before.before.before.before.before.before.before.before).room)
 
-array-share-prefix-target-cells : tie.Need-array-share-prefix-target-cells
-array-share-prefix-target-cells c = (target_holds c.before.before.before).room
+slice_bounds-target_cells-end : tie.Need-slice_bounds-target_cells-end
+slice_bounds-target_cells-end c = (target_holds c.before.before.before).room
 
-slice-aggregate-put-answer-2 : tie.Need-slice-aggregate-put-answer-2
-slice-aggregate-put-answer-2 c = sym (length-take-le _ _ (target_holds c.before.before.before.before).room)
+slice_bounds-put_answer-end-2 : tie.Need-slice_bounds-put_answer-end-2
+slice_bounds-put_answer-end-2 c = sym (length-take-le _ _ (target_holds c.before.before.before.before).room)
 
-put-answer-requires : tie.Need-put-answer-requires
-put-answer-requires c κs =
+put_answer-requires : tie.Need-put_answer-requires
+put_answer-requires c κs =
     let second = c.before.before.before.before in
     ((source_holds second.before.before.before.before.before.before).table, (target_holds second).table)
 
-returns-3 : tie.Need-returns-3
-returns-3 c =
+returns : tie.Need-returns
+returns c =
     let second = c.before.before.before.before.before in
     let first = second.before.before.before.before.before.before in
-    let z = start_of first in
-    printed z.args.out.now (prints_answer z.args.source.now z.args.target.now (source_passes first) (target_passes second) (source_holds first) (target_holds second)) c.put-answer.ensures.0 c.put-answer.ensures.1
+    let z = start_of second.before.before.before in
+    printed z.args.out.now (prints_answer z.args.source.now z.args.target.now (source_passes first) (target_passes second) (source_holds first) (target_holds second)) c.put_answer.ensures.0 c.put_answer.ensures.1
 
 pub recue_spec : {M : Type 1} → statement M
 recue_spec =
     tie.close
     (tie.spec
-    slice-aggregate-load-then-check
-    load-then-check-requires
-    enum-known-first
-    enum_told
-    slice-aggregate-put-first
-    failed-question-requires
-    put-first-requires
-    returns
-    slice-aggregate-load-then-check-2
-    load-then-check-requires-2
-    enum-known-second
-    enum-told-2
-    slice-aggregate-put-first-2
-    failed-question-requires-2
-    put-first-requires-2
-    returns-2
-    mul-source-size
-    mul-target-size
-    array-share-prefix-source-cells
-    slice-aggregate-put-answer
-    array-share-prefix-target-cells
-    slice-aggregate-put-answer-2
-    put-answer-requires
-    returns-3)
+    slice_bounds-load_then_check-end
+    load_then_check-first-requires
+    enum_known-first
+    enum_told-1
+    failed_question-requires
+    put_first-requires
+    returns-in_default
+    slice_bounds-load_then_check-end-2
+    load_then_check-second-requires
+    enum_known-second
+    enum_told-in_default-second
+    failed_question-requires-in_default-second
+    put_first-requires-in_default-second
+    returns-in_default-second
+    overflow_mul-source_size
+    overflow_mul-target_size
+    slice_bounds-source_cells-end
+    slice_bounds-put_answer-end
+    slice_bounds-target_cells-end
+    slice_bounds-put_answer-end-2
+    put_answer-requires
+    returns)

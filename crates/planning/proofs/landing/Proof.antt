@@ -8,51 +8,51 @@ use Rattle.planning.proofs.Points.{Left, left_begin, left_next, left_image}
 use Rattle.planning.proofs.landing.Statement.{statement}
 use Rattle.planning.proofs.landing.Tie as tie
 
-abbrev invariant-loop : tie.invariant-loop
-invariant-loop degree k x rest₀ point₀ rest point = (h : Element (transformation_order degree) k) → Left degree k h x rest point
+abbrev invariant-loop-point : tie.invariant-loop-point
+invariant-loop-point degree k x rest₀ point₀ rest point = (h : Element (transformation_order degree) k) → Left degree k h x rest point
 
-abbrev decreases-loop : tie.decreases-loop
-decreases-loop degree k x rest₀ point₀ rest point = point - x
+abbrev decreases-loop-point : tie.decreases-loop-point
+decreases-loop-point degree k x rest₀ point₀ rest point = point - x
 
-sub-rest : tie.Need-overflow-sub-rest invariant-loop decreases-loop
-sub-rest c = c.requires.1.0.0
+overflow_sub-rest : tie.Need-overflow_sub-rest invariant-loop-point decreases-loop-point
+overflow_sub-rest c = c.requires.1.0.0
 
-loop-holds : tie.Need-loop-init invariant-loop decreases-loop
-loop-holds c = λ h. left_begin _ _ h _ c.requires.1.1
+loop-point-init : tie.Need-loop-point-init invariant-loop-point decreases-loop-point
+loop-point-init c = λ h. left_begin _ _ h _ c.requires.1.1
 
-div-rest : tie.Need-nonzero-div-rest invariant-loop decreases-loop
-div-rest c = let d = c.before.before.requires.0 in omega arith
+nonzero_div-rest : tie.Need-nonzero_div-rest invariant-loop-point decreases-loop-point
+nonzero_div-rest c = let d = c.requires.0 in omega arith
 
-sub-point : tie.Need-overflow-sub-point invariant-loop decreases-loop
-sub-point c = let t = c.loop-test.true in omega arith
+overflow_sub-point : tie.Need-overflow_sub-point invariant-loop-point decreases-loop-point
+overflow_sub-point c = let t = c.loop-point-test.true in omega arith
 
-loop-less : tie.Need-loop-smaller invariant-loop decreases-loop
-loop-less c = let t = c.loop-test.true in omega arith
+loop-point-smaller : tie.Need-loop-point-smaller invariant-loop-point decreases-loop-point
+loop-point-smaller c = let t = c.loop-point-test.true in omega arith
 
-loop-again : tie.Need-loop-preserved invariant-loop decreases-loop
-loop-again c = λ h. left_next _ _ h _ _ _ c.before.before.requires.1.1 (c.before.loop.invariant h) c.loop-test.true
+loop-point-preserved : tie.Need-loop-point-preserved invariant-loop-point decreases-loop-point
+loop-point-preserved c = λ h. left_next _ _ h _ _ _ c.requires.1.1 (c.loop-point.invariant h) c.loop-point-test.true
 
-rem-result : tie.Need-nonzero-rem-result invariant-loop decreases-loop
-rem-result c = let d = c.before.before.requires.0 in omega arith
+nonzero_rem-result : tie.Need-nonzero_rem-result invariant-loop-point decreases-loop-point
+nonzero_rem-result c = let d = c.requires.0 in omega arith
 
-add-result : tie.Need-overflow-add-result invariant-loop decreases-loop
-add-result c = let d = c.before.before.requires.0 in let b = mod-lt c.before.loop.rest (let z : 0 < c.before.before.args.degree = omega arith in z) in omega arith
+overflow_add-result : tie.Need-overflow_add-result invariant-loop-point decreases-loop-point
+overflow_add-result c = let d = c.requires.0 in let b = mod-lt c.loop-point.rest (let z : 0 < c.args.degree = omega arith in z) in omega arith
 
-returns : tie.Need-returns invariant-loop decreases-loop
-returns c = let p = c.before.before.requires.1 in left_image _ _ p.0 _ _ _ p.1 (c.before.loop.invariant p.0) c.loop-test.false
+returns : tie.Need-returns invariant-loop-point decreases-loop-point
+returns c = let p = c.requires.1 in left_image _ _ p.0 _ _ _ p.1 (c.loop-point.invariant p.0) c.loop-point-test.false
 
 pub landing_spec : {M : Type 1} → statement M
 landing_spec =
     tie.close
     (tie.spec
-    invariant-loop
-    decreases-loop
-    sub-rest
-    loop-holds
-    div-rest
-    sub-point
-    loop-less
-    loop-again
-    rem-result
-    add-result
+    invariant-loop-point
+    decreases-loop-point
+    overflow_sub-rest
+    loop-point-init
+    nonzero_div-rest
+    overflow_sub-point
+    loop-point-smaller
+    loop-point-preserved
+    nonzero_rem-result
+    overflow_add-result
     returns)

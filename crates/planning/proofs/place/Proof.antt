@@ -9,86 +9,86 @@ use Rattle.planning.proofs.Trying.{told_found, told_none, Trying, try_begin, deg
 use Rattle.planning.proofs.place.Statement.{statement}
 use Rattle.planning.proofs.place.Tie as tie
 
-abbrev invariant-loop : tie.invariant-loop
-invariant-loop cells m image₀ positions₀ degree₀ image positions degree = Trying m (product m cells) image₀ positions₀ degree image positions
+abbrev invariant-loop-degree : tie.invariant-loop-degree
+invariant-loop-degree cells m image₀ positions₀ degree₀ image positions degree = Trying m (product m cells) image₀ positions₀ degree image positions
 
-abbrev decreases-loop : tie.decreases-loop
-decreases-loop cells m image₀ positions₀ degree₀ image positions degree = 4 - degree
+abbrev decreases-loop-degree : tie.decreases-loop-degree
+decreases-loop-degree cells m image₀ positions₀ degree₀ image positions degree = 4 - degree
 
-loop-holds : tie.Need-loop-init invariant-loop decreases-loop
-loop-holds c = try_begin _ _ _ _
+loop-degree-init : tie.Need-loop-degree-init invariant-loop-degree decreases-loop-degree
+loop-degree-init c = try_begin _ _ _ _
 
-fits-requires : tie.Need-fits-requires invariant-loop decreases-loop
+fits-requires : tie.Need-fits-requires invariant-loop-degree decreases-loop-degree
 fits-requires c κs =
-    let l = c.before.before in
-    let p = l.before.before.before.before.requires in
-    (p.0, (p.1.0, (degree_tried _ _ _ _ _ _ _ l.loop.invariant c.before.loop-test.true, image_size _ _ _ _ _ _ _ l.loop.invariant p.1.1.0)))
+    let l = c in
+    let p = l.requires in
+    (p.0, (p.1.0, (degree_tried _ _ _ _ _ _ _ l.loop-degree.invariant c.loop-degree-test.true, image_size _ _ _ _ _ _ _ l.loop-degree.invariant p.1.1.0)))
 
-write-positions-requires : tie.Need-write-positions-requires invariant-loop decreases-loop
-write-positions-requires c κs =
+write_positions-requires : tie.Need-write_positions-requires invariant-loop-degree decreases-loop-degree
+write_positions-requires c κs =
     let t = c.before.before in
     let f = t.before.before.before in
     let i = f.before.before in
-    let l = i.before in
-    let p = l.before.before.before.before.requires in
-    (p.0.filled.order.1, (degree_tried _ _ _ _ _ _ _ l.loop.invariant i.loop-test.true, (first_list _ _ _ _ (told_found _ _ _ f.fits2.ensures.0 t.if1.true), room_still _ _ _ _ _ _ _ l.loop.invariant p.1.1.1)))
+    let l = i in
+    let p = l.requires in
+    (p.0.filled.order.1, (degree_tried _ _ _ _ _ _ _ l.loop-degree.invariant f.loop-degree-test.true, (first_list _ _ _ _ (told_found _ _ _ c.fits2.ensures.0 t.if-fits.true), room_still _ _ _ _ _ _ _ l.loop-degree.invariant p.1.1.1)))
 
-same_length : tie.Need-same-length invariant-loop decreases-loop
-same_length c =
+shape_of-image-then-fits : tie.Need-shape_of-image-then-fits invariant-loop-degree decreases-loop-degree
+shape_of-image-then-fits c =
     let f = c.before.before.before.before.before.before.before.before in
-    let l = f.before.before.before in
-    f.fits2.auto.1.1.1.0 ∙ ap length l.loop.invariant.image_kept
+    let l = f in
+    c.fits2.auto.1.1.1.0 ∙ ap length l.loop-degree.invariant.image_kept
 
-same-length-2 : tie.Need-same-length-2 invariant-loop decreases-loop
-same-length-2 c =
+shape_of-positions-then-fits : tie.Need-shape_of-positions-then-fits invariant-loop-degree decreases-loop-degree
+shape_of-positions-then-fits c =
     let w = c.before.before in
-    let l = w.before.before.before.before.before.before.before.before.before in
-    w.write-positions.auto.1.1.1.0 ∙ ap length l.loop.invariant.unwritten
+    let l = w in
+    w.write_positions.auto.positions.1.1.0 ∙ ap length l.loop-degree.invariant.unwritten
 
-returns : tie.Need-returns invariant-loop decreases-loop
-returns c =
+returns-then-fits : tie.Need-returns-then-fits invariant-loop-degree decreases-loop-degree
+returns-then-fits c =
     let w = c.before.before in
     let t = w.before.before.before in
     let f = t.before.before.before in
-    let i = f.before.before in
-    try_hit _ _ _ _ _ _ _ i.before.loop.invariant i.loop-test.true _ (told_found _ _ _ f.fits2.ensures.0 t.if1.true) _ w.write-positions.ensures
+    let i = f in
+    try_hit _ _ _ _ _ _ _ i.loop-degree.invariant i.loop-degree-test.true _ (told_found _ _ _ c.fits2.ensures.0 t.if-fits.true) _ w.write_positions.ensures
 
-add-degree : tie.Need-overflow-add-degree invariant-loop decreases-loop
-add-degree c = let t = c.before.before.before.before.before.loop-test.true in omega arith
+overflow_add-degree : tie.Need-overflow_add-degree invariant-loop-degree decreases-loop-degree
+overflow_add-degree c = let t = c.loop-degree-test.true in omega arith
 
-loop-less : tie.Need-loop-smaller invariant-loop decreases-loop
-loop-less c = let t = c.before.before.before.before.before.loop-test.true in omega arith
+loop-degree-smaller : tie.Need-loop-degree-smaller invariant-loop-degree decreases-loop-degree
+loop-degree-smaller c = let t = c.loop-degree-test.true in omega arith
 
-loop-again : tie.Need-loop-preserved invariant-loop decreases-loop
-loop-again c =
+loop-degree-preserved : tie.Need-loop-degree-preserved invariant-loop-degree decreases-loop-degree
+loop-degree-preserved c =
     let f = c.before.before.before in
-    let i = f.before.before in
-    try_next _ _ _ _ _ _ _ i.before.loop.invariant i.loop-test.true (told_none _ _ _ f.fits2.ensures.0 c.if1.false) _ f.fits2.ensures.1
+    let i = f in
+    try_next _ _ _ _ _ _ _ i.loop-degree.invariant i.loop-degree-test.true (told_none _ _ _ c.fits2.ensures.0 c.if-fits.false) _ f.fits2.ensures.1
 
-same-length-3 : tie.Need-same-length-3 invariant-loop decreases-loop
-same-length-3 c = ap length c.before.loop.invariant.image_kept
+shape_of-image : tie.Need-shape_of-image invariant-loop-degree decreases-loop-degree
+shape_of-image c = ap length c.loop-degree.invariant.image_kept
 
-same-length-4 : tie.Need-same-length-4 invariant-loop decreases-loop
-same-length-4 c = ap length c.before.loop.invariant.unwritten
+shape_of-positions : tie.Need-shape_of-positions invariant-loop-degree decreases-loop-degree
+shape_of-positions c = ap length c.loop-degree.invariant.unwritten
 
-returns-2 : tie.Need-returns-2 invariant-loop decreases-loop
-returns-2 c = try_end _ _ _ _ _ _ _ c.before.loop.invariant c.loop-test.false
+returns : tie.Need-returns invariant-loop-degree decreases-loop-degree
+returns c = try_end _ _ _ _ _ _ _ c.loop-degree.invariant c.loop-degree-test.false
 
 pub place_spec : {M : Type 1} → statement M
 place_spec =
     tie.close
     (tie.spec
-    invariant-loop
-    decreases-loop
-    loop-holds
+    invariant-loop-degree
+    decreases-loop-degree
+    loop-degree-init
     fits-requires
-    write-positions-requires
-    same_length
-    same-length-2
-    returns
-    add-degree
-    loop-less
-    loop-again
-    same-length-3
-    same-length-4
-    returns-2)
+    write_positions-requires
+    shape_of-image-then-fits
+    shape_of-positions-then-fits
+    returns-then-fits
+    overflow_add-degree
+    loop-degree-smaller
+    loop-degree-preserved
+    shape_of-image
+    shape_of-positions
+    returns)

@@ -16,82 +16,82 @@ module _ (s : tie.Start) where
   lent = let a = s.args in lend a.source.now a.m a.target.now a.n a.map.now a.scratch.now
 
 -- What is known once no question has failed.
-passed : (c : tie.After-enum-told) → refusal_of (lent c.before.before.before.before.before.before.before) ≡ none
-passed c = sym c.before.before.ask.ensures ∙ ap questions_refusal c.enum_told.given.1
+passed : (c : tie.In_default) → refusal_of (lent c.before.before.before.before.before.before) ≡ none
+passed c = sym c.ask-asked.ensures ∙ ap questions_refusal c.in_default.is
 
-ask-requires : tie.Need-ask-requires
-ask-requires c κs = search rules
+ask-asked-requires : tie.Need-ask-asked-requires
+ask-asked-requires c κs = search rules
 
-enum-known-asked : tie.Need-enum-known-asked
-enum-known-asked c = search rules
+enum_known-asked : tie.Need-enum_known-asked
+enum_known-asked c = search rules
+
+returns-in-Failed : tie.Need-returns-in-Failed
+returns-in-Failed c = let s = c.before.before in sym (refused_unchanged (kind_of s.args.kind) s.args.limit (lent s.before.before.before.before) _ (sym c.ask-asked.ensures ∙ ap questions_refusal c.in-Failed.is))
+
+enum_told-1 : tie.Need-enum_told-1
+enum_told-1 c = search rules
+
+search_kind-result-requires : tie.Need-search_kind-result-requires
+search_kind-result-requires c κs = let p = c.before.before in stands (lent p.before.before.before.before.before.before) (passed p)
+
+shape_of-map-then-result : tie.Need-shape_of-map-then-result
+shape_of-map-then-result c = search rules
+
+shape_of-scratch-then-result : tie.Need-shape_of-scratch-then-result
+shape_of-scratch-then-result c = search rules
+
+returns-then-result : tie.Need-returns-then-result
+returns-then-result c =
+    let w = c.before.before.before.before.before in
+    let s = w.before in
+    as_limited (kind_of s.args.kind) s.args.limit (lent s.before.before.before.before.before.before.before.before) (passed w.before.before.before) w.search_kind-result.result w.search_kind-result.ensures true _ c.if-result.true refl
+
+overflow_sub-trials : tie.Need-overflow_sub-trials
+overflow_sub-trials c =
+    let w = c.before.before.before.before.before.before in
+    let s = w.before in
+    left_within (kind_of s.args.kind) s.args.limit (lent s.before.before.before.before.before.before.before.before) (passed w.before.before.before) w.search_kind-result.result w.search_kind-result.ensures
+
+shape_of-map-then-result-2 : tie.Need-shape_of-map-then-result-2
+shape_of-map-then-result-2 c = search rules
+
+shape_of-scratch-then-result-2 : tie.Need-shape_of-scratch-then-result-2
+shape_of-scratch-then-result-2 c = search rules
+
+returns-then-result-2 : tie.Need-returns-then-result-2
+returns-then-result-2 c =
+    let w = c.before.before.before.before.before.before.before in
+    let s = w.before in
+    as_limited (kind_of s.args.kind) s.args.limit (lent s.before.before.before.before.before.before.before.before) (passed w.before.before.before) w.search_kind-result.result w.search_kind-result.ensures false true c.if-result.false c.if-result-2.true
+
+shape_of-map : tie.Need-shape_of-map
+shape_of-map c = search rules
+
+shape_of-scratch : tie.Need-shape_of-scratch
+shape_of-scratch c = search rules
 
 returns : tie.Need-returns
-returns c = let s = c.before.before.before.before.before.before.before.before in sym (refused_unchanged (kind_of s.args.kind) s.args.limit (lent s) _ (sym c.before.before.before.ask.ensures ∙ ap questions_refusal c.before.asked.given.1))
-
-enum_told : tie.Need-enum-told
-enum_told c = search rules
-
-search-kind-requires : tie.Need-search-kind-requires
-search-kind-requires c κs = let p = c.before.before in stands (lent p.before.before.before.before.before.before.before) (passed p)
-
-same_length : tie.Need-same-length
-same_length c = search rules
-
-same-length-2 : tie.Need-same-length-2
-same-length-2 c = search rules
-
-returns-2 : tie.Need-returns-2
-returns-2 c =
-    let w = c.before.before.before.before.before in
-    let s = w.before.before.before.before.before.before.before.before.before.before in
-    as_limited (kind_of s.args.kind) s.args.limit (lent s) (passed w.before.before.before) w.search-kind.result w.search-kind.ensures true _ c.if1.true refl
-
-sub-trials : tie.Need-overflow-sub-trials
-sub-trials c =
-    let w = c.before.before.before.before.before.before in
-    let s = w.before.before.before.before.before.before.before.before.before.before in
-    left_within (kind_of s.args.kind) s.args.limit (lent s) (passed w.before.before.before) w.search-kind.result w.search-kind.ensures
-
-same-length-3 : tie.Need-same-length-3
-same-length-3 c = search rules
-
-same-length-4 : tie.Need-same-length-4
-same-length-4 c = search rules
-
-returns-3 : tie.Need-returns-3
-returns-3 c =
+returns c =
     let w = c.before.before.before.before.before.before.before in
-    let s = w.before.before.before.before.before.before.before.before.before.before in
-    as_limited (kind_of s.args.kind) s.args.limit (lent s) (passed w.before.before.before) w.search-kind.result w.search-kind.ensures false true c.before.before.if1.false c.if2.true
-
-same-length-5 : tie.Need-same-length-5
-same-length-5 c = search rules
-
-same-length-6 : tie.Need-same-length-6
-same-length-6 c = search rules
-
-returns-4 : tie.Need-returns-4
-returns-4 c =
-    let w = c.before.before.before.before.before.before.before in
-    let s = w.before.before.before.before.before.before.before.before.before.before in
-    as_limited (kind_of s.args.kind) s.args.limit (lent s) (passed w.before.before.before) w.search-kind.result w.search-kind.ensures false false c.before.before.if1.false c.if2.false
+    let s = w.before in
+    as_limited (kind_of s.args.kind) s.args.limit (lent s.before.before.before.before.before.before.before.before) (passed w.before.before.before) w.search_kind-result.result w.search_kind-result.ensures false false c.if-result.false c.if-result-2.false
 
 pub first_within_spec : {M : Type 1} → statement M
 first_within_spec =
     tie.close
     (tie.spec
-    ask-requires
-    enum-known-asked
-    returns
-    enum_told
-    search-kind-requires
-    same_length
-    same-length-2
-    returns-2
-    sub-trials
-    same-length-3
-    same-length-4
-    returns-3
-    same-length-5
-    same-length-6
-    returns-4)
+    ask-asked-requires
+    enum_known-asked
+    returns-in-Failed
+    enum_told-1
+    search_kind-result-requires
+    shape_of-map-then-result
+    shape_of-scratch-then-result
+    returns-then-result
+    overflow_sub-trials
+    shape_of-map-then-result-2
+    shape_of-scratch-then-result-2
+    returns-then-result-2
+    shape_of-map
+    shape_of-scratch
+    returns)

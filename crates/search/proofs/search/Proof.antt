@@ -14,62 +14,62 @@ module _ (s : tie.Start) where
   lent = let a = s.args in lend a.source.now a.m a.target.now a.n a.map.now a.scratch.now
 
 -- What is known once no question has failed.
-passed : (c : tie.After-enum-told) → refusal_of (lent c.before.before.before.before.before.before.before) ≡ none
-passed c = sym c.before.before.ask.ensures ∙ ap questions_refusal c.enum_told.given.1
+passed : (c : tie.In_default) → refusal_of (lent c.before.before.before.before.before.before) ≡ none
+passed c = sym c.ask-asked.ensures ∙ ap questions_refusal c.in_default.is
 
-ask-requires : tie.Need-ask-requires
-ask-requires c κs = search rules
+ask-asked-requires : tie.Need-ask-asked-requires
+ask-asked-requires c κs = search rules
 
-enum-known-asked : tie.Need-enum-known-asked
-enum-known-asked c = search rules
+enum_known-asked : tie.Need-enum_known-asked
+enum_known-asked c = search rules
 
-returns : tie.Need-returns
-returns c = let s = c.before.before.before.before.before.before.before.before in sym (refused_unchanged (kind_of s.args.kind) (lent s) _ _ (sym c.before.before.before.ask.ensures ∙ ap questions_refusal c.before.asked.given.1))
+returns-in-Failed : tie.Need-returns-in-Failed
+returns-in-Failed c = let s = c.before.before in sym (refused_unchanged (kind_of s.args.kind) (lent s.before.before.before.before) _ _ (sym c.ask-asked.ensures ∙ ap questions_refusal c.in-Failed.is))
 
-enum_told : tie.Need-enum-told
-enum_told c = search rules
+enum_told-1 : tie.Need-enum_told-1
+enum_told-1 c = search rules
 
 find-requires : tie.Need-find-requires
-find-requires c κs = let p = c.before.before in stands (lent p.before.before.before.before.before.before.before) (passed p)
+find-requires c κs = let p = c.before.before in stands (lent p.before.before.before.before.before.before) (passed p)
 
-same_length : tie.Need-same-length
-same_length c = search rules
+shape_of-map-then-find : tie.Need-shape_of-map-then-find
+shape_of-map-then-find c = search rules
 
-same-length-2 : tie.Need-same-length-2
-same-length-2 c = search rules
+shape_of-scratch-then-find : tie.Need-shape_of-scratch-then-find
+shape_of-scratch-then-find c = search rules
 
-returns-2 : tie.Need-returns-2
-returns-2 c =
+returns-then-find : tie.Need-returns-then-find
+returns-then-find c =
     let f = c.before.before.before.before.before in
     let p = f.before.before.before in
-    let s = p.before.before.before.before.before.before.before in
-    passing (kind_of s.args.kind) (lent s) _ (passed p) f.find.result _ c.if1.true f.find.ensures
+    let s = p.before in
+    passing (kind_of s.args.kind) (lent s.before.before.before.before.before) _ (passed p) f.find.result _ c.if-find.true f.find.ensures
 
-same-length-3 : tie.Need-same-length-3
-same-length-3 c = search rules
+shape_of-map : tie.Need-shape_of-map
+shape_of-map c = search rules
 
-same-length-4 : tie.Need-same-length-4
-same-length-4 c = search rules
+shape_of-scratch : tie.Need-shape_of-scratch
+shape_of-scratch c = search rules
 
-returns-3 : tie.Need-returns-3
-returns-3 c =
+returns : tie.Need-returns
+returns c =
     let f = c.before.before.before.before.before in
     let p = f.before.before.before in
-    let s = p.before.before.before.before.before.before.before in
-    passing (kind_of s.args.kind) (lent s) _ (passed p) f.find.result _ c.if1.false f.find.ensures
+    let s = p.before in
+    passing (kind_of s.args.kind) (lent s.before.before.before.before.before) _ (passed p) f.find.result _ c.if-find.false f.find.ensures
 
 pub search_spec : {M : Type 1} → statement M
 search_spec =
     tie.close
     (tie.spec
-    ask-requires
-    enum-known-asked
-    returns
-    enum_told
+    ask-asked-requires
+    enum_known-asked
+    returns-in-Failed
+    enum_told-1
     find-requires
-    same_length
-    same-length-2
-    returns-2
-    same-length-3
-    same-length-4
-    returns-3)
+    shape_of-map-then-find
+    shape_of-scratch-then-find
+    returns-then-find
+    shape_of-map
+    shape_of-scratch
+    returns)

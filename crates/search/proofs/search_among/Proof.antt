@@ -15,66 +15,66 @@ module _ (s : tie.Start) where
   lent = let a = s.args in lend a.source.now a.m a.target.now a.n a.map.now a.scratch.now
 
 -- What is known once no question has failed.
-module _ (c : tie.After-enum-told) where
+module _ (c : tie.In_default) where
   abbrev start : tie.Start
-  start = c.before.before.before.before.before.before.before.before
+  start = c.before.before.before.before.before.before.before
 
   passed : refusal_among start.args.pairs.now (lent start) ≡ none
-  passed = sym c.before.before.ask-among.ensures ∙ ap questions_refusal c.enum_told.given.1
+  passed = sym c.ask_among-asked.ensures ∙ ap questions_refusal c.in_default.is
 
-ask-among-requires : tie.Need-ask-among-requires
-ask-among-requires c κs = search rules
+ask_among-asked-requires : tie.Need-ask_among-asked-requires
+ask_among-asked-requires c κs = search rules
 
-enum-known-asked : tie.Need-enum-known-asked
-enum-known-asked c = search rules
+enum_known-asked : tie.Need-enum_known-asked
+enum_known-asked c = search rules
+
+returns-in-Failed : tie.Need-returns-in-Failed
+returns-in-Failed c =
+    let s = c.before.before in
+    sym (refused_among _ s.args.pairs.now (lent s.before.before.before.before.before) _ (sym c.ask_among-asked.ensures ∙ ap questions_refusal c.in-Failed.is))
+
+enum_told-1 : tie.Need-enum_told-1
+enum_told-1 c = search rules
+
+find_among-requires : tie.Need-find_among-requires
+find_among-requires c κs = let p = c.before.before in stands_among (start p).args.pairs.now (lent (start p)) (passed p)
+
+shape_of-map-then-not-find_among : tie.Need-shape_of-map-then-not-find_among
+shape_of-map-then-not-find_among c = search rules
+
+shape_of-scratch-then-not-find_among : tie.Need-shape_of-scratch-then-not-find_among
+shape_of-scratch-then-not-find_among c = search rules
+
+returns-then-not-find_among : tie.Need-returns-then-not-find_among
+returns-then-not-find_among c =
+    let f = c.before.before.before.before.before in
+    let p = f.before.before.before in
+    passing_among _ (start p).args.pairs.now (lent (start p)) (passed p) f.find_among.result _ (c.if-not-find_among.true) f.find_among.ensures
+
+shape_of-map : tie.Need-shape_of-map
+shape_of-map c = search rules
+
+shape_of-scratch : tie.Need-shape_of-scratch
+shape_of-scratch c = search rules
 
 returns : tie.Need-returns
 returns c =
-    let s = c.before.before.before.before.before.before.before.before.before in
-    sym (refused_among _ s.args.pairs.now (lent s) _ (sym c.before.before.before.ask-among.ensures ∙ ap questions_refusal c.before.asked.given.1))
-
-enum_told : tie.Need-enum-told
-enum_told c = search rules
-
-find-among-requires : tie.Need-find-among-requires
-find-among-requires c κs = let p = c.before.before in stands_among (start p).args.pairs.now (lent (start p)) (passed p)
-
-same_length : tie.Need-same-length
-same_length c = search rules
-
-same-length-2 : tie.Need-same-length-2
-same-length-2 c = search rules
-
-returns-2 : tie.Need-returns-2
-returns-2 c =
     let f = c.before.before.before.before.before in
     let p = f.before.before.before in
-    passing_among _ (start p).args.pairs.now (lent (start p)) (passed p) f.find-among.result _ (not-true f.find-among.result c.if1.true) f.find-among.ensures
-
-same-length-3 : tie.Need-same-length-3
-same-length-3 c = search rules
-
-same-length-4 : tie.Need-same-length-4
-same-length-4 c = search rules
-
-returns-3 : tie.Need-returns-3
-returns-3 c =
-    let f = c.before.before.before.before.before in
-    let p = f.before.before.before in
-    passing_among _ (start p).args.pairs.now (lent (start p)) (passed p) f.find-among.result _ (not-false f.find-among.result c.if1.false) f.find-among.ensures
+    passing_among _ (start p).args.pairs.now (lent (start p)) (passed p) f.find_among.result _ (c.if-not-find_among.false) f.find_among.ensures
 
 pub search_among_spec : {M : Type 1} → statement M
 search_among_spec =
     tie.close
     (tie.spec
-    ask-among-requires
-    enum-known-asked
-    returns
-    enum_told
-    find-among-requires
-    same_length
-    same-length-2
-    returns-2
-    same-length-3
-    same-length-4
-    returns-3)
+    ask_among-asked-requires
+    enum_known-asked
+    returns-in-Failed
+    enum_told-1
+    find_among-requires
+    shape_of-map-then-not-find_among
+    shape_of-scratch-then-not-find_among
+    returns-then-not-find_among
+    shape_of-map
+    shape_of-scratch
+    returns)
