@@ -14,7 +14,7 @@ use Rattle.classification.proofs.begun.Tie as tie
 -- What is known if the file is accepted.
 module _ (c : tie.In-Number) where
   abbrev loaded : tie.After-load_then_check-verdict
-  loaded = c.before.before.before.before
+  loaded = c.before.before.before
 
   abbrev start_of : tie.Start
   start_of = loaded.before.before.before.before
@@ -23,7 +23,7 @@ module _ (c : tie.In-Number) where
   file_given = sym loaded.load_then_check-verdict.ensures.0 ∙ ap numbered_says c.in-Number.is
 
   file_holds : Holds start_of.args.text.now loaded.load_then_check-verdict.new.cells c.in-Number.n
-  file_holds = holds _ _ _ file_given loaded.load_then_check-verdict.ensures.1 loaded.load_then_check-verdict.kept.1.0
+  file_holds = holds _ _ _ file_given loaded.load_then_check-verdict.ensures.1 loaded.load_then_check-verdict.auto.cells.0
 
 load_then_check-verdict-requires : tie.Need-load_then_check-verdict-requires
 load_then_check-verdict-requires c κs = search rules

@@ -16,7 +16,7 @@ use Rattle.classification.proofs.holds_like.Tie as tie
 -- What is known if the file is accepted.
 module _ (c : tie.In-Number) where
   abbrev loaded : tie.After-load_then_check-verdict
-  loaded = c.before.before.before
+  loaded = c.before.before
 
   abbrev start_of : tie.Start
   start_of = loaded.before.before.before.before
@@ -25,7 +25,7 @@ module _ (c : tie.In-Number) where
   own_given = sym loaded.load_then_check-verdict.ensures.0 ∙ ap numbered_says c.in-Number.is
 
   own_holds : Holds start_of.args.text.now loaded.load_then_check-verdict.new.cells c.in-Number.m
-  own_holds = holds _ _ _ own_given loaded.load_then_check-verdict.ensures.1 loaded.load_then_check-verdict.kept.1.0
+  own_holds = holds _ _ _ own_given loaded.load_then_check-verdict.ensures.1 loaded.load_then_check-verdict.auto.cells.0
 
 slice_bounds-load_then_check-end : tie.Need-slice_bounds-load_then_check-end
 slice_bounds-load_then_check-end c = search rules

@@ -27,7 +27,7 @@ printed before e q w = (q ∙ ap length e, w ∙ ap (λ (l : List ℕ). overwrit
 -- What is known if the source is accepted.
 module _ (c : tie.In-Number) where
   abbrev source-loaded : tie.After-load_then_check-first
-  source-loaded = c.before.before.before
+  source-loaded = c.before.before
 
   abbrev start_of : tie.Start
   start_of = source-loaded.before.before.before.before
@@ -39,7 +39,7 @@ module _ (c : tie.In-Number) where
   source_passes = accepted_file _ _ _ source_given
 
   source_holds : Holds start_of.args.source.now source-loaded.load_then_check-first.new.cells c.in-Number.m
-  source_holds = holds _ _ _ source_given source-loaded.load_then_check-first.ensures.1 source-loaded.load_then_check-first.kept.1.0
+  source_holds = holds _ _ _ source_given source-loaded.load_then_check-first.ensures.1 source-loaded.load_then_check-first.auto.cells.0
 
 -- What is known if the target is accepted too.
 module _ (c : tie.In-Number-second-2) where
@@ -113,7 +113,7 @@ returns-in_default-second c =
     let loading = c.before.before.before.before.before.before.before in
     let first = loading.before.before.before in
     let z = start_of loading.before.before in
-    let no = not_accepted loading.load_then_check-second.result c.in_default-second.keys2 in
+    let no = not_accepted loading.load_then_check-second.result c.in_default-second.in_default-second-own.keys2 in
     let w = refused_written _ 2 _ no.by (c.failed_question-in_default-second.ensures ∙ ap failed_number no.says) (search rules) c.put_first-in_default-second.ensures.0 c.put_first-in_default-second.ensures.1 in
     printed z.args.out.now (prints_target z.args.source.now z.args.target.now (replicate 14400 0) refl no.by (source_passes first) (sym loading.load_then_check-second.ensures.0 ∙ no.says)) w.size w.text
 
@@ -145,7 +145,7 @@ returns c =
     let second = c.before.before.before.before.before in
     let first = second.before.before.before.before.before.before in
     let z = start_of second.before.before.before in
-    printed z.args.out.now (prints_answer z.args.source.now z.args.target.now (source_passes first) (target_passes second) (source_holds first) (target_holds second)) c.put_answer.ensures.0 c.put_answer.ensures.1
+    printed z.args.out.now (prints_answer z.args.source.now z.args.target.now (source_passes second.before.before.before.before) (target_passes second) (source_holds first) (target_holds second)) c.put_answer.ensures.0 c.put_answer.ensures.1
 
 pub recue_spec : {M : Type 1} → statement M
 recue_spec =
