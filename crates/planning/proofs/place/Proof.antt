@@ -31,19 +31,19 @@ write_positions-requires c κs =
     let i = f.before.before in
     let l = i in
     let p = l.requires in
-    (p.0.filled.order.1, (degree_tried _ _ _ _ _ _ _ l.loop-degree.invariant f.loop-degree-test.true, (first_list _ _ _ _ (told_found _ _ _ c.fits2.ensures.0 t.if-fits.true), room_still _ _ _ _ _ _ _ l.loop-degree.invariant p.1.1.1)))
+    (p.0.filled.order.1, (degree_tried _ _ _ _ _ _ _ l.loop-degree.invariant f.loop-degree-test.true, (first_list _ _ _ _ (told_found _ _ _ c.fits.ensures.0 c.if-fits.true), room_still _ _ _ _ _ _ _ l.loop-degree.invariant p.1.1.1)))
 
 shape_of-image-then-fits : tie.Need-shape_of-image-then-fits invariant-loop-degree decreases-loop-degree
 shape_of-image-then-fits c =
     let f = c.before.before.before.before.before.before.before.before in
     let l = f in
-    c.fits2.auto.1.1.1.0 ∙ ap length l.loop-degree.invariant.image_kept
+    c.fits.auto.image ∙ ap length l.loop-degree.invariant.image_kept
 
 shape_of-positions-then-fits : tie.Need-shape_of-positions-then-fits invariant-loop-degree decreases-loop-degree
 shape_of-positions-then-fits c =
     let w = c.before.before in
     let l = w in
-    w.write_positions.auto.positions.1.1.0 ∙ ap length l.loop-degree.invariant.unwritten
+    w.write_positions.auto.positions ∙ ap length l.loop-degree.invariant.unwritten
 
 returns-then-fits : tie.Need-returns-then-fits invariant-loop-degree decreases-loop-degree
 returns-then-fits c =
@@ -51,7 +51,7 @@ returns-then-fits c =
     let t = w.before.before.before in
     let f = t.before.before.before in
     let i = f in
-    try_hit _ _ _ _ _ _ _ i.loop-degree.invariant i.loop-degree-test.true _ (told_found _ _ _ c.fits2.ensures.0 t.if-fits.true) _ w.write_positions.ensures
+    try_hit _ _ _ _ _ _ _ i.loop-degree.invariant i.loop-degree-test.true _ (told_found _ _ _ c.fits.ensures.0 c.if-fits.true) _ w.write_positions.ensures
 
 overflow_add-degree : tie.Need-overflow_add-degree invariant-loop-degree decreases-loop-degree
 overflow_add-degree c = let t = c.loop-degree-test.true in omega arith
@@ -63,7 +63,7 @@ loop-degree-preserved : tie.Need-loop-degree-preserved invariant-loop-degree dec
 loop-degree-preserved c =
     let f = c.before.before.before in
     let i = f in
-    try_next _ _ _ _ _ _ _ i.loop-degree.invariant i.loop-degree-test.true (told_none _ _ _ c.fits2.ensures.0 c.if-fits.false) _ f.fits2.ensures.1
+    try_next _ _ _ _ _ _ _ i.loop-degree.invariant i.loop-degree-test.true (told_none _ _ _ c.fits.ensures.0 c.if-fits.false) _ f.fits.ensures.1
 
 shape_of-image : tie.Need-shape_of-image invariant-loop-degree decreases-loop-degree
 shape_of-image c = ap length c.loop-degree.invariant.image_kept
