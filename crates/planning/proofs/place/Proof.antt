@@ -20,38 +20,25 @@ loop-degree-init c = try_begin _ _ _ _
 
 fits-requires : tie.Need-fits-requires invariant-loop-degree decreases-loop-degree
 fits-requires c κs =
-    let l = c in
-    let p = l.requires in
-    (p.0, (p.1.0, (degree_tried _ _ _ _ _ _ _ l.loop-degree.invariant c.loop-degree-test.true, image_size _ _ _ _ _ _ _ l.loop-degree.invariant p.1.1.0)))
+    let p = c.requires in
+    (p.0, (p.1.0, (degree_tried _ _ _ _ _ _ _ c.loop-degree.invariant c.loop-degree-test.true, image_size _ _ _ _ _ _ _ c.loop-degree.invariant p.1.1.0)))
 
 write_positions-requires : tie.Need-write_positions-requires invariant-loop-degree decreases-loop-degree
 write_positions-requires c κs =
-    let t = c.before.before in
-    let f = t.before.before.before in
-    let i = f.before.before in
-    let l = i in
-    let p = l.requires in
-    (p.0.filled.order.1, (degree_tried _ _ _ _ _ _ _ l.loop-degree.invariant f.loop-degree-test.true, (first_list _ _ _ _ (told_found _ _ _ c.fits.ensures.0 c.if-fits.true), room_still _ _ _ _ _ _ _ l.loop-degree.invariant p.1.1.1)))
+    let p = c.requires in
+    (p.0.filled.order.1, (degree_tried _ _ _ _ _ _ _ c.loop-degree.invariant c.loop-degree-test.true, (first_list _ _ _ _ (told_found _ _ _ c.fits.ensures.0 c.if-fits.true), room_still _ _ _ _ _ _ _ c.loop-degree.invariant p.1.1.1)))
 
 shape_of-image-then-fits : tie.Need-shape_of-image-then-fits invariant-loop-degree decreases-loop-degree
 shape_of-image-then-fits c =
-    let f = c.before.before.before.before.before.before.before.before in
-    let l = f in
-    c.fits.auto.image ∙ ap length l.loop-degree.invariant.image_kept
+    c.fits.auto.image ∙ ap length c.loop-degree.invariant.image_kept
 
 shape_of-positions-then-fits : tie.Need-shape_of-positions-then-fits invariant-loop-degree decreases-loop-degree
 shape_of-positions-then-fits c =
-    let w = c.before.before in
-    let l = w in
-    w.write_positions.auto.positions ∙ ap length l.loop-degree.invariant.unwritten
+    c.write_positions.auto.positions ∙ ap length c.loop-degree.invariant.unwritten
 
 returns-then-fits : tie.Need-returns-then-fits invariant-loop-degree decreases-loop-degree
 returns-then-fits c =
-    let w = c.before.before in
-    let t = w.before.before.before in
-    let f = t.before.before.before in
-    let i = f in
-    try_hit _ _ _ _ _ _ _ i.loop-degree.invariant i.loop-degree-test.true _ (told_found _ _ _ c.fits.ensures.0 c.if-fits.true) _ w.write_positions.ensures
+    try_hit _ _ _ _ _ _ _ c.loop-degree.invariant c.loop-degree-test.true _ (told_found _ _ _ c.fits.ensures.0 c.if-fits.true) _ c.write_positions.ensures
 
 overflow_add-degree : tie.Need-overflow_add-degree invariant-loop-degree decreases-loop-degree
 overflow_add-degree c = let t = c.loop-degree-test.true in omega arith
@@ -61,9 +48,7 @@ loop-degree-smaller c = let t = c.loop-degree-test.true in omega arith
 
 loop-degree-preserved : tie.Need-loop-degree-preserved invariant-loop-degree decreases-loop-degree
 loop-degree-preserved c =
-    let f = c.before.before.before in
-    let i = f in
-    try_next _ _ _ _ _ _ _ i.loop-degree.invariant i.loop-degree-test.true (told_none _ _ _ c.fits.ensures.0 c.if-fits.false) _ f.fits.ensures.1
+    try_next _ _ _ _ _ _ _ c.loop-degree.invariant c.loop-degree-test.true (told_none _ _ _ c.fits.ensures.0 c.if-fits.false) _ c.fits.ensures.1
 
 shape_of-image : tie.Need-shape_of-image invariant-loop-degree decreases-loop-degree
 shape_of-image c = ap length c.loop-degree.invariant.image_kept
