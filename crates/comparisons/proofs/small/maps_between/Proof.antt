@@ -12,28 +12,28 @@ use Rattle.comparisons.proofs.small.maps_between.Tie as tie
 judge-requires : tie.Need-judge-requires
 judge-requires c κs = search rules
 
-returns : tie.Need-returns
-returns c =
-    let z = c.before.before.before.before.before in
-    agreed_none z.args.tally (left_out z.args.n z.args.target.now _ c.before.before.judge.result c.before.before.judge.ensures c.if1.true)
+returns-then-judge-ne0 : tie.Need-returns-then-judge-ne0
+returns-then-judge-ne0 c =
+    let z = c in
+    agreed_none z.args.tally (left_out z.args.n z.args.target.now _ c.judge.result c.judge.ensures c.if-judge-ne0.true)
+
+walk-embedded-requires : tie.Need-walk-embedded-requires
+walk-embedded-requires c κs =
+    let z = c in
+    (z.requires.0, (judged_accepted _ _ _ c.judge.ensures c.if-judge-ne0.false, z.requires.1))
 
 walk-requires : tie.Need-walk-requires
 walk-requires c κs =
-    let z = c.before.before.before.before.before in
-    (z.requires.0, (judged_accepted _ _ _ c.before.before.judge.ensures c.if1.false, z.requires.1))
+    let z = c in
+    (z.requires.0, (judged_accepted _ _ _ c.judge.ensures c.if-judge-ne0.false, z.requires.1))
 
-walk-requires-2 : tie.Need-walk-requires-2
-walk-requires-2 c κs =
-    let z = c.before.before.before.before.before.before in
-    (z.requires.0, (judged_accepted _ _ _ c.before.before.before.judge.ensures c.before.if1.false, z.requires.1))
-
-returns-2 : tie.Need-returns-2
-returns-2 c =
+returns : tie.Need-returns
+returns c =
     let judged = c.before.before.before.before in
-    let z = judged.before.before.before in
-    let a = judged_accepted _ _ _ judged.judge.ensures c.before.before.if1.false in
-    c.walk2.ensures ∙ ap (agreed _) c.before.walk.ensures ∙ sym (agreed_add _ _ z.args.tally) ∙ ap (λ (x : ℕ). agreed x z.args.tally) (sym (taken_in z.args.n z.args.target.now _ a))
+    let z = judged in
+    let a = judged_accepted _ _ _ judged.judge.ensures c.if-judge-ne0.false in
+    c.walk.ensures ∙ ap (agreed _) c.walk-embedded.ensures ∙ sym (agreed_add _ _ z.args.tally) ∙ ap (λ (x : ℕ). agreed x z.args.tally) (sym (taken_in z.args.n z.args.target.now _ a))
 
 pub maps_between_spec : {M : Type 1} → statement M
 maps_between_spec =
-    tie.close (tie.spec judge-requires returns walk-requires walk-requires-2 returns-2)
+    tie.close (tie.spec judge-requires returns-then-judge-ne0 walk-embedded-requires walk-requires returns)

@@ -12,22 +12,22 @@ use Rattle.comparisons.proofs.small.maps_from.Tie as tie
 judge-requires : tie.Need-judge-requires
 judge-requires c κs = search rules
 
+returns-then-judge-ne0 : tie.Need-returns-then-judge-ne0
+returns-then-judge-ne0 c =
+    let z = c in
+    agreed_none z.args.tally (left_out z.args.m z.args.source.now _ c.judge.result c.judge.ensures c.if-judge-ne0.true)
+
+maps_to-requires : tie.Need-maps_to-requires
+maps_to-requires c κs =
+    let z = c in
+    (judged_accepted _ _ _ c.judge.ensures c.if-judge-ne0.false, z.requires)
+
 returns : tie.Need-returns
 returns c =
-    let z = c.before.before.before.before in
-    agreed_none z.args.tally (left_out z.args.m z.args.source.now _ c.before.before.judge.result c.before.before.judge.ensures c.if1.true)
-
-maps-to-requires : tie.Need-maps-to-requires
-maps-to-requires c κs =
-    let z = c.before.before.before.before in
-    (judged_accepted _ _ _ c.before.before.judge.ensures c.if1.false, z.requires)
-
-returns-2 : tie.Need-returns-2
-returns-2 c =
     let judged = c.before.before.before in
-    let z = judged.before.before in
-    let a = judged_accepted _ _ _ judged.judge.ensures c.before.if1.false in
-    c.maps-to.ensures ∙ ap (λ (x : ℕ). agreed x z.args.tally) (sym (taken_in z.args.m z.args.source.now _ a))
+    let z = judged in
+    let a = judged_accepted _ _ _ judged.judge.ensures c.if-judge-ne0.false in
+    c.maps_to.ensures ∙ ap (λ (x : ℕ). agreed x z.args.tally) (sym (taken_in z.args.m z.args.source.now _ a))
 
 pub maps_from_spec : {M : Type 1} → statement M
-maps_from_spec = tie.close (tie.spec judge-requires returns maps-to-requires returns-2)
+maps_from_spec = tie.close (tie.spec judge-requires returns-then-judge-ne0 maps_to-requires returns)

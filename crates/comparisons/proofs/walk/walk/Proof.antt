@@ -15,11 +15,11 @@ use Rattle.comparisons.proofs.walk.walk.Statement.{statement}
 use Rattle.comparisons.proofs.walk.walk.Tie as tie
 use Rattle.semigroups.proofs.Booleans.{impossible}
 
-abbrev invariant-loop : tie.invariant-loop
-invariant-loop isomorphisms source m target n tally₀ buffer₀ tally buffer = (agreed (suc (later_maps isomorphisms source m target n buffer)) tally ≡ agreed (suc (later_maps isomorphisms source m target n buffer₀)) tally₀) × (length buffer ≡ 5)
+abbrev invariant-loop-next : tie.invariant-loop-next
+invariant-loop-next isomorphisms source m target n tally₀ buffer₀ tally buffer = (agreed (suc (later_maps isomorphisms source m target n buffer)) tally ≡ agreed (suc (later_maps isomorphisms source m target n buffer₀)) tally₀) × (length buffer ≡ 5)
 
-abbrev decreases-loop : tie.decreases-loop
-decreases-loop isomorphisms source m target n tally₀ buffer₀ tally buffer = later_maps isomorphisms source m target n buffer
+abbrev decreases-loop-next : tie.decreases-loop-next
+decreases-loop-next isomorphisms source m target n tally₀ buffer₀ tally buffer = later_maps isomorphisms source m target n buffer
 
 not_true : (b : Bool) → not b ≡ true → b ≡ false
 not_true true e = impossible (cc)
@@ -29,68 +29,68 @@ not_false : (b : Bool) → not b ≡ false → b ≡ true
 not_false true e = refl
 not_false false e = impossible (cc)
 
-module _ (c : tie.After-counted2 invariant-loop decreases-loop) where
-  abbrev at-loop : tie.At-loop invariant-loop decreases-loop
+module _ (c : tie.After-counted-tally-in-loop-next invariant-loop-next decreases-loop-next) where
+  abbrev at-loop : tie.At-loop-next invariant-loop-next decreases-loop-next
   at-loop = c.before.before
 
-  abbrev start_of : tie.Start invariant-loop decreases-loop
+  abbrev start_of : tie.Start invariant-loop-next decreases-loop-next
   start_of = at-loop.before.before.before.before.before
 
-  long : length at-loop.loop.buffer ≡ 5
-  long = at-loop.loop.invariant.1
+  long : length at-loop.loop-next.buffer ≡ 5
+  long = at-loop.loop-next.invariant.1
 
   -- A map was found, so that one fewer is left.
-  one_less : not c.before.step2.result.found ≡ false → later_maps start_of.args.isomorphisms start_of.args.source.now start_of.args.m start_of.args.target.now start_of.args.n at-loop.loop.buffer
-      ≡ suc (later_maps start_of.args.isomorphisms start_of.args.source.now start_of.args.m start_of.args.target.now start_of.args.n c.before.step2.result.buffer)
+  one_less : not c.step-next.result.found ≡ false → later_maps start_of.args.isomorphisms start_of.args.source.now start_of.args.m start_of.args.target.now start_of.args.n at-loop.loop-next.buffer
+      ≡ suc (later_maps start_of.args.isomorphisms start_of.args.source.now start_of.args.m start_of.args.target.now start_of.args.n c.step-next.result.buffer)
   one_less h =
       let a = start_of.args in
       let p = start_of.requires in
-      left_found a.isomorphisms a.source.now a.m a.target.now a.n at-loop.loop.buffer p.0 p.1.0 p.1.1.0 p.1.1.1 long (sym c.before.step2.ensures.1.0 ∙ not_false _ h)
-      ∙ ap (λ (l : List ℕ). suc (later_maps a.isomorphisms a.source.now a.m a.target.now a.n l)) (sym c.before.step2.ensures.1.1.0)
+      left_found a.isomorphisms a.source.now a.m a.target.now a.n at-loop.loop-next.buffer p.0 p.1.0 p.1.1.0 p.1.1.1 long (sym c.step-next.ensures.1.0 ∙ not_false _ h)
+      ∙ ap (λ (l : List ℕ). suc (later_maps a.isomorphisms a.source.now a.m a.target.now a.n l)) (sym c.step-next.ensures.1.1.0)
 
-step-requires : tie.Need-step-requires invariant-loop decreases-loop
-step-requires c κs = c.before.before.requires
+step-first-requires : tie.Need-step-first-requires invariant-loop-next decreases-loop-next
+step-first-requires c κs = c.requires
 
-counted-requires : tie.Need-counted-requires invariant-loop decreases-loop
-counted-requires c κs = search rules
+counted-tally-requires : tie.Need-counted-tally-requires invariant-loop-next decreases-loop-next
+counted-tally-requires c κs = search rules
 
-loop-holds : tie.Need-loop-init invariant-loop decreases-loop
-loop-holds c = (refl, search rules)
+loop-next-init : tie.Need-loop-next-init invariant-loop-next decreases-loop-next
+loop-next-init c = (refl, search rules)
 
-step-requires-2 : tie.Need-step-requires-2 invariant-loop decreases-loop
-step-requires-2 c κs = c.before.before.before.before.before.requires
+step-next-requires : tie.Need-step-next-requires invariant-loop-next decreases-loop-next
+step-next-requires c κs = c.requires
 
-counted-requires-2 : tie.Need-counted-requires-2 invariant-loop decreases-loop
-counted-requires-2 c κs = search rules
+counted-tally-requires-in-loop-next : tie.Need-counted-tally-requires-in-loop-next invariant-loop-next decreases-loop-next
+counted-tally-requires-in-loop-next c κs = search rules
 
-returns : tie.Need-returns invariant-loop decreases-loop
-returns c =
+returns-then-not-next : tie.Need-returns-then-not-next invariant-loop-next decreases-loop-next
+returns-then-not-next c =
     let w = c.before.before in
     let z = start_of w in
-    walk_ends _ _ _ _ _ _ (at-loop w).loop.invariant.0 w.counted2.ensures w.before.step2.ensures.0 (left_none z.args.isomorphisms z.args.source.now z.args.m z.args.target.now z.args.n (at-loop w).loop.buffer z.requires.0 z.requires.1.0 z.requires.1.1.0 z.requires.1.1.1 (long w) (sym w.before.step2.ensures.1.0 ∙ not_true _ c.if1.true)) _ _ (at-loop w).before.counted.ensures (at-loop w).before.before.step.ensures.0
+    walk_ends _ _ _ _ _ _ (at-loop w).loop-next.invariant.0 w.counted-tally-in-loop-next.ensures w.step-next.ensures.0 (left_none z.args.isomorphisms z.args.source.now z.args.m z.args.target.now z.args.n (at-loop w).loop-next.buffer z.requires.0 z.requires.1.0 z.requires.1.1.0 z.requires.1.1.1 (long w) (sym w.step-next.ensures.1.0 ∙ not_true _ c.if-not-next.true)) _ _ (at-loop w).counted-tally.ensures (at-loop w).step-first.ensures.0
 
-loop-less : tie.Need-loop-smaller invariant-loop decreases-loop
-loop-less c =
+loop-next-smaller : tie.Need-loop-next-smaller invariant-loop-next decreases-loop-next
+loop-next-smaller c =
     let w = c.before.before.before in
-    let e = one_less w c.before.if1.false in
+    let e = one_less w c.if-not-next.false in
     omega arith
 
-loop-again : tie.Need-loop-preserved invariant-loop decreases-loop
-loop-again c =
+loop-next-preserved : tie.Need-loop-next-preserved invariant-loop-next decreases-loop-next
+loop-next-preserved c =
     let w = c.before.before.before in
-    (walk_goes _ _ _ _ _ _ (at-loop w).loop.invariant.0 w.counted2.ensures w.before.step2.ensures.0 _ (one_less w c.before.if1.false), w.before.step2.ensures.1.1.1)
+    (walk_goes _ _ _ _ _ _ (at-loop w).loop-next.invariant.0 w.counted-tally-in-loop-next.ensures w.step-next.ensures.0 _ (one_less w c.if-not-next.false), w.step-next.ensures.1.1.1)
 
 pub walk_spec : {M : Type 1} → statement M
 walk_spec =
     tie.close
     (tie.spec
-    invariant-loop
-    decreases-loop
-    step-requires
-    counted-requires
-    loop-holds
-    step-requires-2
-    counted-requires-2
-    returns
-    loop-less
-    loop-again)
+    invariant-loop-next
+    decreases-loop-next
+    step-first-requires
+    counted-tally-requires
+    loop-next-init
+    step-next-requires
+    counted-tally-requires-in-loop-next
+    returns-then-not-next
+    loop-next-smaller
+    loop-next-preserved)
