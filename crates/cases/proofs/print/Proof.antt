@@ -6,18 +6,18 @@ use borrow.Author.Rules.{rules}
 use Rattle.cases.proofs.print.Statement.{statement}
 use Rattle.cases.proofs.print.Tie as tie
 
-array-share-prefix-out : tie.Need-array-share-prefix-out
-array-share-prefix-out c = line_within _ _ _ c.put-line.ensures.0 c.put-line.ensures.1
+slice_bounds-out-end : tie.Need-slice_bounds-out-end
+slice_bounds-out-end c = line_within _ _ _ c.put_line-written.ensures.0 c.put_line-written.ensures.1
 
-slice-aggregate-write-all : tie.Need-slice-aggregate-write-all
-slice-aggregate-write-all c = sym (length-take-le _ _ (line_within _ _ _ c.before.put-line.ensures.0 c.before.put-line.ensures.1))
+slice_bounds-write_all-end : tie.Need-slice_bounds-write_all-end
+slice_bounds-write_all-end c = sym (length-take-le _ _ (line_within _ _ _ c.put_line-written.ensures.0 c.put_line-written.ensures.1))
 
 pub print_spec : {M : Type 1} → statement M
 print_spec =
     tie.close
     (tie.spec
     (λ c κs. search rules)
-    array-share-prefix-out
-    slice-aggregate-write-all
+    slice_bounds-out-end
+    slice_bounds-write_all-end
     (λ c κs. search rules)
     (λ c. search rules))

@@ -15,118 +15,100 @@ use Rattle.classification.proofs.Program.{start_sound, later_sound, later_fewer,
 use Rattle.classes.proofs.main.Statement.{statement}
 use Rattle.classes.proofs.main.Tie as tie
 
-abbrev invariant-loop : tie.invariant-loop
-invariant-loop text₀ cells₀ out classifier₀ wanted₀ text cells classifier wanted =
-    (length text ≡ 57721) × (length cells ≡ 14400) × progress.Sound (progress_of classifier cells) × ((any : List ℕ) → wanted ≡ progress.wanted (progress_of classifier any))
+abbrev invariant-loop-wanted : tie.invariant-loop-wanted
+invariant-loop-wanted text₀ cells₀ out classifier₀ wanted₀ text cells classifier wanted =
+    (length text ≡ 57721) × (length cells ≡ 14400) × progress.Sound (progress_of classifier cells) × ((any : List ℕ) → wanted ≡ progress.wanted-wanted (progress_of classifier any))
 
-abbrev decreases-loop : tie.decreases-loop
-decreases-loop text₀ cells₀ out classifier₀ wanted₀ text cells classifier wanted = progress-laws.still_to_read (progress_of classifier cells)
+abbrev decreases-loop-wanted : tie.decreases-loop-wanted
+decreases-loop-wanted text₀ cells₀ out classifier₀ wanted₀ text cells classifier wanted = progress-laws.still_to_read (progress_of classifier cells)
 
 -- What came of the file that was read.
-abbrev came : tie.After-read-file invariant-loop decreases-loop → Option (List ℕ)
+abbrev came : tie.After-read-file invariant-loop-wanted decreases-loop-wanted → Option (List ℕ)
 came c = let r = c.read-file in opened_text r.result.opened (take r.result.length r.new.1.0)
 
-start-requires : tie.Need-start-requires invariant-loop decreases-loop
-start-requires c κs = tt
+start-classifier-requires : tie.Need-start-classifier-requires invariant-loop-wanted decreases-loop-wanted
+start-classifier-requires c κs = tt
 
-wanted-requires : tie.Need-wanted-requires invariant-loop decreases-loop
-wanted-requires c κs = tt
+wanted-wanted-requires : tie.Need-wanted-wanted-requires invariant-loop-wanted decreases-loop-wanted
+wanted-wanted-requires c κs = tt
 
-loop-holds : tie.Need-loop-init invariant-loop decreases-loop
-loop-holds c = (refl, refl, start_sound _ (c.before.start.ensures.0 _), c.wanted.ensures)
+loop-wanted-init : tie.Need-loop-wanted-init invariant-loop-wanted decreases-loop-wanted
+loop-wanted-init c = (refl, refl, start_sound _ (c.start-classifier.ensures.0 _), c.wanted-wanted.ensures)
 
-file-name-requires : tie.Need-file-name-requires invariant-loop decreases-loop
-file-name-requires c κs = search rules
+slice_bounds-text-end : tie.Need-slice_bounds-text-end invariant-loop-wanted decreases-loop-wanted
+slice_bounds-text-end c = search rules
 
-slice-aggregate-open-read : tie.Need-slice-aggregate-open-read invariant-loop decreases-loop
-slice-aggregate-open-read c = search rules
+slice_bounds-step-end : tie.Need-slice_bounds-step-end invariant-loop-wanted decreases-loop-wanted
+slice_bounds-step-end c = search rules
 
-open-read-requires : tie.Need-open-read-requires invariant-loop decreases-loop
-open-read-requires c κs = search rules
+slice_bounds-step-end-in-loop-wanted : tie.Need-slice_bounds-step-end-in-loop-wanted invariant-loop-wanted decreases-loop-wanted
+slice_bounds-step-end-in-loop-wanted c = sym c.loop-wanted.invariant.1
 
-slice-aggregate-read-file : tie.Need-slice-aggregate-read-file invariant-loop decreases-loop
-slice-aggregate-read-file c = sym c.before.before.before.before.before.loop.invariant.0
-
-read-file-requires : tie.Need-read-file-requires invariant-loop decreases-loop
-read-file-requires c κs = let v = c.before.before.before.before.before.loop.invariant.0 in omega arith
-
-array-share-prefix-text : tie.Need-array-share-prefix-text invariant-loop decreases-loop
-array-share-prefix-text c = search rules
-
-slice-aggregate-step : tie.Need-slice-aggregate-step invariant-loop decreases-loop
-slice-aggregate-step c = search rules
-
-slice-aggregate-step-2 : tie.Need-slice-aggregate-step-2 invariant-loop decreases-loop
-slice-aggregate-step-2 c = sym c.before.before.before.before.before.before.before.before.before.loop.invariant.1
-
-step-requires : tie.Need-step-requires invariant-loop decreases-loop
-step-requires c κs =
-    let v = c.before.before.before.before.before.before.before.before.before.loop.invariant in
-    let t = c.before.before.before.before.before.before.before.before.loop-test.true in
+step-classifier-requires : tie.Need-step-classifier-requires invariant-loop-wanted decreases-loop-wanted
+step-classifier-requires c κs =
+    let v = c.loop-wanted.invariant in
+    let t = c.loop-wanted-test.true in
     (v.1, (v.2, λ e. t (v.3 _ ∙ e)))
 
-wanted-requires-2 : tie.Need-wanted-requires-2 invariant-loop decreases-loop
-wanted-requires-2 c κs = tt
+wanted-wanted-requires-in-loop-wanted : tie.Need-wanted-wanted-requires-in-loop-wanted invariant-loop-wanted decreases-loop-wanted
+wanted-wanted-requires-in-loop-wanted c κs = tt
 
-loop-less : tie.Need-loop-smaller invariant-loop decreases-loop
-loop-less c =
-    let l = c.before.before.before.before.before.before.before.before.before.before.before.before.loop in
+loop-wanted-smaller : tie.Need-loop-wanted-smaller invariant-loop-wanted decreases-loop-wanted
+loop-wanted-smaller c =
+    let l = c.loop-wanted in
     let v = l.invariant in
-    let t = c.before.before.before.before.before.before.before.before.before.before.before.loop-test.true in
-    later_fewer (progress_of l.classifier l.cells) v.2 (λ e. t (v.3 _ ∙ e)) (came c.before.before.before.before.before.before) c.before.before.step.ensures.0
+    let t = c.loop-wanted-test.true in
+    later_fewer (progress_of l.classifier l.cells) v.2 (λ e. t (v.3 _ ∙ e)) (came c.before.before.before.before.before.before) c.step-classifier.ensures.0
 
-loop-again : tie.Need-loop-preserved invariant-loop decreases-loop
-loop-again c =
-    let l = c.before.before.before.before.before.before.before.before.before.before.before.before.loop in
+loop-wanted-preserved : tie.Need-loop-wanted-preserved invariant-loop-wanted decreases-loop-wanted
+loop-wanted-preserved c =
+    let l = c.loop-wanted in
     let v = l.invariant in
-    let t = c.before.before.before.before.before.before.before.before.before.before.before.loop-test.true in
-    let st = c.before.before.step in (
-      c.before.before.before.before.before.before.read-file.ensures.1.1.0 ∙ v.0,
+    let t = c.loop-wanted-test.true in
+    let st = c.step-classifier in (
+      c.read-file.ensures.1.1.0 ∙ v.0,
       st.auto.1.1.1.0 ∙ v.1,
       later_sound (progress_of l.classifier l.cells) v.2 (λ e. t (v.3 _ ∙ e)) (came c.before.before.before.before.before.before) st.ensures.0,
-      c.wanted2.ensures,
+      c.wanted-wanted-in-loop-wanted.ensures,
     )
 
-put-requires : tie.Need-put-requires invariant-loop decreases-loop
-put-requires c κs =
-    let l = c.before.before.loop in
-    (few_notes l.classifier l.cells l.invariant.2, λ any. sym (l.invariant.3 any) ∙ c.before.loop-test.false)
+put-written-requires : tie.Need-put-written-requires invariant-loop-wanted decreases-loop-wanted
+put-written-requires c κs =
+    let l = c.loop-wanted in
+    (few_notes l.classifier l.cells l.invariant.2, λ any. sym (l.invariant.3 any) ∙ c.loop-wanted-test.false)
 
-array-share-prefix-out : tie.Need-array-share-prefix-out invariant-loop decreases-loop
-array-share-prefix-out c = text_within c.before.before.before.loop.classifier _ c.put.ensures.0 c.put.ensures.1
+slice_bounds-out-end : tie.Need-slice_bounds-out-end invariant-loop-wanted decreases-loop-wanted
+slice_bounds-out-end c = text_within c.loop-wanted.classifier _ c.put-written.ensures.0 c.put-written.ensures.1
 
-slice-aggregate-write-all : tie.Need-slice-aggregate-write-all invariant-loop decreases-loop
-slice-aggregate-write-all c = sym (length-take-le _ _ (text_within c.before.before.before.before.loop.classifier _ c.before.put.ensures.0 c.before.put.ensures.1))
+slice_bounds-write_all-end : tie.Need-slice_bounds-write_all-end invariant-loop-wanted decreases-loop-wanted
+slice_bounds-write_all-end c = sym (length-take-le _ _ (text_within c.loop-wanted.classifier _ c.put-written.ensures.0 c.put-written.ensures.1))
 
-write-all-requires : tie.Need-write-all-requires invariant-loop decreases-loop
-write-all-requires c κs = search rules
+write_all-requires : tie.Need-write_all-requires invariant-loop-wanted decreases-loop-wanted
+write_all-requires c κs = search rules
 
-returns : tie.Need-returns invariant-loop decreases-loop
+returns : tie.Need-returns invariant-loop-wanted decreases-loop-wanted
 returns c = search rules
 
 pub main_spec : {M : Type 1} → statement M
 main_spec =
     tie.close
     (tie.spec
-    invariant-loop
-    decreases-loop
-    start-requires
-    wanted-requires
-    loop-holds
-    file-name-requires
-    slice-aggregate-open-read
-    open-read-requires
-    slice-aggregate-read-file
-    read-file-requires
-    array-share-prefix-text
-    slice-aggregate-step
-    slice-aggregate-step-2
-    step-requires
-    wanted-requires-2
-    loop-less
-    loop-again
-    put-requires
-    array-share-prefix-out
-    slice-aggregate-write-all
-    write-all-requires
+    invariant-loop-wanted
+    decreases-loop-wanted
+    start-classifier-requires
+    wanted-wanted-requires
+    loop-wanted-init
+    (λ c. search rules)
+    (λ c κs. search rules)
+    slice_bounds-text-end
+    slice_bounds-step-end
+    slice_bounds-step-end-in-loop-wanted
+    step-classifier-requires
+    wanted-wanted-requires-in-loop-wanted
+    loop-wanted-smaller
+    loop-wanted-preserved
+    put-written-requires
+    slice_bounds-out-end
+    slice_bounds-write_all-end
+    write_all-requires
     returns)

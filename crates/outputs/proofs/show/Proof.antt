@@ -6,18 +6,18 @@ use borrow.Author.Rules.{rules}
 use Rattle.outputs.proofs.show.Statement.{statement}
 use Rattle.outputs.proofs.show.Tie as tie
 
-array-share-prefix-out : tie.Need-array-share-prefix-out
-array-share-prefix-out c = output_within _ _ _ c.recue.ensures.0 c.recue.ensures.1
+slice_bounds-out-end : tie.Need-slice_bounds-out-end
+slice_bounds-out-end c = output_within _ _ _ c.recue-written.ensures.0 c.recue-written.ensures.1
 
-slice-aggregate-write-all : tie.Need-slice-aggregate-write-all
-slice-aggregate-write-all c = sym (length-take-le _ _ (output_within _ _ _ c.before.recue.ensures.0 c.before.recue.ensures.1))
+slice_bounds-write_all-end : tie.Need-slice_bounds-write_all-end
+slice_bounds-write_all-end c = sym (length-take-le _ _ (output_within _ _ _ c.recue-written.ensures.0 c.recue-written.ensures.1))
 
 pub show_spec : {M : Type 1} → statement M
 show_spec =
     tie.close
     (tie.spec
     (λ c κs. search rules)
-    array-share-prefix-out
-    slice-aggregate-write-all
+    slice_bounds-out-end
+    slice_bounds-write_all-end
     (λ c κs. search rules)
     (λ c. search rules))

@@ -40,16 +40,16 @@ order_said = refl
 
 walk-requires : tie.Need-walk-requires
 walk-requires c κs =
-    let filling = c.before.before.before.before.before.before.before.before in
+    let filling = c in
     (mat5_table, (subst (Accepted 27) (sym (filling.fill.ensures.1 ∙ filled)) three_accepted, (omega arith, omega arith)))
 
 returns : tie.Need-returns
 returns c =
-    let filling = c.before.before.before.before.before.before.before.before.before in
-    let says = c.before.before.before.before.before.before.before.numbered_said.ensures ∙ ap answer_said filling.fill.ensures.0 in
-    let same = c.before.before.before.before.same-said.ensures ∙ ap (λ (x : Said). same_said x c.before.before.before.before.before.failed.result) says ∙ ap (same_said (answer_said (transformation_says 3 729))) c.before.before.before.before.before.failed.ensures ∙ order_said in
-    let one = c.before.before.before.counted.ensures ∙ ap (λ (t : Tally). counted t c.before.before.before.before.same-said.result) c.before.before.before.before.before.before.start.ensures ∙ ap (counted empty) same in
-    c.walk.ensures ∙ ap (λ (l : List ℕ). agreed (walk_calls false mat5_cells 5 l 27 (replicate 5 0)) c.before.before.before.counted.result) (filling.fill.ensures.1 ∙ filled)
+    let filling = c in
+    let says = c.numbered_said-answer.ensures ∙ ap answer_said filling.fill.ensures.0 in
+    let same = c.same_said.ensures ∙ ap (λ (x : Said). same_said x c.failed.result) says ∙ ap (same_said (answer_said (transformation_says 3 729))) c.failed.ensures ∙ order_said in
+    let one = c.counted-answered.ensures ∙ ap (λ (t : Tally). counted t c.same_said.result) c.start.ensures ∙ ap (counted empty) same in
+    c.walk.ensures ∙ ap (λ (l : List ℕ). agreed (walk_calls false mat5_cells 5 l 27 (replicate 5 0)) c.counted-answered.result) (filling.fill.ensures.1 ∙ filled)
     ∙ ap (agreed (walk_calls false mat5_cells 5 (transformation_cells 3) 27 (replicate 5 0))) one ∙ agreed_counted (walk_calls false mat5_cells 5 (transformation_cells 3) 27 (replicate 5 0)) empty
 
 pub large_target_spec : {M : Type 1} → statement M

@@ -11,11 +11,11 @@ use Rattle.cases.proofs.limits.numbered_said.Tie as tie
 as_said : {a b : Numbered} → a ≡ b → answer_said (numbered_says b) ≡ answer_said (numbered_says a)
 as_said e = ap {B = Said} (λ (x : Numbered). answer_said (numbered_says x)) (sym e)
 
-returns : tie.Need-returns
-returns c = c.failed.ensures ∙ as_said c.before.before.answer.given.1
+returns-in-Number : tie.Need-returns-in-Number
+returns-in-Number c = c.failed.ensures ∙ as_said c.in-Number.is
 
-returns-2 : tie.Need-returns-2
-returns-2 c = c.said-of-no.ensures ∙ as_said c.before.before.answer2.given.1
+returns-in-Refused : tie.Need-returns-in-Refused
+returns-in-Refused c = c.said_of_no.ensures ∙ as_said c.in-Refused.is
 
 pub numbered_said_spec : {M : Type 1} → statement M
 numbered_said_spec =
@@ -25,5 +25,5 @@ numbered_said_spec =
     (λ c κs. search rules)
     (λ c. search rules)
     (λ c κs. search rules)
-    returns
-    returns-2)
+    returns-in-Number
+    returns-in-Refused)

@@ -29,12 +29,12 @@ too_large cells r e =
 returns : tie.Need-returns
 unfolding agreed
 returns c =
-    let most = c.before.before.before in
+    let most = c in
     let ones : List ℕ = replicate 14400 1 in
-    let accepted = ap (λ (x : Said). same_said (said_of (table_refusal 120 ones)) x) most.before.before.failed.ensures in
+    let accepted = ap (λ (x : Said). same_said (said_of (table_refusal 120 ones)) x) most.failed.ensures in
     let base = counted empty (same_said (said_of (table_refusal 120 ones)) (said_of none)) in
-    let one : most.judged.result ≡ agreed 1 base = most.judged.ensures ∙ ap (λ (t : Tally). counted (counted t (same_said (said_of (table_refusal 120 ones)) most.before.before.failed.result)) true) most.before.start.ensures ∙ ap (λ (b : Bool). counted (counted empty b) true) accepted in
-    two_more base 1 _ true one (too_large (replicate 14641 1) _ c.before.failed2.ensures) refl c.judged2.ensures
+    let one : most.judged-accepted.result ≡ agreed 1 base = most.judged-accepted.ensures ∙ ap (λ (t : Tally). counted (counted t (same_said (said_of (table_refusal 120 ones)) most.failed.result)) true) most.start.ensures ∙ ap (λ (b : Bool). counted (counted empty b) true) accepted in
+    two_more base 1 _ true one (too_large (replicate 14641 1) _ c.failed-2.ensures) refl c.judged.ensures
 
 pub orders_spec : {M : Type 1} → statement M
 orders_spec =

@@ -25,8 +25,8 @@ both = refl
 
 returns : tie.Need-returns
 returns c =
-    let first = c.before in
-    c.embedded2.ensures ∙ ap (embedded_tally 1 100 (2 ∷ 3 ∷ []) (75 ∷ 255 ∷ 255 ∷ [])) (first.embedded.ensures ∙ ap (embedded_tally 0 6 (0 ∷ 0 ∷ []) (255 ∷ 255 ∷ 255 ∷ [])) first.before.start.ensures) ∙ both
+    let first = c in
+    c.embedded.ensures ∙ ap (embedded_tally 1 100 (2 ∷ 3 ∷ []) (75 ∷ 255 ∷ 255 ∷ [])) (first.embedded-short.ensures ∙ ap (embedded_tally 0 6 (0 ∷ 0 ∷ []) (255 ∷ 255 ∷ 255 ∷ [])) first.start.ensures) ∙ both
 
 pub scratch_spec : {M : Type 1} → statement M
 scratch_spec = tie.close (tie.spec (λ c κs. search rules) (λ c κs. search rules) (λ c κs. search rules) returns)

@@ -9,11 +9,11 @@ use Rattle.cases.proofs.printed.embeddings.Tie as tie
 returns : tie.Need-returns
 unfolding agreed
 returns c =
-    let e1 = c.before.before.before.before.before.before.before.before.swap-in-two.ensures ∙ ap (agreed 4) c.before.before.before.before.before.before.before.before.before.start.ensures in
-    let e2 = c.before.before.before.before.before.before.before.right-in-two.ensures ∙ ap (agreed 6) e1 in
-    let e3 = c.before.before.before.before.before.before.one-in-two.ensures ∙ ap (agreed 6) e2 in
-    let e4 = c.before.before.before.told.ensures ∙ case_8 _ ∙ ap (agreed 2) e3 in
-    c.told2.ensures ∙ case_13 _ ∙ ap (agreed 2) e4
+    let e1 = c.swap_in_two.ensures ∙ ap (agreed 4) c.start.ensures in
+    let e2 = c.right_in_two.ensures ∙ ap (agreed 6) e1 in
+    let e3 = c.one_in_two-a.ensures ∙ ap (agreed 6) e2 in
+    let e4 = c.told-b.ensures ∙ case_8 _ ∙ ap (agreed 2) e3 in
+    c.told.ensures ∙ case_13 _ ∙ ap (agreed 2) e4
 
 pub embeddings_spec : {M : Type 1} → statement M
 embeddings_spec =

@@ -9,8 +9,8 @@ use Rattle.cases.proofs.printed.first_two.Tie as tie
 
 returns : tie.Need-returns
 returns c =
-    let a = c.before.before.before.before.args in
-    c.told2.ensures ∙ ap (told_tally (kind_of a.kind) true a.source.now a.m a.target.now a.n a.first a.said a.second) c.before.told.ensures
+    let a = c.args in
+    c.told.ensures ∙ ap (told_tally (kind_of a.kind) true a.source.now a.m a.target.now a.n a.first a.said a.second) c.told-a.ensures
 
 pub first_two_spec : {M : Type 1} → statement M
 first_two_spec = tie.close (tie.spec (λ c κs. search rules) (λ c κs. search rules) returns)

@@ -8,9 +8,9 @@ use Rattle.cases.proofs.printed.isomorphisms.Tie as tie
 returns : tie.Need-returns
 unfolding agreed
 returns c =
-    let e1 = c.before.before.two-onto-two.ensures ∙ ap (agreed 4) c.before.before.before.start.ensures in
-    let e2 = c.before.null3-onto-null3.ensures ∙ ap (agreed 6) e1 in
-    c.mat5-onto-mat5.ensures ∙ ap (agreed 4) e2
+    let e1 = c.two_onto_two.ensures ∙ ap (agreed 4) c.start.ensures in
+    let e2 = c.null3_onto_null3.ensures ∙ ap (agreed 6) e1 in
+    c.mat5_onto_mat5.ensures ∙ ap (agreed 4) e2
 
 pub isomorphisms_spec : {M : Type 1} → statement M
 isomorphisms_spec =

@@ -8,7 +8,7 @@ use Rattle.cases.proofs.printed.null3_onto_null3.Tie as tie
 
 returns : tie.Need-returns
 unfolding agreed
-returns c = c.told.ensures ∙ last_11 _ ∙ ap (agreed 2) (c.before.before.before.first_two.ensures ∙ case_11 _)
+returns c = c.told.ensures ∙ last_11 _ ∙ ap (agreed 2) (c.first_two-a.ensures ∙ case_11 _)
 
 pub null3_onto_null3_spec : {M : Type 1} → statement M
 null3_onto_null3_spec =

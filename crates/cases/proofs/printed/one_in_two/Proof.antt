@@ -8,7 +8,7 @@ use Rattle.cases.proofs.printed.one_in_two.Tie as tie
 
 returns : tie.Need-returns
 unfolding agreed
-returns c = c.told.ensures ∙ last_9 _ ∙ ap (agreed 2) (c.before.before.before.first_two.ensures ∙ case_9 _)
+returns c = c.told.ensures ∙ last_9 _ ∙ ap (agreed 2) (c.first_two-a.ensures ∙ case_9 _)
 
 pub one_in_two_spec : {M : Type 1} → statement M
 one_in_two_spec =

@@ -8,7 +8,7 @@ use Rattle.cases.proofs.printed.right_in_two.Tie as tie
 
 returns : tie.Need-returns
 unfolding agreed
-returns c = c.told.ensures ∙ last_7 _ ∙ ap (agreed 2) (c.before.before.before.first_two.ensures ∙ case_7 _)
+returns c = c.told.ensures ∙ last_7 _ ∙ ap (agreed 2) (c.first_two-a.ensures ∙ case_7 _)
 
 pub right_in_two_spec : {M : Type 1} → statement M
 right_in_two_spec =

@@ -21,36 +21,36 @@ module _ (s : tie.Start) where
   buffer_room : s.args.m ≤ length s.args.before
   buffer_room = let e = before_long in let h = s.requires in omega arith
 
-slice-aggregate-search : tie.Need-slice-aggregate-search
-slice-aggregate-search c = sym (length-take-le _ _ (buffer_room c.before.before.before))
+slice_bounds-search-end : tie.Need-slice_bounds-search-end
+slice_bounds-search-end c = sym (length-take-le _ _ (buffer_room c.before.before.before))
 
-slice-aggregate-same-bytes : tie.Need-slice-aggregate-same-bytes
-slice-aggregate-same-bytes c =
+slice_bounds-same_bytes-end : tie.Need-slice_bounds-same_bytes-end
+slice_bounds-same_bytes-end c =
     let asked = c.before.before.before.before.before in
     let s = asked.before.before.before.before.before in
-    sym (length_front s.args.before asked.search.new.1.1.1.1.1.1.0 s.args.m (search rules) ∙ before_long s)
+    sym (length_front s.args.before asked.search-answer.new.map s.args.m (search rules) ∙ before_long s)
 
 returns : tie.Need-returns
 returns c =
-    let asked = c.before.before.before.before.before.before.before.before in
-    let a = asked.before.before.before.before.before.args in
-    let called = parts asked.search.ensures in
-    let said = c.before.before.before.before.before.said_number_law.ensures ∙ ap said_number called.0 in
-    let one = c.before.before.before.before.counted.ensures ∙ ap (λ (k : ℕ). counted a.tally (eqb k a.said)) said in
-    let map = same_left _ _ _ _ c.before.same_bytes.ensures (ap (λ (l : List ℕ). l ++ drop a.m a.before) called.1.0) in
-    c.counted2.ensures ∙ ap₂ counted one map
+    let asked = c in
+    let a = asked.args in
+    let called = parts asked.search-answer.ensures in
+    let said = c.said_number.ensures ∙ ap said_number called.0 in
+    let one = c.counted-answered.ensures ∙ ap (λ (k : ℕ). counted a.tally (eqb k a.said)) said in
+    let map = same_left _ _ _ _ c.same_bytes.ensures (ap (λ (l : List ℕ). l ++ drop a.m a.before) called.1.0) in
+    c.counted.ensures ∙ ap₂ counted one map
 
 pub told_spec : {M : Type 1} → statement M
 told_spec =
     tie.close
     (tie.spec
     (λ c. search rules)
-    slice-aggregate-search
+    slice_bounds-search-end
     (λ c. search rules)
     (λ c κs. search rules)
     (λ c κs. search rules)
     (λ c κs. search rules)
-    slice-aggregate-same-bytes
+    slice_bounds-same_bytes-end
     (λ c. search rules)
     (λ c κs. search rules)
     (λ c κs. search rules)

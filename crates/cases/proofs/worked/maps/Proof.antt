@@ -34,45 +34,45 @@ walks :
 unfolding later_maps range elements at all find keep sum count member distinct earlier lists product is_element is_homomorphism is_embedding is_isomorphism maps flat_map
 walks = (refl, refl, refl, refl, refl, refl, refl, refl, refl)
 
+walk-case6-requires : tie.Need-walk-case6-requires
+walk-case6-requires c κs = (swap_table, (two_table, (omega arith, omega arith)))
+
+walk-case7-requires : tie.Need-walk-case7-requires
+walk-case7-requires c κs = (right_table, (two_table, (omega arith, omega arith)))
+
+walk-case8-requires : tie.Need-walk-case8-requires
+walk-case8-requires c κs = (left_table, (two_table, (omega arith, omega arith)))
+
+walk-case9-requires : tie.Need-walk-case9-requires
+walk-case9-requires c κs = (one_table, (two_table, (omega arith, omega arith)))
+
+walk-case10-requires : tie.Need-walk-case10-requires
+walk-case10-requires c κs = (two_table, (two_table, (omega arith, omega arith)))
+
+walk-case11-requires : tie.Need-walk-case11-requires
+walk-case11-requires c κs = (null_table, (null_table, (omega arith, omega arith)))
+
+walk-after-requires : tie.Need-walk-after-requires
+walk-after-requires c κs = (null_table, (null_table, (omega arith, omega arith)))
+
+walk-case12-requires : tie.Need-walk-case12-requires
+walk-case12-requires c κs = (mat5_table, (mat5_table, (omega arith, omega arith)))
+
 walk-requires : tie.Need-walk-requires
-walk-requires c κs = (swap_table, (two_table, (omega arith, omega arith)))
-
-walk-requires-2 : tie.Need-walk-requires-2
-walk-requires-2 c κs = (right_table, (two_table, (omega arith, omega arith)))
-
-walk-requires-3 : tie.Need-walk-requires-3
-walk-requires-3 c κs = (left_table, (two_table, (omega arith, omega arith)))
-
-walk-requires-4 : tie.Need-walk-requires-4
-walk-requires-4 c κs = (one_table, (two_table, (omega arith, omega arith)))
-
-walk-requires-5 : tie.Need-walk-requires-5
-walk-requires-5 c κs = (two_table, (two_table, (omega arith, omega arith)))
-
-walk-requires-6 : tie.Need-walk-requires-6
-walk-requires-6 c κs = (null_table, (null_table, (omega arith, omega arith)))
-
-walk-requires-7 : tie.Need-walk-requires-7
-walk-requires-7 c κs = (null_table, (null_table, (omega arith, omega arith)))
-
-walk-requires-8 : tie.Need-walk-requires-8
-walk-requires-8 c κs = (mat5_table, (mat5_table, (omega arith, omega arith)))
-
-walk-requires-9 : tie.Need-walk-requires-9
-walk-requires-9 c κs = (two_table, (swap_table, (omega arith, omega arith)))
+walk-requires c κs = (two_table, (swap_table, (omega arith, omega arith)))
 
 returns : tie.Need-returns
 unfolding agreed
 returns c =
-    let e0 = calls_more empty 0 3 _ walks.0 c.before.before.before.before.before.before.before.before.before.before.before.before.before.before.before.before.before.before.before.before.before.before.before.before.before.start.ensures c.before.before.before.before.before.before.before.before.before.before.before.before.before.before.before.before.before.before.before.before.before.before.before.before.walk.ensures in
-    let e1 = calls_more empty 3 4 _ walks.1 e0 c.before.before.before.before.before.before.before.before.before.before.before.before.before.before.before.before.before.before.before.before.before.walk2.ensures in
-    let e2 = calls_more empty 7 2 _ walks.2 e1 c.before.before.before.before.before.before.before.before.before.before.before.before.before.before.before.before.before.before.walk3.ensures in
-    let e3 = calls_more empty 9 5 _ walks.3 e2 c.before.before.before.before.before.before.before.before.before.before.before.before.before.before.before.walk4.ensures in
-    let e4 = calls_more empty 14 4 _ walks.4 e3 c.before.before.before.before.before.before.before.before.before.before.before.before.walk5.ensures in
-    let e5 = calls_more empty 18 4 _ walks.5 e4 c.before.before.before.before.before.before.before.before.before.walk6.ensures in
-    let e6 = calls_more empty 22 3 _ walks.6 e5 c.before.before.before.before.before.before.walk7.ensures in
-    let e7 = calls_more empty 25 3 _ walks.7 e6 c.before.before.before.walk8.ensures in
-    calls_more empty 28 2 _ walks.8 e7 c.walk9.ensures
+    let e0 = calls_more empty 0 3 _ walks.0 c.start.ensures c.walk-case6.ensures in
+    let e1 = calls_more empty 3 4 _ walks.1 e0 c.walk-case7.ensures in
+    let e2 = calls_more empty 7 2 _ walks.2 e1 c.walk-case8.ensures in
+    let e3 = calls_more empty 9 5 _ walks.3 e2 c.walk-case9.ensures in
+    let e4 = calls_more empty 14 4 _ walks.4 e3 c.walk-case10.ensures in
+    let e5 = calls_more empty 18 4 _ walks.5 e4 c.walk-case11.ensures in
+    let e6 = calls_more empty 22 3 _ walks.6 e5 c.walk-after.ensures in
+    let e7 = calls_more empty 25 3 _ walks.7 e6 c.walk-case12.ensures in
+    calls_more empty 28 2 _ walks.8 e7 c.walk.ensures
 
 pub maps_spec : {M : Type 1} → statement M
 maps_spec =
@@ -81,29 +81,29 @@ maps_spec =
     (λ c. search rules)
     (λ c. search rules)
     (λ c κs. search rules)
+    walk-case6-requires
+    (λ c. search rules)
+    (λ c. search rules)
+    walk-case7-requires
+    (λ c. search rules)
+    (λ c. search rules)
+    walk-case8-requires
+    (λ c. search rules)
+    (λ c. search rules)
+    walk-case9-requires
+    (λ c. search rules)
+    (λ c. search rules)
+    walk-case10-requires
+    (λ c. search rules)
+    (λ c. search rules)
+    walk-case11-requires
+    (λ c. search rules)
+    (λ c. search rules)
+    walk-after-requires
+    (λ c. search rules)
+    (λ c. search rules)
+    walk-case12-requires
+    (λ c. search rules)
+    (λ c. search rules)
     walk-requires
-    (λ c. search rules)
-    (λ c. search rules)
-    walk-requires-2
-    (λ c. search rules)
-    (λ c. search rules)
-    walk-requires-3
-    (λ c. search rules)
-    (λ c. search rules)
-    walk-requires-4
-    (λ c. search rules)
-    (λ c. search rules)
-    walk-requires-5
-    (λ c. search rules)
-    (λ c. search rules)
-    walk-requires-6
-    (λ c. search rules)
-    (λ c. search rules)
-    walk-requires-7
-    (λ c. search rules)
-    (λ c. search rules)
-    walk-requires-8
-    (λ c. search rules)
-    (λ c. search rules)
-    walk-requires-9
     returns)

@@ -9,12 +9,12 @@ use Rattle.cases.specs.InnerAnswering.{same_given_powers}
 use Rattle.cases.proofs.worked.same_powers.Statement.{statement}
 use Rattle.cases.proofs.worked.same_powers.Tie as tie
 
-returns-2 : tie.Need-returns-2
+returns : tie.Need-returns
 unfolding same_index_period
-returns-2 c =
-    let known = c.before.before.before.before.before.before.before in
-    let b = known.before.before.args.b in
-    sym (ap {B = Bool} (λ (x : IndexPeriodAnswer). same_given_powers (index_period_says x) (index_period_value b)) known.a.given.1)
+returns c =
+    let known = c in
+    let b = known.args.b in
+    sym (ap {B = Bool} (λ (x : IndexPeriodAnswer). same_given_powers (index_period_says x) (index_period_value b)) known.in-Value.is)
 
 pub same_powers_spec : {M : Type 1} → statement M
-same_powers_spec = tie.close (tie.spec (λ c. search rules) (λ c. search rules) (λ c. search rules) returns-2)
+same_powers_spec = tie.close (tie.spec (λ c. search rules) (λ c. search rules) (λ c. search rules) returns)

@@ -9,12 +9,12 @@ use Rattle.cases.specs.InnerAnswering.{same_given_profile}
 use Rattle.cases.proofs.worked.same_profile.Statement.{statement}
 use Rattle.cases.proofs.worked.same_profile.Tie as tie
 
-returns-2 : tie.Need-returns-2
+returns : tie.Need-returns
 unfolding same_profile same_index_period
-returns-2 c =
-    let known = c.before.before.before.before.before.before.before.before.before.before.before.before.before.before.before.before.before in
-    let b = known.before.before.args.b in
-    sym (ap {B = Bool} (λ (x : ProfileAnswer). same_given_profile (profile_says x) (profile_value b)) known.a.given.1)
+returns c =
+    let known = c in
+    let b = known.args.b in
+    sym (ap {B = Bool} (λ (x : ProfileAnswer). same_given_profile (profile_says x) (profile_value b)) known.in-Value.is)
 
 pub same_profile_spec : {M : Type 1} → statement M
-same_profile_spec = tie.close (tie.spec (λ c. search rules) (λ c. search rules) (λ c. search rules) returns-2)
+same_profile_spec = tie.close (tie.spec (λ c. search rules) (λ c. search rules) (λ c. search rules) returns)
