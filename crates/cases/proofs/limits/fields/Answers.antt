@@ -16,9 +16,7 @@ use Rattle.semigroups.specs.Copies.{same_list}
 use Rattle.judging.specs.declared.tally.Tally.{Tally}
 use Rattle.cases.specs.InnerAnswering.{numbered_tally}
 use Rattle.judging.specs.InnerTally.{empty, agreed}
-use borrow.Author.Rules.{rules}
-use Rattle.cases.proofs.limits.fields.Statement.{statement}
-use Rattle.cases.proofs.limits.fields.Tie as tie
+use Rattle.cases.proofs.limits.fields.Goals as goal
 
 abbrev told : List ℕ → ℕ → ℕ → ℕ → Tally → Tally
 told text number value cell = numbered_tally (load_answer text (7 ∷ 7 ∷ [])) number value (cells_after text (7 ∷ 7 ∷ [])) (cell ∷ 7 ∷ [])
@@ -30,11 +28,5 @@ all_agree :
 unfolding agreed same_said same_list at range all find is_element first_of is_digit value value_from is_break onto records fields rows fields_of order_of cells_of break_at in_break is_allowed first_other bytes_refusal field_refusal fields_refusal is_square fields_questions load_refusal load_answer cells_after or_else flat_map flatten
 all_agree = refl
 
-returns : tie.Need-returns
-returns c = cc all_agree
-
-pub fields_spec : {M : Type 1} → statement M
-fields_spec =
-    tie.close
-    (tie.spec (λ c. search rules) (λ c κs. search rules) (λ c κs. search rules) (λ c. search rules) (λ c κs. search rules)
-    (λ c. search rules) (λ c κs. search rules) (λ c. search rules) (λ c κs. search rules) returns)
+pub returns : goal.returns
+returns c = record { answer = cc all_agree }

@@ -20,9 +20,7 @@ use Rattle.judging.specs.InnerTally.{empty, counted, agreed}
 use Rattle.comparisons.specs.InnerWalking.{walk_calls}
 use Rattle.judging.proofs.Counting.{agreed_counted}
 use Rattle.cases.proofs.Tables.{mat5_table}
-use borrow.Author.Rules.{rules}
-use Rattle.cases.proofs.limits.large_target.Statement.{statement}
-use Rattle.cases.proofs.limits.large_target.Tie as tie
+use Rattle.cases.proofs.limits.large_target.Goals as goal
 
 three_accepted : Accepted 27 (transformation_cells 3)
 unfolding transformation_order
@@ -38,32 +36,17 @@ order_said : same_said (answer_said (transformation_says 3 729)) (record { numbe
 unfolding same_said at is_element first_of transformation_order transformation_refusal transformation_says or_else
 order_said = refl
 
-walk-requires : tie.Need-walk-requires
-walk-requires c κs =
-    let filling = c in
-    (mat5_table, (subst (Accepted 27) (sym (filling.fill.ensures.1 ∙ filled)) three_accepted, (omega arith, omega arith)))
+pub walk-requires-clause-fact_1 : goal.walk-requires-clause-fact_1
+walk-requires-clause-fact_1 c = mat5_table
 
-returns : tie.Need-returns
+pub walk-requires-clause-fact_2 : goal.walk-requires-clause-fact_2
+walk-requires-clause-fact_2 c = subst (Accepted 27) (sym (c.fill.ensures.cells ∙ filled)) three_accepted
+
+pub returns : goal.returns
 returns c =
-    let filling = c in
-    let says = c.numbered_said-answer.ensures ∙ ap answer_said filling.fill.ensures.0 in
-    let same = c.same_said.ensures ∙ ap (λ (x : Said). same_said x c.failed.result) says ∙ ap (same_said (answer_said (transformation_says 3 729))) c.failed.ensures ∙ order_said in
-    let one = c.counted-answered.ensures ∙ ap (λ (t : Tally). counted t c.same_said.result) c.start.ensures ∙ ap (counted empty) same in
-    c.walk.ensures ∙ ap (λ (l : List ℕ). agreed (walk_calls false mat5_cells 5 l 27 (replicate 5 0)) c.counted-answered.result) (filling.fill.ensures.1 ∙ filled)
-    ∙ ap (agreed (walk_calls false mat5_cells 5 (transformation_cells 3) 27 (replicate 5 0))) one ∙ agreed_counted (walk_calls false mat5_cells 5 (transformation_cells 3) 27 (replicate 5 0)) empty
-
-pub large_target_spec : {M : Type 1} → statement M
-large_target_spec =
-    tie.close
-    (tie.spec
-    (λ c. search rules)
-    (λ c κs. search rules)
-    (λ c κs. search rules)
-    (λ c κs. search rules)
-    (λ c κs. search rules)
-    (λ c κs. search rules)
-    (λ c κs. search rules)
-    (λ c. search rules)
-    (λ c. search rules)
-    walk-requires
-    returns)
+    let says = c.numbered_said-answer.ensures.answer ∙ ap answer_said c.fill.ensures.answer in
+    let same = c.same_said.ensures.answer ∙ ap (λ (x : Said). same_said x c.failed.result) says ∙ ap (same_said (answer_said (transformation_says 3 729))) c.failed.ensures.answer ∙ order_said in
+    let one = c.counted-answered.ensures.answer ∙ ap (λ (t : Tally). counted t c.same_said.result) c.start.ensures.answer ∙ ap (counted empty) same in
+    record { answer =
+    c.walk.ensures.answer ∙ ap (λ (l : List ℕ). agreed (walk_calls false mat5_cells 5 l 27 (replicate 5 0)) c.counted-answered.result) (c.fill.ensures.cells ∙ filled)
+    ∙ ap (agreed (walk_calls false mat5_cells 5 (transformation_cells 3) 27 (replicate 5 0))) one ∙ agreed_counted (walk_calls false mat5_cells 5 (transformation_cells 3) 27 (replicate 5 0)) empty }
