@@ -7,7 +7,7 @@ use Rattle.exports.proofs.tickdrizzle_first_embedding_among.Statement.{statement
 use Rattle.exports.proofs.tickdrizzle_first_embedding_among.Tie as tie
 
 returns : tie.Need-returns
-returns c = words_left sought_values _ c.search-words.ensures c.before.before.before.before.before.first-among.ensures
+returns c = words_left sought_values _ c.search_words.ensures c.first_among.ensures
 
 pub tickdrizzle_first_embedding_among_spec : {M : Type 1} → statement M
 tickdrizzle_first_embedding_among_spec =

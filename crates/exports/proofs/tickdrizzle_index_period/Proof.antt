@@ -5,7 +5,7 @@ use Rattle.exports.proofs.tickdrizzle_index_period.Statement.{statement}
 use Rattle.exports.proofs.tickdrizzle_index_period.Tie as tie
 
 returns : tie.Need-returns
-returns c = rw c.before.index_period_law.ensures at c.index-period-words.ensures
+returns c = rw c.index_period.ensures at c.index_period_words.ensures
 
 pub tickdrizzle_index_period_spec : {M : Type 1} → statement M
 tickdrizzle_index_period_spec =

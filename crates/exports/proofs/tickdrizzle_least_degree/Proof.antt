@@ -6,8 +6,8 @@ use Rattle.exports.proofs.tickdrizzle_least_degree.Tie as tie
 
 returns : tie.Need-returns
 returns c =
-    let called = c.before.before.before.least_degree_law.ensures in
-    (rw called.0 at c.degree-words.ensures, called.1)
+    let called = c.least_degree.ensures in
+    (rw called.0 at c.degree_words.ensures, called.1)
 
 pub tickdrizzle_least_degree_spec : {M : Type 1} → statement M
 tickdrizzle_least_degree_spec =

@@ -6,8 +6,8 @@ use Rattle.exports.proofs.tickdrizzle_load.Tie as tie
 
 returns : tie.Need-returns
 returns c =
-    let called = c.before.before.before.load.ensures in
-    (rw called.0 at c.numbered-words.ensures, called.1)
+    let called = c.load.ensures in
+    (rw called.0 at c.numbered_words.ensures, called.1)
 
 pub tickdrizzle_load_spec : {M : Type 1} → statement M
 tickdrizzle_load_spec =

@@ -7,7 +7,7 @@ use Rattle.exports.proofs.tickdrizzle_next_embedding_among.Statement.{statement}
 use Rattle.exports.proofs.tickdrizzle_next_embedding_among.Tie as tie
 
 returns : tie.Need-returns
-returns c = words_left sought_values _ c.search-words.ensures c.before.before.before.before.before.next-among.ensures
+returns c = words_left sought_values _ c.search_words.ensures c.next_among.ensures
 
 pub tickdrizzle_next_embedding_among_spec : {M : Type 1} → statement M
 tickdrizzle_next_embedding_among_spec =

@@ -6,8 +6,8 @@ use Rattle.exports.proofs.tickdrizzle_save.Tie as tie
 
 returns : tie.Need-returns
 returns c =
-    let called = c.before.before.before.save.ensures in
-    (rw called.0 at c.numbered-words.ensures, called.1)
+    let called = c.save.ensures in
+    (rw called.0 at c.numbered_words.ensures, called.1)
 
 pub tickdrizzle_save_spec : {M : Type 1} → statement M
 tickdrizzle_save_spec = tie.close (tie.spec (λ c κs. search rules) (λ c κs. search rules) (λ c. search rules) returns)

@@ -6,8 +6,8 @@ use Rattle.exports.proofs.tickdrizzle_subsemigroup.Tie as tie
 
 returns : tie.Need-returns
 returns c =
-    let called = c.before.before.before.before.before.subsemigroup.ensures in
-    (rw called.0 at c.numbered-words.ensures, called.1)
+    let called = c.subsemigroup.ensures in
+    (rw called.0 at c.numbered_words.ensures, called.1)
 
 pub tickdrizzle_subsemigroup_spec : {M : Type 1} → statement M
 tickdrizzle_subsemigroup_spec =

@@ -6,8 +6,8 @@ use Rattle.exports.proofs.tickdrizzle_transformations.Tie as tie
 
 returns : tie.Need-returns
 returns c =
-    let called = c.before.before.before.fill.ensures in
-    (rw called.0 at c.numbered-words.ensures, called.1)
+    let called = c.fill.ensures in
+    (rw called.0 at c.numbered_words.ensures, called.1)
 
 pub tickdrizzle_transformations_spec : {M : Type 1} → statement M
 tickdrizzle_transformations_spec =
