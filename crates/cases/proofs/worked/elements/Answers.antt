@@ -11,9 +11,7 @@ use Rattle.semigroups.specs.Invariants.{power, period_from, index, period, idemp
 use Rattle.cases.specs.InnerAnswering.{same_given_powers, same_given_profile}
 use Rattle.cases.specs.InnerEmbedded.{mat5_cells}
 use Rattle.judging.specs.InnerTally.{empty, counted, agreed}
-use borrow.Author.Rules.{rules}
-use Rattle.cases.proofs.worked.elements.Statement.{statement}
-use Rattle.cases.proofs.worked.elements.Tie as tie
+use Rattle.cases.proofs.worked.elements.Goals as goal
 
 -- Cases 4 and 5.
 both_agree :
@@ -24,20 +22,5 @@ both_agree :
 unfolding agreed range elements at find sum count least lists product is_element associates bad_cell bad_triple first_of cells_refusal table_refusal element_refusal power period_from index period idempotent_power frequency diagonal_frequency row_frequency column_frequency commuting index_period same_index_period profile same_profile or_else flat_map
 both_agree = refl
 
-returns : tie.Need-returns
-returns c = cc both_agree
-
-pub elements_spec : {M : Type 1} → statement M
-elements_spec =
-    tie.close
-    (tie.spec
-    (λ c. search rules)
-    (λ c κs. search rules)
-    (λ c κs. search rules)
-    (λ c. search rules)
-    (λ c κs. search rules)
-    (λ c κs. search rules)
-    (λ c κs. search rules)
-    (λ c κs. search rules)
-    (λ c κs. search rules)
-    returns)
+pub returns : goal.returns
+returns c = record { answer = cc both_agree }

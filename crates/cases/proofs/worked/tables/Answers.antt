@@ -13,9 +13,7 @@ use Rattle.plain.specs.InnerSaid.{said_of}
 use Rattle.judging.specs.InnerSaid.{same_said}
 use Rattle.judging.specs.declared.tally.Tally.{Tally}
 use Rattle.judging.specs.InnerTally.{empty, counted, agreed}
-use borrow.Author.Rules.{rules}
-use Rattle.cases.proofs.worked.tables.Statement.{statement}
-use Rattle.cases.proofs.worked.tables.Tie as tie
+use Rattle.cases.proofs.worked.tables.Goals as goal
 
 abbrev told : ℕ → List ℕ → Said → Tally → Tally
 told n cells said t = counted (counted t (same_said (said_of (table_refusal n cells)) said)) true
@@ -29,20 +27,5 @@ all_agree :
 unfolding agreed same_said range elements at find lists product is_element associates bad_cell bad_triple first_of cells_refusal table_refusal or_else flat_map
 all_agree = refl
 
-returns : tie.Need-returns
-returns c = cc all_agree
-
-pub tables_spec : {M : Type 1} → statement M
-tables_spec =
-    tie.close
-    (tie.spec
-    (λ c. search rules)
-    (λ c κs. search rules)
-    (λ c κs. search rules)
-    (λ c. search rules)
-    (λ c κs. search rules)
-    (λ c κs. search rules)
-    (λ c. search rules)
-    (λ c κs. search rules)
-    (λ c κs. search rules)
-    returns)
+pub returns : goal.returns
+returns c = record { answer = cc all_agree }
