@@ -21,11 +21,12 @@ loop-wanted-smaller c =
 
 pub loop-wanted-preserved : goal.loop-wanted-preserved
 loop-wanted-preserved c =
-    let l = c.loop-wanted in
-    (c.read_numbered-reading.ensures.size ∙ l.invariant.0,
-    c.step-classifier.auto.cells ∙ l.invariant.1,
-    later_sound (progress_of l.classifier l.cells) l.invariant.2 (λ e. c.loop-wanted-test.true (l.invariant.3 _ ∙ e)) (opened_text c.read_numbered-reading.result.opened (take c.read_numbered-reading.result.length c.read_numbered-reading.new.text)) c.step-classifier.ensures.answer,
-    c.wanted-wanted-in-loop-wanted.ensures.answer)
+    let l = c.loop-wanted in (
+      c.read_numbered-reading.ensures.size ∙ l.invariant.0,
+      c.step-classifier.auto.cells ∙ l.invariant.1,
+      later_sound (progress_of l.classifier l.cells) l.invariant.2 (λ e. c.loop-wanted-test.true (l.invariant.3 _ ∙ e)) (opened_text c.read_numbered-reading.result.opened (take c.read_numbered-reading.result.length c.read_numbered-reading.new.text)) c.step-classifier.ensures.answer,
+      c.wanted-wanted-in-loop-wanted.ensures.answer,
+    )
 
 pub put-written-requires-clause-few : goal.put-written-requires-clause-few
 put-written-requires-clause-few c = few_notes c.loop-wanted.classifier c.loop-wanted.cells c.loop-wanted.invariant.2

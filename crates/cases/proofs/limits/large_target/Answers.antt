@@ -47,6 +47,8 @@ returns c =
     let says = c.numbered_said-answer.ensures.answer ∙ ap answer_said c.fill.ensures.answer in
     let same = c.same_said.ensures.answer ∙ ap (λ (x : Said). same_said x c.failed.result) says ∙ ap (same_said (answer_said (transformation_says 3 729))) c.failed.ensures.answer ∙ order_said in
     let one = c.counted-answered.ensures.answer ∙ ap (λ (t : Tally). counted t c.same_said.result) c.start.ensures.answer ∙ ap (counted empty) same in
-    record { answer =
-    c.walk.ensures.answer ∙ ap (λ (l : List ℕ). agreed (walk_calls false mat5_cells 5 l 27 (replicate 5 0)) c.counted-answered.result) (c.fill.ensures.cells ∙ filled)
-    ∙ ap (agreed (walk_calls false mat5_cells 5 (transformation_cells 3) 27 (replicate 5 0))) one ∙ agreed_counted (walk_calls false mat5_cells 5 (transformation_cells 3) 27 (replicate 5 0)) empty }
+    record {
+      answer =
+          c.walk.ensures.answer ∙ ap (λ (l : List ℕ). agreed (walk_calls false mat5_cells 5 l 27 (replicate 5 0)) c.counted-answered.result) (c.fill.ensures.cells ∙ filled)
+          ∙ ap (agreed (walk_calls false mat5_cells 5 (transformation_cells 3) 27 (replicate 5 0))) one ∙ agreed_counted (walk_calls false mat5_cells 5 (transformation_cells 3) 27 (replicate 5 0)) empty;
+    }
