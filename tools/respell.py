@@ -113,18 +113,6 @@ def report(declared, rows, texts):
     for s, ns in sorted(spelled.items()):
         if len(ns) > 1:
             print("together:", s, "=", ", ".join(f"{n} ({', '.join(sorted(p.split('crates/')[1] for p in list(declared[n])[:3]))})" for n in sorted(ns)))
-    kit = set()
-    for p in glob.glob("/opt/rattle/rattle/**/*.antt", recursive=True):
-        with open(p, encoding="utf-8", errors="replace") as f:
-            for line in f:
-                m = HEAD.match(line)
-                if m:
-                    kit.add(m.group(1))
-    for n, s in sorted(rows.items()):
-        if s in kit:
-            print("kit:", n, s, *[p.split("crates/")[1] for p in sorted(declared[n])][:3])
-        if n in kit:
-            print("kit's own:", n, *[p.split("crates/")[1] for p in sorted(declared[n])][:3])
     print(len(rows), "rows")
 
 
