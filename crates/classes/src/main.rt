@@ -4,30 +4,28 @@
 
 #![tactic(auto)]
 
-ghost use Rattle.std.specs.Prelude.{◌≡◌, ◌<◌, length};
+ghost use Rattle.std.specs.Prelude.{◌≡◌, false, ◌<◌, length};
 ghost use Rattle.io.specs.Counts.{IsPrefixLen};
 ghost use Rattle.rfc4180.specs.Questions.{longest_text};
 
 use progress::{Classifier, file_name};
-use reading::{Reading, descriptor, read_file};
-use std::{fs, str};
+use reading::{Reading, read_file, read_path};
+use std::str;
 use tables::limits::{CELLS, FILE};
 
 // The descriptor of standard output.
 const STDOUT: i32 = 1;
 
-// Reads file k into `text`. A name that is no text, which no file has, counts as not opened.
+// Opens file k, reads it into `text` and closes it. Its name is ASCII, so that it is always text.
 fn read_numbered(rt: &HostRuntime, k: usize, text: &mut [u8]) -> Reading
     requires room { longest_text < length text.old }
     ensures count { IsPrefixLen result.length text.new }
     ensures size { length text.new ≡ length text.old }
+    ensures unopened { result.opened ≡ false → (result.length ≡ 0) × (text.new ≡ text.old) }
 {
     let name = file_name(k);
     match str::from_utf8(&name) {
-        Ok(path) => {
-            let file = fs::open(rt, path);
-            read_file(descriptor(&file), text)
-        }
+        Ok(path) => read_path(rt, path, text),
         Err(_) => read_file(-1, text),
     }
 }

@@ -139,7 +139,8 @@ fn associative_through(cells: &[u8], n: usize, list: &[u8]) -> Verdict
     'triples: while i <= n {
         let mut j: usize = 1;
         while j <= n {
-            if middles[j] != 0 {
+            let listed = middles[j] != 0;
+            if listed {
                 let third = products::failing_third(cells, n, i, j);
                 if let Place::At(k) = third {
                     verdict = Verdict::Refused(Fault::Triple(i, j, k));

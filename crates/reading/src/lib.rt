@@ -2,12 +2,13 @@
 
 #![tactic(auto)]
 
-ghost use Rattle.std.specs.Prelude.{◌≡◌, false, ◌<◌, length, IsErr};
+ghost use Rattle.std.specs.Prelude.{◌≡◌, false, ◌<◌, length, IfOk, IsErr};
+ghost use Rattle.std.specs.Fd.{file_raw_fd};
 ghost use Rattle.io.specs.Counts.{IsPrefixLen};
 ghost use Rattle.rfc4180.specs.Questions.{longest_text};
 ghost use Rattle.reading.specs.Opened.{is_open};
 
-use std::fs::File;
+use std::fs::{self, File};
 use std::io::Error;
 use std::os::fd::AsRawFd;
 
@@ -19,7 +20,8 @@ pub struct Reading {
 }
 
 // Returns the descriptor of a file that a program tried to open, or -1 if it could not be opened.
-pub fn descriptor(file: &Result<File, Error>) -> i32
+fn descriptor(file: &Result<File, Error>) -> i32
+    ensures opened { IfOk file.now (λ f. result ≡ file_raw_fd f) }
     ensures unopened { IsErr file.now → is_open result ≡ false }
 {
     match file {
@@ -48,4 +50,15 @@ pub fn read_file(fd: i32, text: &mut [u8]) -> Reading
         opened: true,
         length,
     }
+}
+
+// Opens the file with this path, reads it into `text` and closes it. Returns what `read_file` does.
+pub fn read_path(rt: &HostRuntime, path: &str, text: &mut [u8]) -> Reading
+    requires room { longest_text < length text.old }
+    ensures count { IsPrefixLen result.length text.new }
+    ensures size { length text.new ≡ length text.old }
+    ensures unopened { result.opened ≡ false → (result.length ≡ 0) × (text.new ≡ text.old) }
+{
+    let file = fs::open(rt, path);
+    read_file(descriptor(&file), text)
 }

@@ -3,8 +3,7 @@
 
 #![tactic(auto)]
 
-use reading::{descriptor, read_file};
-use std::fs;
+use reading::read_path;
 use tables::limits::{FILE, OUTPUT};
 
 // The descriptor of standard output.
@@ -14,10 +13,8 @@ fn main(rt: HostRuntime) {
     let mut source = [0u8; FILE];
     let mut target = [0u8; FILE];
     let mut out = [0u8; OUTPUT];
-    let source_file = fs::open(&rt, "source.csv");
-    let target_file = fs::open(&rt, "target.csv");
-    let first = read_file(descriptor(&source_file), &mut source);
-    let second = read_file(descriptor(&target_file), &mut target);
+    let first = read_path(&rt, "source.csv", &mut source);
+    let second = read_path(&rt, "target.csv", &mut target);
     let source_length = first.length;
     let target_length = second.length;
     let written = output::recue(&source[..source_length], &target[..target_length], &mut out);

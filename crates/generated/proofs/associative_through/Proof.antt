@@ -17,7 +17,7 @@ use Rattle.products.proofs.Triples.{from_first, from_pair, triples_begin, first_
 use Rattle.light.proofs.Indicators.{unmarked, is_marked_law}
 use Rattle.generated.proofs.Questions.{fails_through, unlisted, no_failing_through, failing_through}
 use Rattle.generated.proofs.associative_through.Statement.{statement}
-use Rattle.generated.proofs.associative_through.Lts.{then-middles-j-ne0+in_default, else-middles-j-ne0}
+use Rattle.generated.proofs.associative_through.Lts.{then-listed+in_default, else-listed}
 use Rattle.generated.proofs.associative_through.Tie as tie
 
 abbrev refusal : Option (List ℕ) → Option Refusal
@@ -92,9 +92,9 @@ loop-j-preserved c =
     let i = l.triples.i in
     let j = l.loop-j.j in
     let list = s.args.list.now in
-    elim c.if-middles-j-ne0.branch [
-      | then-middles-j-ne0+in_default w ↦ (omega arith, v.1, v.2 ∙ pair_skip _ _ _ _ t (λ k h. no_failing_through (table s) list i j k (third_none (table s) _ i j (sym w.failing_third-third.ensures ∙ ap place_option w.in_default.is) k h)))
-      | else-middles-j-ne0 w ↦ (omega arith, v.1, v.2 ∙ pair_skip _ _ _ _ t (λ k h. unlisted (table s) list i j k (unmarked list _ (omega arith) (sym (ap (λ (m : List ℕ). get_or m j 0) l.marked-middles.ensures) ∙ w.if-middles-j-ne0.false))))
+    elim c.if-listed.branch [
+      | then-listed+in_default w ↦ (omega arith, v.1, v.2 ∙ pair_skip _ _ _ _ t (λ k h. no_failing_through (table s) list i j k (third_none (table s) _ i j (sym w.failing_third-third.ensures ∙ ap place_option w.in_default.is) k h)))
+      | else-listed w ↦ (omega arith, v.1, v.2 ∙ pair_skip _ _ _ _ t (λ k h. unlisted (table s) list i j k (unmarked list _ (omega arith) (sym (ap (λ (m : List ℕ). get_or m j 0) l.marked-middles.ensures) ∙ w.if-listed.false))))
     ]
 
 overflow_add-i : tie.Need-overflow_add-i invariant-loop-j decreases-loop-j invariant-triples decreases-triples
@@ -128,7 +128,7 @@ returns-in-At c =
     let i = l.triples.i in
     let j = d.loop-j.j in
     let list = s.args.list.now in
-    let m = is_marked_law list _ (omega arith) (λ e. c.if-middles-j-ne0.true (ap (λ (m : List ℕ). get_or m j 0) l.marked-middles.ensures ∙ e)) in
+    let m = is_marked_law list _ (omega arith) (λ e. c.if-listed.true (ap (λ (m : List ℕ). get_or m j 0) l.marked-middles.ensures ∙ e)) in
     let e = sym c.failing_third-third.ensures ∙ ap place_option c.in-At.is in
     let k = third_some (table s.before.before) _ i j _ e in
     sym (ap refusal (d.loop-j.invariant.2 ∙ pair_hit _ _ _ _ _ t k.0 (λ x h. no_failing_through (table s.before.before) list i j x (third_before (table s.before.before) _ i j _ e x h)) (failing_through (table s.before.before) list i j _ m k.1)))
