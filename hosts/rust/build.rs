@@ -60,6 +60,8 @@ fn pkg_config(asked: &str) -> String {
 fn newest(folder: &Path) -> Option<SystemTime> {
     let entries = fs::read_dir(folder).ok()?.filter_map(Result::ok).map(|entry| entry.path());
     let of_entry = |path: PathBuf| match path.extension() {
+        // What rt builds of a crate holds copies of its sources.
+        _ if path.ends_with("out") => None,
         _ if path.is_dir() => newest(&path),
         Some(ending) if ending == "rt" || ending == "antt" => changed(&path),
         _ => None,

@@ -4,31 +4,13 @@
 
 #![tactic(auto)]
 
-ghost use Rattle.std.specs.Prelude.{◌≡◌, false, ◌<◌, length};
-ghost use Rattle.io.specs.Counts.{IsPrefixLen};
-ghost use Rattle.rfc4180.specs.Questions.{longest_text};
-
 use progress::{Classifier, file_name};
-use reading::{Reading, read_file, read_path};
-use std::str;
+use reading::read_opened;
+use std::{fs, str};
 use tables::limits::{CELLS, FILE};
 
 // The descriptor of standard output.
 const STDOUT: i32 = 1;
-
-// Opens file k, reads it into `text` and closes it. Its name is ASCII, so that it is always text.
-fn read_numbered(rt: &HostRuntime, k: usize, text: &mut [u8]) -> Reading
-    requires room { longest_text < length text.old }
-    ensures count { IsPrefixLen result.length text.new }
-    ensures size { length text.new ≡ length text.old }
-    ensures unopened { result.opened ≡ false → (result.length ≡ 0) × (text.new ≡ text.old) }
-{
-    let name = file_name(k);
-    match str::from_utf8(&name) {
-        Ok(path) => read_path(rt, path, text),
-        Err(_) => read_file(-1, text),
-    }
-}
 
 fn main(rt: HostRuntime) {
     let mut text = [0u8; FILE];
@@ -37,7 +19,10 @@ fn main(rt: HostRuntime) {
     let mut classifier = Classifier::start();
     let mut wanted = classifier.wanted();
     while wanted != 0 {
-        let reading = read_numbered(&rt, wanted, &mut text);
+        let name = file_name(wanted);
+        // The name is ASCII, so it is always text.
+        let path = str::from_utf8(&name).unwrap_or("");
+        let reading = read_opened(fs::open(&rt, path), &mut text);
         let length = reading.length;
         classifier = classification::step(classifier, reading.opened, &text[..length], &mut cells);
         wanted = classifier.wanted();

@@ -2,13 +2,12 @@
 
 #![tactic(auto)]
 
-ghost use Rattle.std.specs.Prelude.{◌≡◌, false, ◌<◌, length, IfOk, IsErr};
-ghost use Rattle.std.specs.Fd.{file_raw_fd};
+ghost use Rattle.std.specs.Prelude.{◌≡◌, false, ◌<◌, length, is_ok, IsErr};
 ghost use Rattle.io.specs.Counts.{IsPrefixLen};
 ghost use Rattle.rfc4180.specs.Questions.{longest_text};
-ghost use Rattle.reading.specs.Opened.{is_open};
+ghost use Rattle.reading.specs.InnerOpened.{is_open};
 
-use std::fs::{self, File};
+use std::fs::File;
 use std::io::Error;
 use std::os::fd::AsRawFd;
 
@@ -17,17 +16,6 @@ use std::os::fd::AsRawFd;
 pub struct Reading {
     pub opened: bool,
     pub length: usize,
-}
-
-// Returns the descriptor of a file that a program tried to open, or -1 if it could not be opened.
-fn descriptor(file: &Result<File, Error>) -> i32
-    ensures opened { IfOk file.now (λ f. result ≡ file_raw_fd f) }
-    ensures unopened { IsErr file.now → is_open result ≡ false }
-{
-    match file {
-        Ok(opened) => opened.as_raw_fd(),
-        Err(_) => -1,
-    }
 }
 
 // Reads the file with this descriptor into `text`. Returns whether it was opened, which it was unless the descriptor is negative, and how many
@@ -52,13 +40,20 @@ pub fn read_file(fd: i32, text: &mut [u8]) -> Reading
     }
 }
 
-// Opens the file with this path, reads it into `text` and closes it. Returns what `read_file` does.
-pub fn read_path(rt: &HostRuntime, path: &str, text: &mut [u8]) -> Reading
+// Reads a file that a program has tried to open into `text` and closes it. Returns whether it was opened and how many bytes were read, as `read_file` does.
+pub fn read_opened(file: Result<File, Error>, text: &mut [u8]) -> Reading
     requires room { longest_text < length text.old }
+    ensures opened { result.opened ≡ is_ok file }
     ensures count { IsPrefixLen result.length text.new }
     ensures size { length text.new ≡ length text.old }
-    ensures unopened { result.opened ≡ false → (result.length ≡ 0) × (text.new ≡ text.old) }
+    ensures unopened { IsErr file → (result.length ≡ 0) × (text.new ≡ text.old) }
 {
-    let file = fs::open(rt, path);
-    read_file(descriptor(&file), text)
+    let Ok(opened) = file else {
+        return read_file(-1, text);
+    };
+    let length = read_file(opened.as_raw_fd(), text).length;
+    Reading {
+        opened: true,
+        length,
+    }
 }

@@ -3,7 +3,8 @@
 
 #![tactic(auto)]
 
-use reading::read_path;
+use reading::read_opened;
+use std::fs;
 use tables::limits::{FILE, OUTPUT};
 
 // The descriptor of standard output.
@@ -13,8 +14,8 @@ fn main(rt: HostRuntime) {
     let mut source = [0u8; FILE];
     let mut target = [0u8; FILE];
     let mut out = [0u8; OUTPUT];
-    let first = read_path(&rt, "source.csv", &mut source);
-    let second = read_path(&rt, "target.csv", &mut target);
+    let first = read_opened(fs::open(&rt, "source.csv"), &mut source);
+    let second = read_opened(fs::open(&rt, "target.csv"), &mut target);
     let source_length = first.length;
     let target_length = second.length;
     let written = output::recue(&source[..source_length], &target[..target_length], &mut out);

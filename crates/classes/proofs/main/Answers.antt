@@ -17,14 +17,14 @@ step-classifier-requires-clause-wanted c = λ e. c.loop-wanted-test.true (c.loop
 pub loop-wanted-smaller : goal.loop-wanted-smaller
 loop-wanted-smaller c =
     let l = c.loop-wanted in
-    later_fewer (progress_of l.classifier l.cells) l.invariant.2 (λ e. c.loop-wanted-test.true (l.invariant.3 _ ∙ e)) (opened_text c.read_numbered-reading.result.opened (take c.read_numbered-reading.result.length c.read_numbered-reading.new.text)) c.step-classifier.ensures.answer
+    later_fewer (progress_of l.classifier l.cells) l.invariant.2 (λ e. c.loop-wanted-test.true (l.invariant.3 _ ∙ e)) (opened_text c.read_opened-reading.result.opened (take c.read_opened-reading.result.length c.read_opened-reading.new.text)) c.step-classifier.ensures.answer
 
 pub loop-wanted-preserved : goal.loop-wanted-preserved
 loop-wanted-preserved c =
     let l = c.loop-wanted in (
-      c.read_numbered-reading.ensures.size ∙ l.invariant.0,
+      c.read_opened-reading.ensures.size ∙ l.invariant.0,
       c.step-classifier.auto.cells ∙ l.invariant.1,
-      later_sound (progress_of l.classifier l.cells) l.invariant.2 (λ e. c.loop-wanted-test.true (l.invariant.3 _ ∙ e)) (opened_text c.read_numbered-reading.result.opened (take c.read_numbered-reading.result.length c.read_numbered-reading.new.text)) c.step-classifier.ensures.answer,
+      later_sound (progress_of l.classifier l.cells) l.invariant.2 (λ e. c.loop-wanted-test.true (l.invariant.3 _ ∙ e)) (opened_text c.read_opened-reading.result.opened (take c.read_opened-reading.result.length c.read_opened-reading.new.text)) c.step-classifier.ensures.answer,
       c.wanted-wanted-in-loop-wanted.ensures.answer,
     )
 
