@@ -41,12 +41,12 @@ target/lib/libtickdrizzle.a: $(ARCHIVE)
 	mkdir -p target/lib
 	cp $< $@
 
-# The archive is position independent, and tickdrizzle_... are its only global symbols.
+# The archive is position independent, and tickdrizzle_... are its only global symbols. Copies and no links, which rt ci refuses in a checkout.
 target/lib/$(SHARED): $(ARCHIVE)
 	mkdir -p target/lib
 	$(CC) -shared -Wl,-soname,libtickdrizzle.so.$(MAJOR) -Wl,-z,defs,-z,relro,-z,now -Wl,--whole-archive $< -Wl,--no-whole-archive -o $@
-	ln -sf $(SHARED) target/lib/libtickdrizzle.so.$(MAJOR)
-	ln -sf libtickdrizzle.so.$(MAJOR) target/lib/libtickdrizzle.so
+	cp --remove-destination $@ target/lib/libtickdrizzle.so.$(MAJOR)
+	cp --remove-destination $@ target/lib/libtickdrizzle.so
 
 # Below DESTDIR and PREFIX, which may have spaces.
 HERE = "$(DESTDIR)$(PREFIX)"
