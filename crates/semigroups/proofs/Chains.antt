@@ -1,0 +1,40 @@
+-- What the iterators of Rust answer over the elements of a table, in the words of the definitions: a chain over `1..n + 1` runs over the elements 1 to n.
+-- Assumes nothing.
+use Rattle.std.specs.Prelude.{Bool, true, false, ◌&&◌, cond, ℕ, zero, suc, ◌+◌, Some}
+use Rattle.std.specs.List.{list_all, range_with_len, find as first}
+use Rattle.std.proofs.Common.{◌≡◌, refl, ap, ◌∙◌, List, [], ◌∷◌}
+use Rattle.std.proofs.Math.Numerals.{add-one}
+use Rattle.std.proofs.Math.Option.{Option, none, some}
+use Rattle.semigroups.specs.Lists.{range, elements, all, find}
+use Rattle.semigroups.specs.Results.{optional}
+
+-- Consecutive numbers, as Rust's ranges give them.
+pub range_of : (i k : ℕ) → range_with_len i k ≡ range i k
+unfolding range
+range_of i zero = refl
+range_of i (suc k) = ap (λ (l : List ℕ). i ∷ l) (range_of (i + 1) k ∙ ap (λ (j : ℕ). range j k) (add-one i))
+
+module _ {A : Type 0} (p : A → Bool) where
+  pub list_all_is : (l : List A) → list_all p l ≡ all p l
+  unfolding all
+  list_all_is [] = refl
+  list_all_is (x ∷ l) = ap (λ (b : Bool). p x && b) (list_all_is l)
+
+  pub find_is : (l : List A) → optional (first p l) ≡ find p l
+  unfolding find
+  find_is [] = refl
+  find_is (x ∷ l) = by (p x) (find_is l)
+    where
+      by : (b : Bool) → optional (first p l) ≡ find p l → optional (cond b (Some x) (first p l)) ≡ cond b (some x) (find p l)
+      by true e = refl
+      by false e = e
+
+-- A call of `all` over the elements.
+pub all_elements : (p : ℕ → Bool) (n : ℕ) → list_all p (range_with_len 1 n) ≡ all p (elements n)
+unfolding elements
+all_elements p n = ap (list_all p) (range_of 1 n) ∙ list_all_is p (range 1 n)
+
+-- A call of `find` over the elements.
+pub find_elements : (p : ℕ → Bool) (n : ℕ) → optional (first p (range_with_len 1 n)) ≡ find p (elements n)
+unfolding elements
+find_elements p n = ap (λ (l : List ℕ). optional (first p l)) (range_of 1 n) ∙ find_is p (range 1 n)
