@@ -60,10 +60,10 @@ fn note_pair(
     ensures forced { forced.new ≡ asked_at forced.old (product m source.now a b) (image_product (product n target.now) image.now a b) }
     ensures owner { owner.new ≡ asked_at owner.old (image_product (product n target.now) image.now a b) (product m source.now a b) }
 {
-    let c = products::times(source, m, a, b);
+    let c = products::old::times(source, m, a, b);
     let x = image[a - 1] as usize;
     let y = image[b - 1] as usize;
-    let z = products::times(target, n, x, y);
+    let z = products::old::times(target, n, x, y);
     note(forced, c, z);
     note(owner, z, c);
 }
@@ -123,10 +123,10 @@ fn pair_fits(
     requires element { Element (len + 1) a × Element (len + 1) b }
     ensures answer { result ≡ fits (product m source.now) (product n target.now) (take len image.now ++ x ∷ []) a b }
 {
-    let c = products::times(source, m, a, b);
+    let c = products::old::times(source, m, a, b);
     let y = image_of(image, len, x, a);
     let z = image_of(image, len, x, b);
-    let v = products::times(target, n, y, z);
+    let v = products::old::times(target, n, y, z);
     if c <= len + 1 {
         return image_of(image, len, x, c) == v;
     }

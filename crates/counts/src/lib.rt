@@ -10,7 +10,7 @@ ghost use Rattle.products.specs.InnerCounting.{occurrences, InRange};
 ghost use Rattle.counts.specs.InnerCounts.{AllLineCounts, AllCounts};
 
 use products::limits::ORDER;
-use products::{frequencies, tally, times};
+use products::old::{frequencies, tally, times};
 
 // ---- one element
 

@@ -141,7 +141,7 @@ fn associative_through(cells: &[u8], n: usize, list: &[u8]) -> Verdict
         while j <= n {
             let listed = middles[j] != 0;
             if listed {
-                let third = products::failing_third(cells, n, i, j);
+                let third = products::old::failing_third(cells, n, i, j);
                 if let Place::At(k) = third {
                     verdict = Verdict::Refused(Fault::Triple(i, j, k));
                     break 'triples;

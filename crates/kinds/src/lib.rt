@@ -140,7 +140,7 @@ fn search_turned(
     ensures room { room.new ≡ overwritten (turned_cells n target.now) room.old }
 {
     let size = n * n;
-    products::turn(target, n, room);
+    products::old::turn(target, n, room);
     search_straight(true, next, limit, source, m, &room[..size], n, map, scratch)
 }
 

@@ -13,7 +13,7 @@ ghost use Rattle.light.specs.InnerChoice.{FoundProducts, RarestOrNone, Choice, g
 
 use answers::Place;
 use products::limits::{ORDER, PLACES};
-use products::{failing_third, frequencies, times};
+use products::old::{failing_third, frequencies, times};
 
 // ---- elements found one by one
 

@@ -8,7 +8,7 @@ ghost use Rattle.semigroups.specs.Calls.{overwritten};
 ghost use Rattle.renaming.specs.InnerRenaming.{products_last, renamed_cells};
 
 use light::add;
-use products::frequencies;
+use products::old::frequencies;
 use products::limits::{ORDER, PLACES};
 
 // Returns the elements in the sequence in which they are numbered anew, then zeros: first those that are no product, in rising order; then the others by their

@@ -1,6 +1,7 @@
 -- What the iterators of Rust answer over the elements of a table, in the words of the definitions: a chain over `1..n + 1` runs over the elements 1 to n.
 -- Assumes nothing.
-use Rattle.std.specs.Prelude.{Bool, true, false, ◌&&◌, cond, ℕ, zero, suc, ◌+◌, Some}
+use Rattle.std.specs.Prelude.{Bool, true, false, ◌&&◌, cond, ℕ, zero, suc, ◌+◌, Option as Optional, None, Some}
+use Rattle.std.specs.Option.{option_map}
 use Rattle.std.specs.List.{list_all, range_with_len, find as first}
 use Rattle.std.proofs.Common.{◌≡◌, refl, ap, ◌∙◌, List, [], ◌∷◌}
 use Rattle.std.proofs.Math.Numerals.{add-one}
@@ -38,3 +39,11 @@ all_elements p n = ap (list_all p) (range_of 1 n) ∙ list_all_is p (range 1 n)
 pub find_elements : (p : ℕ → Bool) (n : ℕ) → optional (first p (range_with_len 1 n)) ≡ find p (elements n)
 unfolding elements
 find_elements p n = ap (λ (l : List ℕ). optional (first p l)) (range_of 1 n) ∙ find_is p (range 1 n)
+
+-- What a call of `find` over the elements answered.
+pub found_element : (p : ℕ → Bool) (n : ℕ) (r : Optional ℕ) → option_map (λ x. x) r ≡ first p (range_with_len 1 n) → optional r ≡ find p (elements n)
+found_element p n r e = by r ∙ ap optional e ∙ find_elements p n
+  where
+    by : (o : Optional ℕ) → optional o ≡ optional (option_map (λ x. x) o)
+    by None = refl
+    by (Some x) = refl

@@ -11,7 +11,8 @@ ghost use Rattle.semigroups.specs.Questions.{table_refusal};
 ghost use Rattle.answers.specs.Answers.{verdict_refusal, place_option, pair_refusal};
 
 pub use answers::{Fault, No, Numbered, PairVerdict, Place, Refusal, Side, Verdict};
-pub use products::{limits, times};
+pub use products::old::times;
+pub use products::{Table, limits};
 
 // Returns the smaller one of two bytes.
 fn smaller(x: u8, y: u8) -> u8
