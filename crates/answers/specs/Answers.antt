@@ -1,16 +1,15 @@
 -- What the answers about a table mean (RULES 7): for each case the number of the question and the values said with it.
 -- Assumes nothing.
-use Rattle.std.specs.Prelude.{[], ◌∷◌, ℕ, get_or}
+use Rattle.std.specs.Prelude.{[], ◌∷◌, ℕ, get_or, Result}
 use Rattle.std.proofs.Math.Option.{Option, none, some}
 use Rattle.semigroups.specs.Questions.{Refusal}
 use Rattle.semigroups.specs.InnerQuestions.{no, naming}
-use Rattle.semigroups.specs.Calls.{Answer, refused, gives}
+use Rattle.semigroups.specs.Calls.{Answer}
+use Rattle.semigroups.specs.Results.{answer_in}
 use Rattle.answers.specs.declared.Fault.{Fault}
 use Rattle.answers.specs.declared.Fault.TheVariants.{Order, Size, Cell, Triple}
 use Rattle.answers.specs.declared.No.{No}
 use Rattle.answers.specs.declared.No.TheVariants.{Bare, With, Triple as NoTriple}
-use Rattle.answers.specs.declared.Numbered.{Numbered}
-use Rattle.answers.specs.declared.Numbered.TheVariants.{Number, Refused as NumberRefused}
 use Rattle.answers.specs.declared.Verdict.{Verdict}
 use Rattle.answers.specs.declared.Verdict.TheVariants.{Accepted, Refused}
 use Rattle.answers.specs.declared.Side.{Side}
@@ -35,9 +34,8 @@ no_refusal (With number value) = no number (value ∷ [])
 no_refusal (NoTriple i j k) = no 4 (i ∷ j ∷ k ∷ [])
 
 -- What the answer says: a number, or the earliest failed question.
-abbrev pub numbered_says : Numbered → Answer ℕ
-numbered_says (Number x) = gives x
-numbered_says (NumberRefused r) = refused (no_refusal r)
+abbrev pub numbered_says : Result ℕ No → Answer ℕ
+numbered_says said = answer_in (λ n. n) no_refusal said
 
 -- The refusal of a verdict; an accepted table has none.
 abbrev pub verdict_refusal : Verdict → Option Refusal

@@ -47,13 +47,6 @@ pub enum No {
     Triple(usize, usize, usize),
 }
 
-// The answer of a call that gives a number, which is an order, a length or a count; or the earliest "no".
-#[derive(Clone, Copy)]
-pub enum Numbered {
-    Number(usize),
-    Refused(No),
-}
-
 // The answer to the questions about two tables.
 #[derive(Clone, Copy)]
 pub enum PairVerdict {
@@ -101,11 +94,8 @@ impl Refusal {
         ensures answer { result ≡ numbers_naming (side_number side) self }
     {
         Refusal {
-            number: self.number,
             side: side.number(),
-            first: self.first,
-            second: self.second,
-            third: self.third,
+            ..self
         }
     }
 }
@@ -129,23 +119,25 @@ impl No {
     }
 }
 
-impl Fault {
-    // Returns the "no" that this fault stands for.
-    pub fn no(self) -> No
-        ensures answer { no_refusal result ≡ fault_refusal self }
-    {
-        match self {
+// The "no" that a fault stands for.
+impl From<Fault> for No {
+    ghost from_gives = { λ fault r. no_refusal r ≡ fault_refusal fault };
+
+    fn from(fault: Fault) -> Self {
+        match fault {
             Fault::Order => No::Bare(1),
             Fault::Size => No::Bare(2),
             Fault::Cell(cell) => No::With(3, cell),
             Fault::Triple(i, j, k) => No::Triple(i, j, k),
         }
     }
+}
 
+impl Fault {
     // Returns the refusal by this fault: its number and values; it names no side.
     pub fn refusal(self) -> Refusal
         ensures answer { result ≡ refusal_numbers (fault_refusal self) }
     {
-        self.no().refusal()
+        No::from(self).refusal()
     }
 }
