@@ -4,7 +4,7 @@
 
 ghost use Rattle.std.specs.Prelude.{◌≡◌, [], ◌∷◌};
 ghost use Rattle.semigroups.specs.InnerQuestions.{no};
-ghost use Rattle.answers.specs.Answers.{no_refusal, fault_refusal, side_number, refusal_numbers, numbers_naming};
+ghost use Rattle.answers.specs.Answers.{no_refusal, fault_refusal, side_refusal, side_number, refusal_numbers, numbers_naming};
 
 // Why a table is refused: which of questions 1 to 4 fails; for 3 the first cell that is not 1 to n, counted from 1; for 4 the first failing triple.
 #[derive(Clone, Copy)]
@@ -13,13 +13,6 @@ pub enum Fault {
     Size,
     Cell(usize),
     Triple(usize, usize, usize),
-}
-
-// The answer to the questions about a table.
-#[derive(Clone, Copy)]
-pub enum Verdict {
-    Accepted,
-    Refused(Fault),
 }
 
 // One of the two tables.
@@ -47,11 +40,11 @@ pub enum No {
     Triple(usize, usize, usize),
 }
 
-// The answer to the questions about two tables.
+// Why one of two tables is refused: which of them, and its fault.
 #[derive(Clone, Copy)]
-pub enum PairVerdict {
-    Accepted,
-    Refused(Side, Fault),
+pub struct SideFault {
+    pub side: Side,
+    pub fault: Fault,
 }
 
 // The place of something, counted from 1; or none.
@@ -139,5 +132,14 @@ impl Fault {
         ensures answer { result ≡ refusal_numbers (fault_refusal self) }
     {
         No::from(self).refusal()
+    }
+}
+
+impl SideFault {
+    // Returns the refusal by this fault, which names its side.
+    pub fn refusal(self) -> Refusal
+        ensures answer { result ≡ refusal_numbers (side_refusal self) }
+    {
+        self.fault.refusal().naming(self.side)
     }
 }
