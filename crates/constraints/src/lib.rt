@@ -128,8 +128,8 @@ impl Required {
         a: usize,
         b: usize,
     )
-        requires element { Element source.now.order a × Element source.now.order b }
-        requires element_2 { Element target.now.order (at image.now a) × Element target.now.order (at image.now b) }
+        requires left { Element source.now.order a × Element target.now.order (at image.now a) }
+        requires right { Element source.now.order b × Element target.now.order (at image.now b) }
         ensures forced { self.new.forced ≡ asked_at self.old.forced (times_of source.now a b) (image_product (times_of target.now) image.now a b) }
         ensures owner { self.new.owner ≡ asked_at self.old.owner (image_product (times_of target.now) image.now a b) (times_of source.now a b) }
     {
@@ -147,7 +147,8 @@ impl Required {
         image: &[u8; ORDER],
         len: usize,
     )
-        requires len_le_m { (len ≤ source.now.order) × ((a : ℕ) → Element len a → Element target.now.order (at image.now a)) }
+        requires within { len ≤ source.now.order }
+        requires images { (a : ℕ) → Element len a → Element target.now.order (at image.now a) }
         requires tracks { Tracks (times_of source.now) (times_of target.now) (take len image.now) (len - 1) 0 self.old.forced self.old.owner }
         ensures constraints { Tracks (times_of source.now) (times_of target.now) (take len image.now) len 0 self.new.forced self.new.owner }
     {
@@ -159,7 +160,8 @@ impl Required {
 
     // Returns whether the constraints allow x as the image of element `next`.
     fn settled(&self, next: usize, x: usize) -> bool
-        requires { (next ≤ largest_order) × (x ≤ largest_order) }
+        requires next { next ≤ largest_order }
+        requires image { x ≤ largest_order }
         ensures answer { result ≡ (permits (get_or self.now.forced next 0) x && permits (get_or self.now.owner x 0) next) }
     {
         allowed(self.forced[next], x) && allowed(self.owner[x], next)

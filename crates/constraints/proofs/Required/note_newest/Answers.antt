@@ -12,7 +12,7 @@ loop-j-preserved c =
     let once = c.note_pair.ensures in
     let twice = c.note_pair-in-loop-j.ensures in
     turn _ (times_of a.source.now) _ (times_of a.target.now) (product_element _ _ source.size source.in_range) (product_element _ _ target.size target.in_range) source.order.1 target.order.1
-    a.image.now a.len c.requires.len_le_m.1 c.requires.len_le_m.0 c.loop-j.j (omega arith) _ _ _ _ _ _ c.loop-j.invariant once.forced once.owner twice.forced twice.owner
+    a.image.now a.len c.requires.images c.requires.within c.loop-j.j (omega arith) _ _ _ _ _ _ c.loop-j.invariant once.forced once.owner twice.forced twice.owner
 
 pub returns : goal.returns
 returns c = let l = c.loop-j in record { constraints = turns_done _ _ _ c.args.len l.j (omega arith) _ _ l.invariant }
