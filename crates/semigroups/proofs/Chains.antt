@@ -2,11 +2,11 @@
 -- Assumes nothing.
 use Rattle.std.specs.Prelude.{Bool, true, false, ◌&&◌, cond, ℕ, zero, suc, ◌+◌, Option as Optional, None, Some}
 use Rattle.std.specs.Option.{option_map}
-use Rattle.std.specs.List.{list_all, range_with_len, find as first}
-use Rattle.std.proofs.Common.{◌≡◌, refl, ap, ◌∙◌, List, [], ◌∷◌}
+use Rattle.std.specs.List.{list_all, range_with_len, filter, find as first}
+use Rattle.std.proofs.Common.{◌≡◌, refl, ap, ◌∙◌, List, [], ◌∷◌, length, arith}
 use Rattle.std.proofs.Math.Numerals.{add-one}
 use Rattle.std.proofs.Math.Option.{Option, none, some}
-use Rattle.semigroups.specs.Lists.{range, elements, all, find}
+use Rattle.semigroups.specs.Lists.{range, elements, all, find, sum, count}
 use Rattle.semigroups.specs.Results.{optional}
 
 -- Consecutive numbers, as Rust's ranges give them.
@@ -20,6 +20,15 @@ module _ {A : Type 0} (p : A → Bool) where
   unfolding all
   list_all_is [] = refl
   list_all_is (x ∷ l) = ap (λ (b : Bool). p x && b) (list_all_is l)
+
+  pub count_is : (l : List A) → length (filter p l) ≡ count p l
+  unfolding count sum
+  count_is [] = refl
+  count_is (x ∷ l) = by (p x) (count_is l)
+    where
+      by : (b : Bool) → length (filter p l) ≡ count p l → length (cond b (x ∷ filter p l) (filter p l)) ≡ cond b 1 0 + sum (λ y. cond (p y) 1 0) l
+      by true e = ap suc (e ∙ (unfold count in refl)) ∙ omega arith
+      by false e = e ∙ (unfold count in omega arith)
 
   pub find_is : (l : List A) → optional (first p l) ≡ find p l
   unfolding find
@@ -47,3 +56,8 @@ found_element p n r e = by r ∙ ap optional e ∙ find_elements p n
     by : (o : Optional ℕ) → optional o ≡ optional (option_map (λ x. x) o)
     by None = refl
     by (Some x) = refl
+
+-- A call of `count` behind one of `filter` over the elements.
+pub count_elements : (p : ℕ → Bool) (n : ℕ) → length (filter p (range_with_len 1 n)) ≡ count p (elements n)
+unfolding elements
+count_elements p n = ap (λ (l : List ℕ). length (filter p l)) (range_of 1 n) ∙ count_is p (range 1 n)
