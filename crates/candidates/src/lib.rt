@@ -79,7 +79,7 @@ pub fn profile_keys(cells: &[u8], n: usize) -> [u64; ORDER]
     requires { Filled n cells.now }
     ensures answer { result ≡ per_element n (λ a. profile_key (profile n (product n cells.now) a)) }
 {
-    let counts = counts::all_counts(cells, n);
+    let counts = counts::old::all_counts(cells, n);
     let powers = index_period_keys(cells, n);
     let frequencies = append(&powers, n, 65536, &counts.frequency);
     let diagonals = append(&frequencies, n, 256, &counts.diagonal);

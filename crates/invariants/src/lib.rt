@@ -13,7 +13,8 @@ ghost use Rattle.invariants.specs.Answers.{element_verdict_refusal, index_period
 ghost use Rattle.invariants.specs.InnerPerElement.{AllIndexPeriodKeys};
 ghost use Rattle.invariants.specs.InnerPowers.{settled};
 
-use counts::{column_frequency, commuting, count, row_frequency};
+use counts::count;
+use counts::old::{column_frequency, commuting, row_frequency};
 use tables::limits::{ORDER, PLACES};
 use tables::{No, Verdict};
 
