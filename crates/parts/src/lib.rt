@@ -13,7 +13,7 @@ ghost use Rattle.answers.specs.Answers.{numbered_says};
 ghost use Rattle.calls.specs.Subsemigroups.{subsemigroup_says, part_after, elements_after};
 ghost use Rattle.parts.specs.InnerParts.{marked_elements, numbering, ClosedPart};
 
-use generated::generate;
+use generated::old::generate;
 use tables::limits::PLACES;
 use tables::{No, Numbered, Place, Verdict};
 

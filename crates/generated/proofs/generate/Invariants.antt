@@ -1,0 +1,19 @@
+-- The entries so far are added; then the list found holds the products of its first entries, and nothing that is not generated. At most 120 elements are found.
+use Rattle.std.proofs.Common.{◌-◌, ◌≤◌, [], take}
+use Rattle.products.specs.Tables.{times_of}
+use Rattle.light.specs.InnerFound.{adding_all, Found}
+use Rattle.generated.proofs.Found.{Growing}
+use Rattle.generated.proofs.generate.Given as goal
+
+abbrev pub invariant-loop-x : goal.invariant-loop-x
+invariant-loop-x l = Found (adding_all [] (take l.x-index l.list)) l.found l.marks l.count
+
+abbrev pub invariant-loop-place : goal.invariant-loop-place
+invariant-loop-place l = record {
+  reached : l.place ≤ l.count;
+  found : Found (take l.count l.found) l.found l.marks l.count;
+  growing : Growing l.table.order (times_of l.table) l.list l.place (take l.count l.found);
+}
+
+abbrev pub decreases-loop-place : goal.decreases-loop-place
+decreases-loop-place l = 120 - l.place
