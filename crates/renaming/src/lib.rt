@@ -45,5 +45,5 @@ pub fn rename(cells: &[u8], n: usize, renamed: &mut [u8])
     ensures renamed { renamed.new ≡ overwritten (renamed_cells n cells.now) renamed.old }
 {
     let elements = products_last(cells, n);
-    parts::write_part(cells, n, &elements, n, renamed);
+    parts::old::write_part(cells, n, &elements, n, renamed);
 }
