@@ -25,10 +25,8 @@ pub fn words(number: usize, side: usize, values: &[usize]) -> [u64; 16]
     let mut answer = [0u64; 16];
     answer[0] = number as u64;
     answer[1] = side as u64;
-    let mut i: usize = 0;
-    while i < values.len() {
-        answer[i + 2] = values[i] as u64;
-        i += 1;
+    for (i, value) in values.iter().enumerate() {
+        answer[i + 2] = *value as u64;
     }
     answer
 }
