@@ -68,7 +68,7 @@ fn index_period_keys(cells: &[u8], n: usize) -> [u64; ORDER]
     requires { Filled n cells.now }
     ensures answer { result ≡ per_element n (λ a. index_period_key (index_period n (product n cells.now) a)) }
 {
-    let powers = invariants::all_index_period_keys(cells, n);
+    let powers = invariants::old::all_index_period_keys(cells, n);
     let none = [0u64; ORDER];
     let indices = append(&none, n, 256, &powers.index);
     append(&indices, n, 256, &powers.period)

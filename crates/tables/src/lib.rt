@@ -155,9 +155,12 @@ pub fn accept_pair<'a>(
     ensures source { IfOk result (λ pair. (pair.source.table.order ≡ m) × (pair.source.table.cells.now ≡ source.now)) }
     ensures target { IfOk result (λ pair. (pair.target.table.order ≡ n) × (pair.target.table.cells.now ≡ target.now)) }
 {
-    let source = accept_side(Side::Source, source, m)?;
-    let target = accept_side(Side::Target, target, n)?;
-    Ok(Pair { source, target })
+    let first = accept_side(Side::Source, source, m)?;
+    let second = accept_side(Side::Target, target, n)?;
+    Ok(Pair {
+        source: first,
+        target: second,
+    })
 }
 
 // Asks questions 1 to 4 of the source, then of the target. Returns the first that fails.
