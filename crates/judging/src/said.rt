@@ -1,10 +1,11 @@
 // The answer to the questions about a table, with the "no" as numbers.
 ghost use Rattle.std.specs.Prelude.{◌≡◌};
-ghost use Rattle.answers.specs.Answers.{no_refusal, verdict_refusal};
+ghost use Rattle.answers.specs.Answers.{no_refusal, fault_refusal};
+ghost use Rattle.semigroups.specs.Results.{refusal_in};
 ghost use Rattle.plain.specs.InnerSaid.{refusal_said, said_of};
 
 use plain::Said;
-use tables::{No, Verdict};
+use tables::{Fault, No};
 
 // Returns a "no" as numbers.
 #[tactic(auto, unfolding(semigroups::specs::Lists::at))]
@@ -21,11 +22,11 @@ pub fn said_of_no(no: No) -> Said
 }
 
 // Returns a verdict, with the "no" as numbers.
-pub fn said_of(verdict: Verdict) -> Result<(), Said>
-    ensures answer { result ≡ said_of (verdict_refusal verdict) }
+pub fn said_of(verdict: Result<(), Fault>) -> Result<(), Said>
+    ensures answer { result ≡ said_of (refusal_in fault_refusal verdict) }
 {
     match verdict {
-        Verdict::Accepted => Ok(()),
-        Verdict::Refused(fault) => Err(said_of_no(fault.no())),
+        Ok(()) => Ok(()),
+        Err(fault) => Err(said_of_no(No::from(fault))),
     }
 }
