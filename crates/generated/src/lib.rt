@@ -17,7 +17,7 @@ ghost use Rattle.light.specs.InnerFound.{indicator, adding_all, Found};
 ghost use Rattle.generated.specs.InnerFound.{products_up_to};
 ghost use Rattle.generated.specs.Answers.{generators_fault_refusal};
 
-use light::add;
+use light::old::add;
 use tables::limits::{ORDER, PLACES};
 use tables::{Fault, Refusal, Table};
 

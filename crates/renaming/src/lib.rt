@@ -7,7 +7,7 @@ ghost use Rattle.semigroups.specs.Tables.{Filled};
 ghost use Rattle.semigroups.specs.Calls.{overwritten};
 ghost use Rattle.renaming.specs.InnerRenaming.{products_last, renamed_cells};
 
-use light::add;
+use light::old::add;
 use products::old::frequencies;
 use products::limits::{ORDER, PLACES};
 

@@ -93,7 +93,7 @@ fn associative(table: &Table<'_>) -> Result<(), Fault>
 fn associativity(table: &Table<'_>) -> Result<(), Fault>
     ensures answer { refusal_in fault_refusal result ≡ map (λ l. no 4 l) (bad_triple table.now.order (times_of table.now)) }
 {
-    if light::accept(table.cells, table.order) {
+    if light::accept(table) {
         return Ok(());
     }
     associative(table)
