@@ -66,7 +66,7 @@ fn find_marked(
     match limit {
         Limit::Unlimited => narrowing::find(source, m, target, n, scratch, after, next),
         Limit::Trials(trials) => {
-            backtrack::find_within(source, m, target, n, scratch, after, next, trials)
+            backtrack::old::find_within(source, m, target, n, scratch, after, next, trials)
         }
     }
 }
@@ -113,7 +113,7 @@ fn search_straight(
 {
     marking::mark(onto, source, m, target, n, scratch);
     if !order_fits(onto, m, n) {
-        return backtrack::no_map(false, allowance(limit));
+        return backtrack::old::no_map(false, allowance(limit));
     }
     let result = find_marked(next, limit, source, m, target, n, &*map, &*scratch);
     put_found(result, m, map);
