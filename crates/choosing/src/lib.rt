@@ -61,7 +61,7 @@ fn rank<'a>(rows: &'a [u64; WORDS], costs: &'a [u16; 120], c: usize) -> usize
     requires { Element 120 c }
     ensures answer { result ≡ rank rows.now costs.now c }
 {
-    let k = rows::size(rows::row_of(rows, c));
+    let k = rows::row_of(rows, c).size();
     let r = k * long(costs[c - 1]);
     if k < 2 {
         return r;

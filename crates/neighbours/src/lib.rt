@@ -46,7 +46,7 @@ fn has_enough(target: &[u8], n: usize, few: &[u8; 64], row: Row, y: usize) -> bo
     requires { Filled n target.now × Element n y }
     ensures answer { result ≡ (in_row row y && enough n (product n target.now) few.now y) }
 {
-    if !rows::in_row(row, y) {
+    if !row.has(y) {
         return false;
     }
     let many = neighbours(target, n, y);
