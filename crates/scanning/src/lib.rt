@@ -13,7 +13,7 @@ ghost use Rattle.scanning.specs.InnerStates.{part_of, state_of, form_place};
 
 // Returns whether b is printable: hexadecimal 20 to 7E.
 #[tactic(auto, unfolding(sheets::specs::Grammar::is_printable))]
-fn is_printable(b: u8) -> bool
+pub fn is_printable(b: u8) -> bool
     ensures answer { result ≡ is_printable b }
 {
     matches!(b, 32..=126)
