@@ -7,7 +7,7 @@ ghost use Rattle.answers.specs.Answers.{numbered_says};
 ghost use Rattle.rfc4180.specs.Calls.{cells_after};
 ghost use Rattle.files.specs.Answers.{file_answer, failed_number};
 
-use tables::{No, Verdict};
+use tables::No;
 
 // Loads the table that `text` holds into `cells`, as `text::load` does; then asks questions 3 and 4 of it, as `tables::check` does. Returns the order, or the
 // earliest "no". If question 3 or 4 fails, the cells have been written all the same.
@@ -17,11 +17,8 @@ pub fn load_then_check(text: &[u8], cells: &mut [u8]) -> Result<usize, No>
 {
     let n = text::load(text, cells)?;
     let size = n * n;
-    let verdict = tables::check(&cells[..size], n);
-    match verdict {
-        Verdict::Refused(fault) => Err(No::from(fault)),
-        Verdict::Accepted => Ok(n),
-    }
+    tables::check(&cells[..size], n)?;
+    Ok(n)
 }
 
 // Returns the number of the question that a file fails, or 0 for an accepted file.

@@ -12,7 +12,7 @@ ghost use Rattle.rfc4180.specs.Tables.{row_fields, table_text};
 ghost use Rattle.rfc4180.specs.Calls.{save_answer, text_after};
 ghost use Rattle.answers.specs.Answers.{numbered_says};
 
-use tables::{No, Verdict};
+use tables::No;
 
 // Returns the length of the text of a table: each cell is followed by a comma or a CR, each row by an LF.
 fn text_length(cells: &[u8], n: usize) -> usize
@@ -61,10 +61,7 @@ pub fn save(cells: &[u8], order: usize, text: &mut [u8]) -> Result<usize, No>
     ensures answer { numbered_says result ≡ save_answer order cells.now text.old }
     ensures text { text.new ≡ text_after order cells.now text.old }
 {
-    let verdict = tables::check_cells(cells, order);
-    if let Verdict::Refused(fault) = verdict {
-        return Err(No::from(fault));
-    }
+    tables::check_cells(cells, order)?;
     if text.len() < text_length(cells, order) {
         return Err(No::Bare(28));
     }

@@ -22,9 +22,10 @@ slice_bounds-check-end-2 c =
     let f = loaded_room _ _ _ (sym c.in_ok-n.ensures.answer) c.load.ensures.cells c.load.auto.cells in
     simp length-take (omega arith)
 
-pub returns-in-Refused-clause-answer : goal.returns-in-Refused-clause-answer
-returns-in-Refused-clause-answer c =
-    ap {B = Answer ℕ} refused c.from.ensures ∙ judged_table _ _ _ (sym c.in_ok-n.ensures.answer) c.load.ensures.cells c.in-Refused.ensures.answer
+pub returns-in_err-check-clause-answer : goal.returns-in_err-check-clause-answer
+returns-in_err-check-clause-answer c =
+    let p = err_from_is_err_and c.from_residual-in_err-check.result c.from_residual-in_err-check.ensures.1 in
+    rw p.1 (ap {B = Answer ℕ} refused p.2 ∙ judged_table _ _ _ (sym c.in_ok-n.ensures.answer) c.load.ensures.cells c.in_err-check.ensures.answer)
 
-pub returns-in-Accepted-clause-answer : goal.returns-in-Accepted-clause-answer
-returns-in-Accepted-clause-answer c = judged_table _ _ _ (sym c.in_ok-n.ensures.answer) c.load.ensures.cells c.in-Accepted.ensures.answer
+pub returns-clause-answer : goal.returns-clause-answer
+returns-clause-answer c = judged_table _ _ _ (sym c.in_ok-n.ensures.answer) c.load.ensures.cells c.in_ok-check.ensures.answer
