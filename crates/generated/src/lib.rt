@@ -3,7 +3,7 @@
 
 #![tactic(auto)]
 
-ghost use Rattle.std.specs.Prelude.{◌≡◌, ◌<◌, length, take};
+ghost use Rattle.std.specs.Prelude.{◌≡◌, ◌<◌, length};
 ghost use Rattle.std.proofs.Math.Option.{map};
 ghost use Rattle.semigroups.specs.Tables.{largest_order};
 ghost use Rattle.semigroups.specs.InnerQuestions.{no};
@@ -13,42 +13,30 @@ ghost use Rattle.semigroups.specs.Light.{bad_triple_through, generators_refusal}
 ghost use Rattle.semigroups.specs.Results.{refusal_in};
 ghost use Rattle.answers.specs.Answers.{fault_refusal, refusal_numbers};
 ghost use Rattle.products.specs.Tables.{times_of};
-ghost use Rattle.light.specs.InnerFound.{indicator, adding_all, Found};
+ghost use Rattle.light.specs.InnerFound.{indicator, adding_all};
 ghost use Rattle.generated.specs.InnerFound.{products_up_to};
 ghost use Rattle.generated.specs.Answers.{generators_fault_refusal};
 
-use light::old::add;
-use tables::limits::{ORDER, PLACES};
+use light::FoundElements;
+use tables::limits::PLACES;
 use tables::{Fault, Refusal, Table};
 
 pub mod old;
 
 // ---- what a list generates
 
-// Adds to `found`, and marks in `marks`, the products of the element at `place` with itself and with each one before it, from both sides. Returns how many
-// elements are found in all.
-fn multiply(
-    table: &Table<'_>,
-    found: &mut [u8; ORDER],
-    marks: &mut [u8; PLACES],
-    count: usize,
-    place: usize,
-) -> usize
-    requires found { Found (take count found.old) found.old marks.old count }
-    requires inside { Inside table.now.order (take count found.old) }
-    requires place { place < count }
-    ensures found { Found (adding_all (take count found.old) (products_up_to (times_of table.now) (take count found.old) place)) found.new marks.new result }
+// Adds to the elements found the products of the element at `place` with itself and with each one before it, from both sides.
+fn multiply(table: &Table<'_>, found: &mut FoundElements, place: usize)
+    requires inside { Inside table.now.order found.old }
+    requires place { place < length found.old }
+    ensures found { found.new ≡ adding_all found.old (products_up_to (times_of table.now) found.old place) }
 {
-    let x = found[place] as usize;
-    let mut known = count;
+    let x = found.at(place);
     for i in 0..place + 1 {
-        let y = found[i] as usize;
-        let xy = table.times(x, y);
-        known = add(found, marks, known, xy);
-        let yx = table.times(y, x);
-        known = add(found, marks, known, yx);
+        let y = found.at(i);
+        found.add(table.times(x, y));
+        found.add(table.times(y, x));
     }
-    known
 }
 
 // The elements that a list generates: place x is 1 where x is one of them, else 0; and how many there are.
@@ -64,19 +52,20 @@ pub fn generate(table: &Table<'_>, list: &[u8]) -> Generated
     ensures marks { result.marks ≡ indicator (generated table.now.order (times_of table.now) list.now) }
     ensures count { result.count ≡ length (generated table.now.order (times_of table.now) list.now) }
 {
-    let mut found = [0u8; ORDER];
-    let mut marks = [0u8; PLACES];
-    let mut count: usize = 0;
+    let mut found = FoundElements::new();
     for x in list {
-        count = add(&mut found, &mut marks, count, *x as usize);
+        found.add(*x as usize);
     }
     let mut place: usize = 0;
-    // A while: the count grows as the loop runs.
-    while place < count {
-        count = multiply(table, &mut found, &mut marks, count, place);
+    // A while: what is found grows as the loop runs.
+    while place < found.len() {
+        multiply(table, &mut found, place);
         place += 1;
     }
-    Generated { marks, count }
+    Generated {
+        marks: found.marks(),
+        count: found.len(),
+    }
 }
 
 // ---- the shorter check

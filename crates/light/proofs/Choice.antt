@@ -52,11 +52,6 @@ rarest_same n v w F G e to from None r = λ y h g. r y h (from y h g)
 
 -- ---- one element multiplied
 
--- Before the first entry no product is added.
-pub product_none : (r : List ℕ) → r ≡ adding_all r []
-unfolding adding_all
-product_none r = refl
-
 -- The products of x with the entries of a list, the one at i next.
 pub product_added : (s : Product) (x : ℕ) (list r : List ℕ) (i xy : ℕ) → i < length list → xy ≡ s x (get_or list i 0)
     → adding (adding_all r (take i (map (s x) list))) xy ≡ adding_all r (take (i + 1) (map (s x) list))

@@ -55,6 +55,10 @@ module _ (r : List ℕ) (x : ℕ) where
 
 -- ---- the entries of a list added in turn
 
+pub adding_none : (r : List ℕ) → r ≡ adding_all r []
+unfolding adding_all
+adding_none r = refl
+
 pub adding_last : (r l : List ℕ) (x : ℕ) → adding_all r (l ++ x ∷ []) ≡ adding (adding_all r l) x
 unfolding adding_all
 adding_last r [] x = refl

@@ -6,10 +6,11 @@
 
 ghost use Rattle.std.specs.Prelude.{◌≡◌, MatchOption, true, false, List, [], map, ℕ, ◌-◌, ◌≤◌, ◌<◌, length, take, get_or};
 ghost use Rattle.semigroups.specs.Lists.{elements, all, member};
+ghost use Rattle.semigroups.specs.InnerLists.{NoRepeats};
 ghost use Rattle.semigroups.specs.Tables.{largest_order, Element, associates};
 ghost use Rattle.semigroups.specs.InnerGenerated.{Inside};
 ghost use Rattle.products.specs.Tables.{times_of};
-ghost use Rattle.light.specs.InnerFound.{adding, adding_all, Found};
+ghost use Rattle.light.specs.InnerFound.{indicator, adding, adding_all, Found};
 ghost use Rattle.light.specs.InnerChoice.{FoundProducts, RarestOrNone, Choice, GivenUp, good_middle, LightsAnswer};
 
 use products::Table;
@@ -48,18 +49,34 @@ impl FoundElements {
         }
     }
 
-    // Returns how many elements are found.
+    // Returns how many elements are found. Each is found once.
     pub fn len(&self) -> usize
         ensures answer { result ≡ length self.now }
         ensures few { result ≤ largest_order }
+        ensures once { NoRepeats self.now }
     {
         self.count
+    }
+
+    // Returns the elements found.
+    pub fn as_slice(&self) -> &[u8]
+        ensures answer { result.now ≡ self.now }
+    {
+        &self.list[..self.count]
+    }
+
+    // Returns a mark for each element found: place x is 1 where x is one of them, else 0.
+    pub fn marks(&self) -> [u8; PLACES]
+        ensures answer { result ≡ indicator self.now }
+    {
+        self.marks
     }
 
     // Returns the element at a place, counted from 0.
     pub fn at(&self, place: usize) -> usize
         requires { place < length self.now }
         ensures answer { result ≡ get_or self.now place 0 }
+        ensures within { place < largest_order }
     {
         self.list[place] as usize
     }

@@ -1,51 +1,47 @@
-use Rattle.std.proofs.Common.{refl, arith, ◌∙◌}
+use Rattle.std.proofs.Common.{ℕ, List, [], ◌∙◌, refl, ap, arith, get_or}
 use Rattle.semigroups.proofs.NoRepeats.{place_mem}
 use Rattle.semigroups.proofs.Tables.{filled_closed}
-use Rattle.light.proofs.Found.{found_none, found_room, entry_added}
+use Rattle.light.specs.InnerFound.{adding}
+use Rattle.light.proofs.Found.{adding_none, adding_next}
 use Rattle.generated.proofs.Found.{growing_inside, growing_start, growing_next, growing_marks, growing_count}
 use Rattle.generated.proofs.generate.Goals as goal
 
 pub loop-x-init : goal.loop-x-init
-loop-x-init c = found_none
+loop-x-init c = c.new-found.ensures.answer ∙ adding_none _
 
-pub add-count-requires-clause-fact_2 : goal.add-count-requires-clause-fact_2
-add-count-requires-clause-fact_2 c =
+pub add-requires : goal.add-requires
+add-requires c =
     let o = c.args.table.now.filled.order in
     let x = c.requires.inside _ (place_mem 0 _ _ c.loop-x-test.true) in
     omega arith
 
 pub loop-x-preserved : goal.loop-x-preserved
-loop-x-preserved c = entry_added _ _ _ _ c.loop-x-test.true refl c.loop-x.invariant c.add-count.ensures.found
+loop-x-preserved c =
+    let list = c.args.list.now in
+    let i = c.loop-x.x-index in
+    let x = get_or list i 0 in
+    c.add.ensures.answer ∙ ap (λ (r : List ℕ). adding r x) c.loop-x.invariant ∙ adding_next [] list i x c.loop-x-test.true refl
 
 pub loop-place-init : goal.loop-place-init
 loop-place-init c =
-    let g = growing_start _ _ _ (filled_closed _ _ c.args.table.now.filled) c.requires.inside _ c.loop-x-test.false c.loop-x.invariant in
-    record { reached = g.0; found = g.1; growing = g.2 }
+    record {
+      reached = omega arith;
+      growing = growing_start _ _ _ (filled_closed _ _ c.args.table.now.filled) c.requires.inside _ _ c.loop-x-test.false c.loop-x.invariant;
+    }
 
-pub multiply-count-requires-clause-inside : goal.multiply-count-requires-clause-inside
-multiply-count-requires-clause-inside c = growing_inside _ _ _ c.loop-place.invariant.growing
-
-pub overflow_add-place : goal.overflow_add-place
-overflow_add-place c = let r = found_room c.loop-place.invariant.found in omega arith
-
-pub loop-place-smaller : goal.loop-place-smaller
-loop-place-smaller c = let r = found_room c.loop-place.invariant.found in omega arith
+pub multiply-requires-clause-inside : goal.multiply-requires-clause-inside
+multiply-requires-clause-inside c = growing_inside _ _ _ c.loop-place.invariant.growing
 
 pub loop-place-preserved : goal.loop-place-preserved
 loop-place-preserved c =
-    let v = c.loop-place.invariant in
-    let e = v.found.counted in
-    let g = growing_next _ _ _ (filled_closed _ _ c.args.table.now.filled) c.requires.inside _ _ v.growing (omega arith) c.multiply-count.ensures.found in
-    record { reached = g.0; found = g.1; growing = g.2 }
+    let g = growing_next _ _ _ (filled_closed _ _ c.args.table.now.filled) c.requires.inside _ _ c.loop-place.invariant.growing (omega arith) _ c.multiply.ensures.found in
+    record { reached = g.0; growing = g.1 }
 
 pub returns-clause-marks : goal.returns-clause-marks
 returns-clause-marks c =
-    let v = c.loop-place.invariant in
-    let e = v.found.counted in
-    v.found.marked ∙ growing_marks _ _ _ (filled_closed _ _ c.args.table.now.filled) c.requires.inside _ _ v.growing (omega arith)
+    c.marks.ensures.answer ∙ growing_marks _ _ _ (filled_closed _ _ c.args.table.now.filled) c.requires.inside _ _ c.loop-place.invariant.growing (omega arith)
 
 pub returns-clause-count : goal.returns-clause-count
 returns-clause-count c =
-    let v = c.loop-place.invariant in
-    let e = v.found.counted in
-    e ∙ growing_count _ _ _ (filled_closed _ _ c.args.table.now.filled) c.requires.inside _ _ v.growing (omega arith) v.found.no_repeats
+    c.len-2.ensures.answer
+    ∙ growing_count _ _ _ (filled_closed _ _ c.args.table.now.filled) c.requires.inside _ _ c.loop-place.invariant.growing (omega arith) c.len-2.ensures.once

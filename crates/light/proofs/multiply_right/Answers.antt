@@ -3,11 +3,12 @@ use Rattle.semigroups.specs.Tables.{Element}
 use Rattle.semigroups.proofs.NoRepeats.{place_mem}
 use Rattle.products.specs.Tables.{times_of}
 use Rattle.light.specs.InnerFound.{adding}
-use Rattle.light.proofs.Choice.{product_none, product_added}
+use Rattle.light.proofs.Found.{adding_none}
+use Rattle.light.proofs.Choice.{product_added}
 use Rattle.light.proofs.multiply_right.Goals as goal
 
 pub loop-y-init : goal.loop-y-init
-loop-y-init c = product_none c.args.found.now
+loop-y-init c = adding_none c.args.found.now
 
 pub times-requires-clause-left : goal.times-requires-clause-left
 times-requires-clause-left c = subst (Element c.args.table.now.order) (sym c.at-x.ensures.answer) (c.requires.found _ (place_mem 0 _ _ c.requires.place))
