@@ -1,5 +1,5 @@
 -- What the contracts of the search say of its state, a partial map, and of its result. Assumes nothing.
-use Rattle.std.specs.Prelude.{◌≡◌, Bool, true, false, cond, List, ◌++◌, ℕ, ◌-◌, ◌≤◌, leb, length, take, replicate, Option as Optional, None, Some, Result, Ok, Err}
+use Rattle.std.specs.Prelude.{◌≡◌, Bool, true, false, cond, List, [], ◌++◌, ℕ, ◌-◌, ◌≤◌, leb, length, take, replicate, Option as Optional, None, Some, Result, Ok, Err}
 use Rattle.std.proofs.Math.Option.{Option, none, some}
 use Rattle.semigroups.specs.Lists.{is_some}
 use Rattle.semigroups.specs.Scratch.{marked}
@@ -57,6 +57,10 @@ padded (some f) = Some (f ++ replicate (120 - length f) 0)
 unfoldable pub ended_of : Remainder → Result Ended Stopped
 ended_of exhausted = Err (record {})
 ended_of (remaining left o) = Ok (record { left = left; map = padded o })
+
+-- The work of the whole search: for the first map or, for true, for the next one.
+abbrev pub asked : Search → Bool → Work
+asked w later = counted (times_of w.source.now) (times_of w.target.now) (marked w.target.now.order w.scratch.now) (bounded later w.after.now) w.target.now.order w.source.now.order []
 
 -- The work of the search that goes on from a partial map.
 abbrev pub ahead : Search → Bool → Partial → Work

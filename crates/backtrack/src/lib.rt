@@ -4,20 +4,17 @@
 
 #![tactic(auto)]
 
-ghost use Rattle.std.specs.Prelude.{◌≡◌, ◌&&◌, [], ◌≤◌, eqb, leb, length, get_or};
+ghost use Rattle.std.specs.Prelude.{◌≡◌, ◌&&◌, eqb, leb, get_or};
 ghost use Rattle.semigroups.specs.Tables.{Element};
-ghost use Rattle.semigroups.specs.Scratch.{scratch_size, marked};
-ghost use Rattle.semigroups.specs.InnerTrials.{counted};
-ghost use Rattle.products.specs.Tables.{times_of};
-ghost use Rattle.backtrack.specs.InnerState.{Ready, bounded, within, ahead, ended_of};
+ghost use Rattle.semigroups.specs.Scratch.{marked};
+ghost use Rattle.backtrack.specs.InnerState.{Ready, within, ahead, asked, ended_of};
 
-use crate::asked::Search;
+pub use crate::asked::Search;
 use constraints::{Attempt, Required};
 use placing::Partial;
-use products::Table;
 use products::limits::{ORDER, PLACES};
 
-mod asked;
+pub mod asked;
 pub mod old;
 
 // How many trials a search without a limit makes at most before a search with rows takes over. They are enough for nearly every easy search.
@@ -104,23 +101,8 @@ fn extend(
 
 // Searches for the earliest map among the marked candidates, or with `next` for the earliest that is later than `after`. Returns the map, none, or that the
 // search was stopped, because `limit` trials are not enough.
-pub fn find_within(
-    source: &Table<'_>,
-    target: &Table<'_>,
-    scratch: &[u8],
-    after: &[u8],
-    next: bool,
-    limit: u32,
-) -> Result<Ended, Stopped>
-    requires space { scratch_size source.now.order target.now.order ≤ length scratch.now }
-    requires bound { length after.now ≡ source.now.order }
-    ensures answer { result ≡ ended_of (within limit (counted (times_of source.now) (times_of target.now) (marked target.now.order scratch.now) (bounded next after.now) target.now.order source.now.order [])) }
+pub fn find_within(search: &Search<'_>, next: bool, limit: u32) -> Result<Ended, Stopped>
+    ensures answer { result ≡ ended_of (within limit (asked search.now next)) }
 {
-    let search = Search {
-        source,
-        target,
-        scratch,
-        after,
-    };
-    extend(&search, next, limit, &Required::nothing(), Partial::new())
+    extend(search, next, limit, &Required::nothing(), Partial::new())
 }

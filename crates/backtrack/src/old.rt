@@ -6,7 +6,7 @@ ghost use Rattle.semigroups.specs.Scratch.{scratch_size, marked};
 ghost use Rattle.semigroups.specs.InnerTrials.{counted};
 ghost use Rattle.backtrack.specs.InnerState.{bounded, within, outcome_of};
 
-use crate::Outcome;
+use crate::{Outcome, Search};
 use products::Table;
 
 // Returns the outcome with no map: the search was stopped, or it ended with `left` trials left.
@@ -45,7 +45,13 @@ pub fn find_within(
         cells: target,
         order: n,
     };
-    match crate::find_within(&source, &target, scratch, after, next, limit) {
+    let search = Search {
+        source: &source,
+        target: &target,
+        scratch,
+        after,
+    };
+    match crate::find_within(&search, next, limit) {
         Ok(ended) => match ended.map {
             Some(image) => Outcome {
                 stopped: false,
