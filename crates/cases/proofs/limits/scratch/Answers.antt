@@ -1,4 +1,5 @@
--- `scratch` meets its contract: the bytes of the two cases are those of the definitions. Assumes nothing.
+-- The bytes of the two cases are those of the definitions. Assumes nothing.
+use Rattle.std.specs.Prelude.{true, Ok, Err}
 use mathlib.Core.Path.{◌≡◌, refl, ap, ◌∙◌}
 use mathlib.Core.List.{[], ◌∷◌, flat_map}
 use mathlib.Core.Option.{or_else}
@@ -15,18 +16,17 @@ use Rattle.calls.specs.Calls.{call}
 use Rattle.semigroups.specs.Copies.{same_list}
 use Rattle.cases.specs.InnerEmbedded.{embedded_tally}
 use Rattle.judging.specs.InnerTally.{empty, agreed}
-use borrow.Author.Rules.{rules}
-use Rattle.cases.proofs.limits.scratch.Statement.{statement}
-use Rattle.cases.proofs.limits.scratch.Tie as tie
+use Rattle.cases.proofs.limits.scratch.Goals as goal
 
-both : embedded_tally 1 100 (2 ∷ 3 ∷ []) (75 ∷ 255 ∷ 255 ∷ []) (embedded_tally 0 6 (0 ∷ 0 ∷ []) (255 ∷ 255 ∷ 255 ∷ []) empty) ≡ agreed 6 empty
+both : embedded_tally 1 (Ok true) (2 ∷ 3 ∷ []) (75 ∷ 255 ∷ 255 ∷ []) (embedded_tally 0 (Err 6) (0 ∷ 0 ∷ []) (255 ∷ 255 ∷ 255 ∷ []) empty) ≡ agreed 6 empty
 unfolding agreed range elements at find keep all member distinct sum count least lists packed_byte marks product grid is_element associates bad_cell bad_triple first_of cells_refusal table_refusal tables_refusal check_refusal search_refusal scratch_size scratch_after power period_from index period index_period same_index_period candidate is_homomorphism is_embedding maps earliest call same_list or_else flat_map
 both = refl
 
-returns : tie.Need-returns
+pub returns : goal.returns
 returns c =
-    let first = c in
-    c.embedded.ensures ∙ ap (embedded_tally 1 100 (2 ∷ 3 ∷ []) (75 ∷ 255 ∷ 255 ∷ [])) (first.embedded-short.ensures ∙ ap (embedded_tally 0 6 (0 ∷ 0 ∷ []) (255 ∷ 255 ∷ 255 ∷ [])) first.start.ensures) ∙ both
-
-pub scratch_spec : {M : Type 1} → statement M
-scratch_spec = tie.close (tie.spec (λ c κs. search rules) (λ c κs. search rules) (λ c κs. search rules) returns)
+    record {
+      answer =
+          c.embedded.ensures.answer
+          ∙ ap (embedded_tally 1 (Ok true) (2 ∷ 3 ∷ []) (75 ∷ 255 ∷ 255 ∷ [])) (c.embedded-short.ensures.answer ∙ ap (embedded_tally 0 (Err 6) (0 ∷ 0 ∷ []) (255 ∷ 255 ∷ 255 ∷ [])) c.start.ensures.answer)
+          ∙ both;
+    }
