@@ -21,10 +21,6 @@ use Rattle.semigroups.proofs.Candidates.{length_pairs, pair_at, length_marks, ma
 use Rattle.semigroups.proofs.Writing.{written, written_all, write_next}
 use Rattle.candidates.specs.InnerPairs.{PairAt, Decides}
 
--- The number of a pair is below 14,400.
-pub pair_small : (n i j : ℕ) → Element 120 i → Element n j → n ≤ 120 → cell_place n i j < 14400
-pair_small n i j hi hj hn = let size : 120 * n ≤ 120 * 120 = mul-le-mul_left 120 hn in omega (arith, place_below 120 n i j hi hj)
-
 -- ---- pair after pair
 
 -- A byte of the marks begins with a pair.

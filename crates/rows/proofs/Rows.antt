@@ -27,10 +27,6 @@ row a b = record { lo = a; hi = b }
 
 -- ---- the two words of a row
 
--- The place, counted from 0, at which the code has the high word of row c.
-pub high_place : (c : ℕ) → 119 + c ≡ 120 + c - 1
-high_place c = omega arith
-
 module _ (row : Row) (y : ℕ) where
   pub row_low : y ≤ 60 → has_bit row.lo (y - 1) ≡ in_row row y
   unfolding in_row
