@@ -151,74 +151,94 @@ pub enum Kind {
     Isomorphisms,
 }
 
-// Returns the image of element i.
-#[tactic(auto, unfolding(semigroups::specs::Lists::at))]
-fn image(map: &[u8], i: usize) -> usize
-    requires { Element (length map.now) i }
-    ensures answer { result ≡ at map.now i }
-{
-    map[i - 1] as usize
+// A list of elements of the target, one for each element of the source.
+#[derive(Clone, Copy)]
+struct Map<'a> {
+    source: Table<'a>,
+    target: Table<'a>,
+    images: &'a [u8],
+    ghost list: { IsList source.order target.order images.now },
 }
 
-// Returns whether the image of the product of the two elements is the product of their images and, if the two differ, their images differ too.
-#[tactic(auto, unfolding(crate::specs::InnerEnumeration::keeps, semigroups::specs::Lists::at))]
-fn keeps(source: &Table, target: &Table, map: &[u8], pair: &[u8; 2]) -> bool
-    requires map { IsList source.now.order target.now.order map.now }
-    requires pair { IsList 2 source.now.order pair.now }
-    ensures answer { result ≡ keeps (product_of source.now) (product_of target.now) map.now pair.now }
-{
-    let i = pair[0] as usize;
-    let j = pair[1] as usize;
-    let x = image(map, i);
-    let y = image(map, j);
-    let ij = source.product(i, j);
-    let kept = image(map, ij) == target.product(x, y);
-    ((i == j) | (x != y)) & kept
-}
+impl Map<'_> {
+    // Returns the image of element i.
+    fn image(&self, i: usize) -> usize
+        requires { Element self.now.source.order i }
+        ensures answer { result ≡ at self.now.images.now i }
+        ensures element { Element self.now.target.order result }
+    {
+        self.images[i - 1] as usize
+    }
 
-// Returns whether a list of elements of the target, one for each element of the source, is an embedding.
-fn is_embedding(source: &Table, target: &Table, map: &[u8]) -> bool
-    requires { IsList source.now.order target.now.order map.now }
-    ensures answer { result ≡ is_embedding source.now.order (product_of source.now) target.now.order (product_of target.now) map.now }
-{
-    let m = source.order;
-    (0..number_of_lists(2, m)).all(|k| keeps(source, target, map, &list_of::<2>(m, k)))
-}
+    // Returns whether the image of the product of the two elements is the product of their images and, if the two differ, their images differ too.
+    #[tactic(auto, unfolding(crate::specs::InnerEnumeration::keeps, semigroups::specs::Lists::at))]
+    fn keeps(&self, pair: &[u8; 2]) -> bool
+        requires pair { IsList 2 self.now.source.order pair.now }
+        ensures answer { result ≡ keeps (product_of self.now.source) (product_of self.now.target) self.now.images.now pair.now }
+    {
+        let i = pair[0] as usize;
+        let j = pair[1] as usize;
+        let x = self.image(i);
+        let y = self.image(j);
+        let ij = self.source.product(i, j);
+        let kept = self.image(ij) == self.target.product(x, y);
+        ((i == j) | (x != y)) & kept
+    }
 
-// Returns whether a list of elements of the target, one for each element of the source, is a map of the kind.
-#[tactic(auto, unfolding(semigroups::specs::Maps::is_isomorphism))]
-fn is_map(kind: Kind, source: &Table, target: &Table, map: &[u8]) -> bool
-    requires { IsList source.now.order target.now.order map.now }
-    ensures answer { result ≡ is_map (kind_of kind) source.now.order (product_of source.now) target.now.order (product_of target.now) map.now }
-{
-    match kind {
-        Kind::Embeddings => is_embedding(source, target, map),
-        Kind::Isomorphisms => source.order == target.order && is_embedding(source, target, map),
+    // Returns whether the list is an embedding.
+    fn is_embedding(&self) -> bool
+        ensures answer { result ≡ is_embedding self.now.source.order (product_of self.now.source) self.now.target.order (product_of self.now.target) self.now.images.now }
+    {
+        let m = self.source.order;
+        (0..number_of_lists(2, m)).all(|k| self.keeps(&list_of::<2>(m, k)))
+    }
+
+    // Returns whether the list is a map of the kind.
+    #[tactic(auto, unfolding(semigroups::specs::Maps::is_isomorphism))]
+    fn is_map(&self, kind: Kind) -> bool
+        ensures answer { result ≡ is_map (kind_of kind) self.now.source.order (product_of self.now.source) self.now.target.order (product_of self.now.target) self.now.images.now }
+    {
+        match kind {
+            Kind::Embeddings => self.is_embedding(),
+            Kind::Isomorphisms => self.source.order == self.target.order && self.is_embedding(),
+        }
     }
 }
 
-// Returns whether list number k is a map of the kind that is later than the list `after`.
-fn is_later_map(kind: Kind, source: &Table, target: &Table, after: &[u8], k: usize) -> bool
-    requires small { source.now.order ≤ 9 }
-    requires after_len { length after.now ≡ source.now.order }
-    requires k_bound { k < target.now.order ^ source.now.order }
-    ensures answer { result ≡ (is_map (kind_of kind) source.now.order (product_of source.now) target.now.order (product_of target.now) (numbered source.now.order target.now.order k) && earlier after.now (numbered source.now.order target.now.order k)) }
-{
-    let m = source.order;
-    let list = list_number(m, target.order, k);
-    is_map(kind, source, target, &list[..m]) && earlier(after, &list[..m])
+// What is searched for: a map of the kind from the source to the target that is later than the list `after`.
+#[derive(Clone, Copy)]
+struct Search<'a> {
+    kind: Kind,
+    source: Table<'a>,
+    target: Table<'a>,
+    after: &'a [u8],
+    ghost small: { source.order ≤ 9 },
+    ghost after_len: { length after.now ≡ source.order },
 }
 
-// Returns the number of the earliest map of the kind that is later than the list `after`, if there is one.
-fn next_number(kind: Kind, source: &Table, target: &Table, after: &[u8]) -> Option<usize>
-    requires small { source.now.order ≤ 9 }
-    requires after_len { length after.now ≡ source.now.order }
-    ensures answer { Option.map (numbered source.now.order target.now.order) (optional result) ≡ earliest (next after.now) (maps (kind_of kind) source.now.order (product_of source.now) target.now.order (product_of target.now)) }
-    ensures below { MatchOption result (Unit {0}) (λ k. k < target.now.order ^ source.now.order) }
-{
-    (0..number_of_lists(source.order, target.order)).find(|k| is_later_map(
-        kind, source, target, after, *k,
-    ))
+impl Search<'_> {
+    // Returns whether list number k is such a map.
+    fn is_later_map(&self, k: usize) -> bool
+        requires k_bound { k < self.now.target.order ^ self.now.source.order }
+        ensures answer { result ≡ (is_map (kind_of self.now.kind) self.now.source.order (product_of self.now.source) self.now.target.order (product_of self.now.target) (numbered self.now.source.order self.now.target.order k) && earlier self.now.after.now (numbered self.now.source.order self.now.target.order k)) }
+    {
+        let m = self.source.order;
+        let list = list_number(m, self.target.order, k);
+        let map = Map {
+            source: self.source,
+            target: self.target,
+            images: &list[..m],
+        };
+        map.is_map(self.kind) && earlier(self.after, map.images)
+    }
+
+    // Returns the number of the earliest such map, if there is one.
+    fn next_number(&self) -> Option<usize>
+        ensures answer { Option.map (numbered self.now.source.order self.now.target.order) (optional result) ≡ earliest (next self.now.after.now) (maps (kind_of self.now.kind) self.now.source.order (product_of self.now.source) self.now.target.order (product_of self.now.target)) }
+        ensures below { MatchOption result (Unit {0}) (λ k. k < self.now.target.order ^ self.now.source.order) }
+    {
+        (0..number_of_lists(self.source.order, self.target.order)).find(|k| self.is_later_map(*k))
+    }
 }
 
 // Returns the earliest map of the kind that is later than the list `after`, if there is one, at the start of an array; the bytes after it are 0.
@@ -227,6 +247,12 @@ pub fn next_map(kind: Kind, source: &Table, target: &Table, after: &[u8]) -> Opt
     requires after_len { length after.now ≡ source.now.order }
     ensures answer { optional result ≡ Option.map (λ f. f ++ drop source.now.order (replicate 9 0)) (earliest (next after.now) (maps (kind_of kind) source.now.order (product_of source.now) target.now.order (product_of target.now))) }
 {
-    let k = next_number(kind, source, target, after)?;
+    let search = Search {
+        kind,
+        source: *source,
+        target: *target,
+        after,
+    };
+    let k = search.next_number()?;
     Some(list_number(source.order, target.order, k))
 }
