@@ -64,7 +64,7 @@ fn find_marked(
     ensures answer { result ≡ outcome_of (remainder_under limit (marked_work next m source.now n target.now after.now scratch.now)) }
 {
     match limit {
-        Limit::Unlimited => narrowing::find(source, m, target, n, scratch, after, next),
+        Limit::Unlimited => narrowing::old::find(source, m, target, n, scratch, after, next),
         Limit::Trials(trials) => {
             backtrack::old::find_within(source, m, target, n, scratch, after, next, trials)
         }
@@ -243,9 +243,9 @@ fn find_allowed(
     ensures answer { result ≡ found_in (marked_work next m source.now n target.now after.now scratch.now).found }
 {
     if all {
-        return narrowing::find(source, m, target, n, scratch, after, next);
+        return narrowing::old::find(source, m, target, n, scratch, after, next);
     }
-    narrowing::find_narrowed(source, m, target, n, scratch, after, next)
+    narrowing::old::find_narrowed(source, m, target, n, scratch, after, next)
 }
 
 // Writes the first allowed embedding between two accepted tables to `map`, or with `next` the next one after the bytes of `map`. Returns whether there is one.
