@@ -16,8 +16,8 @@ ghost use Rattle.parts.specs.InnerParts.{marked_elements, numbering, ClosedPart}
 
 use generated::generate;
 use products::Table;
+use tables::No;
 use tables::limits::PLACES;
-use tables::{No, Numbered, Place, Verdict};
 
 pub mod old;
 
@@ -73,33 +73,25 @@ pub fn subsemigroup(
     chosen: &[u8],
     part: &mut [u8],
     elements: &mut [u8],
-) -> Numbered
+) -> Result<usize, No>
     ensures answer { numbered_says result ≡ subsemigroup_says n cells.now chosen.now (length part.old) (length elements.old) }
     ensures part { part.new ≡ part_after n cells.now chosen.now part.old (length elements.old) }
     ensures elements { elements.new ≡ elements_after n cells.now chosen.now (length part.old) elements.old }
 {
-    let table = tables::check(cells, n);
-    if let Verdict::Refused(fault) = table {
-        return Numbered::Refused(fault.no());
+    let table = tables::accept(cells, n)?.table;
+    if chosen.is_empty() || tables::outside(chosen, n).is_some() {
+        return Err(No::Bare(60));
     }
-    if chosen.len() < 1 {
-        return Numbered::Refused(No::Bare(60));
-    }
-    let entry = tables::outside(chosen, n);
-    if let Place::At(_) = entry {
-        return Numbered::Refused(No::Bare(60));
-    }
-    let generated = generate(cells, n, chosen);
+    let generated = generate(&table, chosen);
     let k = generated.count;
     if part.len() < k * k {
-        return Numbered::Refused(No::Bare(61));
+        return Err(No::Bare(61));
     }
     if elements.len() < k {
-        return Numbered::Refused(No::Bare(62));
+        return Err(No::Bare(62));
     }
     let marks = generated.marks;
     write_elements(&marks, n, elements);
-    let whole = Table { cells, order: n };
-    write_part(&whole, &elements[..k], part);
-    Numbered::Number(k)
+    write_part(&table, &elements[..k], part);
+    Ok(k)
 }
