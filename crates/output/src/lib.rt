@@ -49,10 +49,8 @@ fn put_pairs(out: &mut [u8], start: usize, map: &[u8]) -> usize
     ensures out { out.new ≡ sets out.old start (rows_text (pair_records (length map.now) map.now)) }
 {
     let mut at = start;
-    let mut i: usize = 1;
-    while i <= map.len() {
-        at = put_pair(out, at, i, map[i - 1] as usize);
-        i += 1;
+    for (i, image) in map.iter().enumerate() {
+        at = put_pair(out, at, i + 1, *image as usize);
     }
     at
 }
