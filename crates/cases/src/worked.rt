@@ -39,7 +39,7 @@ pub fn tables() -> Tally
 
 // ---- elements
 
-// Returns whether the index, the period and the idempotent power of an element are these.
+// Returns whether the index, the period and the idempotent power of an element are these. Field by field: `invariants` has no `==` for its types.
 fn same_powers(a: IndexPeriodAnswer, b: IndexPeriod) -> bool
     ensures answer { result ≡ same_given_powers (index_period_says a) (index_period_value b) }
 {

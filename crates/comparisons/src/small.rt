@@ -1,5 +1,5 @@
 // Every table of order 1 to 3. Both sides of a comparison equal one definition, so no contract here can tell whether they are compared at all; the program
-// `cases` compares the answers that RULES 23.2 prints with constants too.
+// `cases` compares the answers that RULES 23.2 prints with constants too. The bound on an order stands in each contract: a struct for one number is no plainer.
 ghost use Rattle.std.specs.Prelude.{◌≡◌, ◌*◌, ◌^◌, ◌≤◌};
 ghost use Rattle.semigroups.specs.Tables.{Element, Accepted};
 ghost use Rattle.semigroups.specs.Questions.{table_refusal};

@@ -21,6 +21,8 @@ use crate::table::Table;
 
 // ---- all lists
 
+// Three functions below ask alike of n and k, each for a length of its own: a struct of the two would say no less.
+
 // Returns how many lists of m entries from 1 to n there are.
 #[tactic(auto, using(crate::proofs::Enumeration::power_small))]
 pub fn number_of_lists(m: usize, n: usize) -> usize
