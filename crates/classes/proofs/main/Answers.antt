@@ -11,17 +11,19 @@ some_file k n e h z = omega arith
 pub loop-k-smaller : goal.loop-k-smaller
 loop-k-smaller c =
     let l = c.loop-k in
-    later_fewer (progress_of l.classifier l.cells) l.invariant.sound (some_file _ _ (c.in-Some.ensures.answer l.cells) (c.in-Some.ensures.file l.cells l.invariant.sound))
+    let asked = some_file _ _ (c.in-Some.ensures.answer l.cells) (c.in-Some.ensures.file l.cells l.invariant.sound) in
+    later_fewer (progress_of l.classifier l.cells) l.invariant.sound asked
     (opened_text c.is_some.result (take c.unwrap_or-length.result c.read_opened-read.new.text)) c.step-classifier.ensures.answer
 
 pub loop-k-preserved : goal.loop-k-preserved
 loop-k-preserved c =
     let l = c.loop-k in
+    let asked = some_file _ _ (c.in-Some.ensures.answer l.cells) (c.in-Some.ensures.file l.cells l.invariant.sound) in
     record {
       text = c.read_opened-read.ensures.size ∙ l.invariant.text;
       cells = c.step-classifier.auto.cells ∙ l.invariant.cells;
       sound =
-          later_sound (progress_of l.classifier l.cells) l.invariant.sound (some_file _ _ (c.in-Some.ensures.answer l.cells) (c.in-Some.ensures.file l.cells l.invariant.sound))
+          later_sound (progress_of l.classifier l.cells) l.invariant.sound asked
           (opened_text c.is_some.result (take c.unwrap_or-length.result c.read_opened-read.new.text)) c.step-classifier.ensures.answer;
     }
 

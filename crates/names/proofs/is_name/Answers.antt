@@ -24,8 +24,10 @@ returns-then-is_empty c = record {
 }
 
 pub returns : goal.returns
-returns c = record {
-  answer =
-      all_from_yields_List is_printable _ _ c.all.result c.all.ensures.ran (YieldsList-from_slice c.args.bytes.now cc) (λ x b q k. search rules)
-      ∙ by_bytes c.args.bytes.now (let some = eqb-false (length c.args.bytes.now) 0 (sym c.is_empty.ensures ∙ c.if-is_empty.false) in omega arith) (omega arith);
-}
+returns c =
+    let some = eqb-false (length c.args.bytes.now) 0 (sym c.is_empty.ensures ∙ c.if-is_empty.false) in
+    record {
+      answer =
+          all_from_yields_List is_printable _ _ c.all.result c.all.ensures.ran (YieldsList-from_slice c.args.bytes.now cc) (λ x b q k. search rules)
+          ∙ by_bytes c.args.bytes.now (omega arith) (omega arith);
+    }

@@ -29,4 +29,6 @@ pub loop-b-preserved : goal.loop-b-preserved
 loop-b-preserved c = count_next _ _ _ c.loop-b.invariant c.loop-b-test.true (omega arith) (omega arith)
 
 pub returns : goal.returns
-returns c = record { answer = count_done _ _ _ _ c.loop-b.invariant c.loop-b-test.false c.if-k-gt-ORDER.false (let some = eqb-false (length c.args.bytes.now) 0 (sym c.is_empty.ensures ∙ c.if-is_empty.false) in omega arith, c.if-bytes-gt3.false) c.if-bytes-eq48.false }
+returns c =
+    let some = eqb-false (length c.args.bytes.now) 0 (sym c.is_empty.ensures ∙ c.if-is_empty.false) in
+    record { answer = count_done _ _ _ _ c.loop-b.invariant c.loop-b-test.false c.if-k-gt-ORDER.false (omega arith, c.if-bytes-gt3.false) c.if-bytes-eq48.false }

@@ -17,7 +17,8 @@ returns-then-names-start c = record { answer = judge_outside _ _ _ _ c.loop-k-te
 pub returns-then-not-is_name : goal.returns-then-not-is_name
 returns-then-not-is_name c =
     let part = part_is c.args.names.now c.loop-k.start (get_or c.args.lengths.now c.loop-k.k 0) in
-    record { answer = judge_no_name _ _ _ _ c.loop-k-test.true _ c.loop-k.invariant c.if-names-start.false (ap is_name (sym part) ∙ sym c.is_name.ensures.answer ∙ c.if-not-is_name.true) }
+    let fails = ap is_name (sym part) ∙ sym c.is_name.ensures.answer ∙ c.if-not-is_name.true in
+    record { answer = judge_no_name _ _ _ _ c.loop-k-test.true _ c.loop-k.invariant c.if-names-start.false fails }
 
 pub name_length-requires : goal.name_length-requires
 name_length-requires c = (name_is _ (sym c.is_name.ensures.answer ∙ c.if-not-is_name.false)).short

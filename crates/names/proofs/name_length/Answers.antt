@@ -29,7 +29,8 @@ returns-then-not-needs_quotes c = record { answer = sym (ap length (unquoted _ (
 pub returns : goal.returns
 returns c =
     let counted : c.count.result ≡ length (marks c.args.name.now) =
-    count_from_yields_List _ _ c.count.ensures.ran (YieldsList-from_filter _ (λ b. eqb b 34) (YieldsList-from_slice c.args.name.now cc) c.filter.ensures.closure (λ x b q k. search (rules, tests))) in
+    count_from_yields_List _ _ c.count.ensures.ran
+    (YieldsList-from_filter _ (λ b. eqb b 34) (YieldsList-from_slice c.args.name.now cc) c.filter.ensures.closure (λ x b q k. search (rules, tests))) in
     let size = doubled_size c.args.name.now in
     let whole = quoted_length c.args.name.now (sym c.needs_quotes.ensures.answer ∙ c.if-not-needs_quotes.false) in
     record { answer = omega arith }

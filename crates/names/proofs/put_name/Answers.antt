@@ -15,4 +15,6 @@ bounds-text-at c =
     omega (arith, c.put_doubled-at.ensures.answer)
 
 pub returns-clause-text : goal.returns-clause-text
-returns-clause-text c = (put_quoted _ _ _ _ _ (sym c.needs_quotes.ensures.answer ∙ c.if-not-needs_quotes.false) c.put_doubled-at.ensures.answer c.put_doubled-at.ensures.text).1
+returns-clause-text c =
+    let quoted = sym c.needs_quotes.ensures.answer ∙ c.if-not-needs_quotes.false in
+    (put_quoted _ _ _ _ _ quoted c.put_doubled-at.ensures.answer c.put_doubled-at.ensures.text).1

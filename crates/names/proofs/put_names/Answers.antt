@@ -27,7 +27,8 @@ slice_bounds-put_name-end c = let i = put_inside _ _ c.loop-k.invariant c.loop-k
 pub put_name-at-requires : goal.put_name-at-requires
 put_name-at-requires c =
     let r = put_room _ _ c.loop-k.invariant c.loop-k-test.true c.requires.room in
-    rw (length-set, part_is c.args.names.now c.loop-k.start (get_or c.args.lengths.now c.loop-k.k 0)) (omega (arith, c.put_number-at.ensures.answer, c.put_number-at.auto.out))
+    let part = part_is c.args.names.now c.loop-k.start (get_or c.args.lengths.now c.loop-k.k 0) in
+    rw (length-set, part) (omega (arith, c.put_number-at.ensures.answer, c.put_number-at.auto.out))
 
 pub put_break-at-requires : goal.put_break-at-requires
 put_break-at-requires c =

@@ -44,7 +44,8 @@ loop-i-preserved c =
     let h = inside t at i c.loop-i-test.true in
     let on : at + (i + 1) ≡ (at + i) + 1 = omega arith in
     rw on
-    (gathered_next bare_value (λ s. length (bare_value s)) t at (at + i) c.loop-i.value c.loop-i.invariant c.with-value.result ((at + i) + 1) (get_or t (at + i) 0) (omega arith) (omega arith)
+    (gathered_next bare_value (λ s. length (bare_value s)) t at (at + i) c.loop-i.value c.loop-i.invariant
+    c.with-value.result ((at + i) + 1) (get_or t (at + i) 0) (omega arith) (omega arith)
     (bare_goes_on t (at + i) h (λ e. c.if-b-eq13.false (b ∙ e)) (λ e. c.if-b-eq44.false (b ∙ e)))
     (c.with-value.ensures.value ∙ ap (extended c.loop-i.value) b))
 

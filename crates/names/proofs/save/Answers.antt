@@ -26,10 +26,12 @@ returns-in-Err c =
 
 pub returns-then-text-total : goal.returns-then-text-total
 returns-then-text-total c =
-    let said = short_text _ _ _ _ (passes _ _ c.is_empty.ensures c.if-is_empty.false c.if-lengths-gt-ORDER.false) c.in-Ok.ensures.answer c.if-text-total.true in
+    let few = passes _ _ c.is_empty.ensures c.if-is_empty.false c.if-lengths-gt-ORDER.false in
+    let said = short_text _ _ _ _ few c.in-Ok.ensures.answer c.if-text-total.true in
     record { answer = said.0; text = said.1 }
 
 pub returns-else-text-total : goal.returns-else-text-total
 returns-else-text-total c =
-    let said = saves_text _ _ _ _ (passes _ _ c.is_empty.ensures c.if-is_empty.false c.if-lengths-gt-ORDER.false) c.in-Ok.ensures.answer c.if-text-total.false _ c.put_names.ensures.text in
+    let few = passes _ _ c.is_empty.ensures c.if-is_empty.false c.if-lengths-gt-ORDER.false in
+    let said = saves_text _ _ _ _ few c.in-Ok.ensures.answer c.if-text-total.false _ c.put_names.ensures.text in
     record { answer = said.0; text = said.1 }
