@@ -1,12 +1,10 @@
-use Rattle.std.proofs.Common.{sym, ap, ◌∙◌, ℕ, List, replicate, arith}
+use Rattle.std.proofs.Common.{ap, ◌∙◌, ℕ, List, replicate, arith}
 use lib.ListN.{length-replicate}
-use Rattle.semigroups.specs.Tables.{product}
 use Rattle.semigroups.specs.Scratch.{marked}
 use Rattle.semigroups.proofs.Candidates.{size_limit, marked_candidate}
 use Rattle.products.specs.Tables.{times_of}
 use Rattle.colours.specs.InnerColours.{same_colour}
 use Rattle.rows.proofs.Turns.{kept_same}
-use Rattle.fitting.specs.InnerPartial.{kept_partial}
 use Rattle.narrowing.proofs.keep_colours.Goals as goal
 
 pub fill-requires-clause-n_in_bounds : goal.fill-requires-clause-n_in_bounds
@@ -23,10 +21,9 @@ returns c =
     let n = a.target.now.order in
     let p = a.p in
     let t = times_of a.target.now in
-    let same = same_colour n (product n a.source.now.cells.now) t in
+    let same = same_colour n (times_of a.source.now) t in
     record {
       answer = c.keep_marked.ensures.answer
           ∙ ap (λ (l : List ℕ). record { image = p.image; rows = l; len = p.len; ok = p.ok })
-          (kept_same n n (marked n c.fill.new.scratch) same (λ d y hd hy. ap (λ (l : List ℕ). marked n l d y) c.fill.ensures.scratch ∙ marked_candidate n n same (replicate 1800 0) d y hd hy) p.rows)
-          ∙ ap (λ (k : ℕ). kept_partial n n (same_colour n (product k a.source.now.cells.now) t) p) (sym c.requires);
+          (kept_same n n (marked n c.fill.new.scratch) same (λ d y hd hy. ap (λ (l : List ℕ). marked n l d y) c.fill.ensures.scratch ∙ marked_candidate n n same (replicate 1800 0) d y hd hy) p.rows);
     }
