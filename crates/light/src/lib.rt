@@ -17,8 +17,6 @@ use products::Table;
 use products::limits::{ORDER, PLACES};
 use std::marker::Model;
 
-pub mod old;
-
 // ---- elements found one by one
 
 // Elements found one by one: a clause sees the list of them, the first found first. They stand at the start of `list`, and each has a mark.
