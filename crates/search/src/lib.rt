@@ -17,7 +17,7 @@ ghost use Rattle.calls.specs.Calls.{lend, called, call};
 ghost use Rattle.calls.specs.Limited.{limited_call};
 ghost use Rattle.calls.specs.Among.{call_among};
 
-use kinds::{Kind, Limit};
+use kinds::Kind;
 use questions::SearchFault;
 
 // What a search answers.
@@ -109,22 +109,12 @@ pub fn first_within(
     if let Err(fault) = asked {
         return LimitedAnswer::Refused(fault);
     }
-    let result = kinds::search_kind(
-        kind,
-        false,
-        Limit::Trials(limit),
-        source,
-        m,
-        target,
-        n,
-        map,
-        scratch,
-    );
-    if result.stopped {
+    let result = kinds::search_kind(kind, false, Some(limit), source, m, target, n, map, scratch);
+    let Ok(ended) = result else {
         return LimitedAnswer::Stopped;
-    }
-    let trials = limit - result.left;
-    if result.ok {
+    };
+    let trials = limit - ended.left;
+    if ended.map.is_some() {
         return LimitedAnswer::Found(trials);
     }
     LimitedAnswer::Nothing(trials)
