@@ -18,7 +18,7 @@ ghost use Rattle.sheets.specs.InnerCursor.{bare_value, quoted_value, quoted_size
 ghost use Rattle.names.specs.InnerReading.{extended, HoldsValue, Judges, JudgesNames, Fits, Nameable};
 
 use tables::limits::ORDER;
-use tables::{No, Numbered};
+use tables::No;
 
 // ---- fields
 
@@ -203,22 +203,22 @@ fn write_names(text: &[u8], names: &mut [u8], lengths: &mut [u8])
 
 // Loads the names on the sheet `text`: writes them one after another to the start of `names` and their lengths to the start of `lengths`, and answers how
 // many there are; or answers the earliest question that fails, and writes nothing.
-pub fn load(text: &[u8], names: &mut [u8], lengths: &mut [u8]) -> Numbered
+pub fn load(text: &[u8], names: &mut [u8], lengths: &mut [u8]) -> Result<usize, No>
     ensures answer { (w : Reading text.now) → numbered_says result ≡ load_names_answer w names.old lengths.old }
     ensures names { (w : Reading text.now) → names.new ≡ names_after w names.old lengths.old }
     ensures lengths { (w : Reading text.now) → lengths.new ≡ lengths_after w names.old lengths.old }
 {
     if let Err(k) = scanning::scan(text) {
-        return Numbered::Refused(No::With(40, k));
+        return Err(No::With(40, k));
     }
     match judge_records(text) {
-        Err(fault) => Numbered::Refused(fault),
+        Err(fault) => Err(fault),
         Ok((count, total)) => {
             if names.len() < total || lengths.len() < count {
-                return Numbered::Refused(No::Bare(27));
+                return Err(No::Bare(27));
             }
             write_names(text, names, lengths);
-            Numbered::Number(count)
+            Ok(count)
         }
     }
 }
@@ -319,21 +319,21 @@ fn put_names(names: &[u8], lengths: &[u8], text: &mut [u8])
 
 // Saves names that stand one after another in `names` with these lengths: writes their sheet to the start of `text` and answers its length; or answers
 // the earliest question that fails, and writes nothing.
-pub fn save(names: &[u8], lengths: &[u8], text: &mut [u8]) -> Numbered
+pub fn save(names: &[u8], lengths: &[u8], text: &mut [u8]) -> Result<usize, No>
     ensures answer { numbered_says result ≡ save_names_answer names.now lengths.now text.old }
     ensures text { text.new ≡ sheet_after names.now lengths.now text.old }
 {
     if lengths.is_empty() || ORDER < lengths.len() {
-        return Numbered::Refused(No::Bare(42));
+        return Err(No::Bare(42));
     }
     match judge_names(names, lengths) {
-        Err(fault) => Numbered::Refused(fault),
+        Err(fault) => Err(fault),
         Ok(total) => {
             if text.len() < total {
-                return Numbered::Refused(No::Bare(28));
+                return Err(No::Bare(28));
             }
             put_names(names, lengths, text);
-            Numbered::Number(total)
+            Ok(total)
         }
     }
 }
