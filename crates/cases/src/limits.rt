@@ -24,7 +24,7 @@ use judging::said::said_of_no;
 use judging::tally::{Tally, counted, start};
 use kinds::Kind;
 use plain::{Said, failed};
-use tables::Numbered;
+use tables::No;
 
 // Compares the answers about a table of order 120, which is accepted, and of order 121, which is refused. Returns the tally.
 pub fn orders() -> Tally
@@ -44,18 +44,18 @@ pub fn same_bytes(a: &[u8], b: &[u8]) -> bool
 }
 
 // Returns the answer, with the "no" as numbers.
-fn numbered_said(answer: Numbered) -> Result<usize, Said>
+fn numbered_said(answer: Result<usize, No>) -> Result<usize, Said>
     ensures answer { result ≡ answer_said (numbered_says answer) }
 {
     match answer {
-        Numbered::Number(n) => Ok(n),
-        Numbered::Refused(no) => Err(said_of_no(no)),
+        Ok(n) => Ok(n),
+        Err(no) => Err(said_of_no(no)),
     }
 }
 
 // Compares what a call answers with `said`, and its buffer after the call with `after`. Returns the tally.
 fn numbered_told(
-    answer: Numbered,
+    answer: Result<usize, No>,
     said: Result<usize, Said>,
     buffer: &[u8],
     after: &[u8],

@@ -22,7 +22,6 @@ use files::{failed_question, load_then_check};
 use kinds::Kind;
 use lines::{put_break, put_field, put_fields, put_record};
 use progress::{Classifier, Task};
-use tables::Numbered;
 use tables::limits::{CELLS, ORDER, SCRATCH};
 
 // Returns whether an isomorphism exists between two accepted tables.
@@ -52,7 +51,7 @@ fn holds_like(text: &[u8], n: usize, cells: &[u8]) -> bool
 {
     let mut own = [0u8; CELLS];
     let verdict = load_then_check(text, &mut own);
-    let Numbered::Number(m) = verdict else {
+    let Ok(m) = verdict else {
         return false;
     };
     if m != n {
@@ -235,7 +234,7 @@ fn begun(classifier: Classifier, text: &[u8], cells: &mut [u8]) -> Classifier
     ensures cells { cells.new ≡ cells_after text.now cells.old }
 {
     let verdict = load_then_check(text, cells);
-    let Numbered::Number(n) = verdict else {
+    let Ok(n) = verdict else {
         return noted(classifier, 0, failed_question(verdict));
     };
     onward(classifier, n, 0)

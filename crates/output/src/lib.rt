@@ -16,7 +16,6 @@ ghost use Rattle.output.specs.InnerLength.{longest_output};
 use files::{failed_question, load_then_check};
 use kinds::Kind;
 use lines::{put_break, put_field, put_number, put_record};
-use tables::Numbered;
 use tables::limits::{CELLS, ORDER, OUTPUT, SCRATCH};
 
 // Writes the record of a word and two numbers to the start of `out`. Returns its length.
@@ -98,12 +97,12 @@ pub fn recue(source: &[u8], target: &[u8], out: &mut [u8; OUTPUT]) -> usize
 {
     let mut source_cells = [0u8; CELLS];
     let first = load_then_check(source, &mut source_cells);
-    let Numbered::Number(m) = first else {
+    let Ok(m) = first else {
         return put_first(out, b"refused", 1, failed_question(first));
     };
     let mut target_cells = [0u8; CELLS];
     let second = load_then_check(target, &mut target_cells);
-    let Numbered::Number(n) = second else {
+    let Ok(n) = second else {
         return put_first(out, b"refused", 2, failed_question(second));
     };
     let source_size = m * m;

@@ -18,7 +18,7 @@ ghost use Rattle.planning.specs.Answers.{degree_answer_says};
 ghost use Rattle.planning.specs.Calls.{degree_says, positions_after};
 
 use kinds::Kind;
-use tables::{No, Numbered, Verdict};
+use tables::No;
 
 // ---- landing positions
 
@@ -65,7 +65,7 @@ fn fits(cells: &[u8], m: usize, degree: usize, image: &mut [u8]) -> bool
 {
     let mut target = [0u8; 729];
     let filled = transformations::fill(degree, &mut target);
-    let Numbered::Number(n) = filled else {
+    let Ok(n) = filled else {
         return false;
     };
     let size = n * n;
@@ -108,10 +108,7 @@ pub fn least_degree(cells: &[u8], m: usize, positions: &mut [u8]) -> Result<Opti
     ensures answer { degree_answer_says result ≡ degree_says m cells.now (length positions.old) }
     ensures positions { positions.new ≡ positions_after m cells.now positions.old }
 {
-    let table = tables::check(cells, m);
-    if let Verdict::Refused(fault) = table {
-        return Err(fault.no());
-    }
+    tables::check(cells, m)?;
     if positions.len() < m * 3 {
         return Err(No::Bare(80));
     }
