@@ -17,8 +17,8 @@ ghost use Rattle.sheets.specs.Calls.{load_names_answer, names_after, lengths_aft
 ghost use Rattle.sheets.specs.InnerCursor.{bare_value, quoted_value, quoted_size, value_at, size_at};
 ghost use Rattle.names.specs.InnerReading.{extended, HoldsValue, Judges, JudgesNames, Fits, Nameable};
 
-use tables::limits::ORDER;
 use tables::No;
+use tables::limits::ORDER;
 
 // ---- fields
 

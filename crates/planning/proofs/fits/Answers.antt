@@ -1,7 +1,6 @@
 -- Accepted tables and buffers of the right length are lent: the first embedding is found, or there is none. Assumes nothing.
-use Rattle.std.proofs.Common.{◌≡◌, refl, sym, ◌*◌, ◌≤◌, List, ℕ, length, take, replicate, arith}
+use Rattle.std.proofs.Common.{refl, sym, List, ℕ, replicate, arith}
 use Rattle.std.proofs.Math.Seq.{length-take-le}
-use Rattle.semigroups.specs.Transformations.{transformation_order, transformation_cells}
 use Rattle.planning.proofs.Searching.{square_room, order_filled, always_filled, cells_filled, target_accepted, marks_room, first_found, first_left}
 use Rattle.planning.proofs.fits.Goals as goal
 
