@@ -1,6 +1,6 @@
 -- The records of the notes and of the totals as text: how long they are, what is left to write, and what stands in the buffer once it is written.
 -- Assumes nothing.
-use mathlib.Core.Path.{◌≡◌, refl, sym, ap, ◌∙◌, subst}
+use mathlib.Core.Path.{◌≡◌, refl, sym, ap, ◌∙◌}
 use mathlib.Core.Bool.{Bool, true, false, cond}
 use mathlib.Core.List.{List, [], ◌∷◌, ◌++◌, map, flat_map, append_assoc, append-nil}
 use Prim.Native.Nat.{ℕ, zero, suc, ◌+◌, ◌-◌, ◌*◌, ◌≤◌, ◌<◌}
@@ -59,15 +59,6 @@ class_written before start k n l q₁ e₁ q₂ e₂ q₃ e₃ =
     let w₂ = written w₁ (44 ∷ numeral l) [] (sym (append-nil (44 ∷ numeral l))) e₂ q₂ in
     let all = write_last w₂ refl in
     line_written before start (note_record k (in_class n l)) all.1 all.0 q₃ e₃
-
--- Equal notes have the same record.
-module _ (k at : ℕ) {x y : Note} (e : x ≡ y) where
-  pub note_fits : {room : ℕ} → at + length (line_text (note_record k y)) ≤ room → at + length (line_text (note_record k x)) ≤ room
-  note_fits {room} h = subst (λ (z : Note). at + length (line_text (note_record k z)) ≤ room) (sym e) h
-
-  pub note_put : (before : List ℕ) {out : List ℕ} {p : ℕ} → p ≡ at + length (line_text (note_record k x)) → out ≡ sets before at (line_text (note_record k x))
-      → (p ≡ at + length (line_text (note_record k y))) × (out ≡ sets before at (line_text (note_record k y)))
-  note_put before q w = (q ∙ ap (λ (z : Note). at + length (line_text (note_record k z))) e, w ∙ ap (λ (z : Note). sets before at (line_text (note_record k z))) e)
 
 -- ---- the records of the files
 

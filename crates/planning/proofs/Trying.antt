@@ -3,10 +3,9 @@ use mathlib.Core.Path.{◌≡◌, refl, sym, ap, ◌∙◌}
 use mathlib.Core.Bool.{Bool, true, false, cond}
 use mathlib.Core.List.{List}
 use mathlib.Core.Option.{Option, none, some, map, get_or}
-use Prim.Native.Nat.{ℕ, ◌+◌, ◌*◌, ◌≤◌, ◌<◌}
+use Prim.Native.Nat.{ℕ, ◌+◌, ◌≤◌, ◌<◌}
 use native.Mathlib.Omega.{arith}
-use lib.ListN.{length}
-use Rattle.semigroups.specs.Tables.{Product, Element}
+use Rattle.semigroups.specs.Tables.{Product}
 use Rattle.semigroups.specs.Calls.{overwritten}
 use Rattle.semigroups.proofs.Completions.{first_from, first_start, first_skip, first_hit, first_end}
 use Rattle.planning.specs.Degrees.{Fit, fit, first_at, least_fit, least_degree, landings, fit_positions}
@@ -45,15 +44,6 @@ module _ (m : ℕ) (s : Product) where
   try_begin image positions = record { from_here = unfold least_fit in first_start fit_at 3; from_one = omega arith; to_end = omega arith; image_kept = refl; unwritten = refl }
 
   module _ (image₀ positions₀ : List ℕ) (degree : ℕ) (image positions : List ℕ) (t : Trying image₀ positions₀ degree image positions) where
-    pub degree_tried : degree ≤ 3 → Element 3 degree
-    degree_tried h = (t.from_one, h)
-
-    pub image_size : length image₀ ≡ m → length image ≡ m
-    image_size e = ap length t.image_kept ∙ e
-
-    pub room_still : m * 3 ≤ length positions₀ → m * 3 ≤ length positions
-    room_still h = let e = ap length t.unwritten in omega arith
-
     -- If there is no embedding at this degree, the next one is tried.
     pub try_next : degree ≤ 3 → none ≡ first_at m s degree → (left : List ℕ) → left ≡ get_or (first_at m s degree) image → Trying image₀ positions₀ (degree + 1) left positions
     try_next h e left w =

@@ -1,5 +1,4 @@
 use Rattle.std.proofs.Common.{◌≡◌, ◌+◌, arith, sym, ap, ◌∙◌}
-use Rattle.progress.specs.Classes.{Note}
 use Rattle.progress.specs.Held.{notes_in}
 use Rattle.progress.specs.Progress.{names_order}
 use Rattle.progress.proofs.Wanted.{length_from}

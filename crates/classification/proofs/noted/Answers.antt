@@ -1,4 +1,4 @@
-use Rattle.std.proofs.Common.{ap, arith, List, ℕ}
+use Rattle.std.proofs.Common.{ap, arith, List}
 use Rattle.progress.specs.Classes.{Note}
 use Rattle.progress.specs.Progress.{reading, Progress, progress}
 use Rattle.classification.proofs.Held.{notes_more}
