@@ -61,21 +61,6 @@ some_in_row n p e = go (equal_or_not (word p 1 (min n 60)) 0)
         let less = r.1 in
         (61 + r.0, (omega arith, omega arith), r.2)
 
--- ---- the test of one element
-
-module _ (t : Product) (x looks : ℕ) (left right : Row) (y : ℕ) where
-  pub left_fails : in_row left (t x y) ≡ false → false ≡ stays t x looks left right y
-  unfolding stays
-  left_fails e = rw e
-
-  pub right_fails : in_row left (t x y) ≡ true → in_row right (t y x) ≡ false → false ≡ stays t x looks left right y
-  unfolding stays
-  right_fails e f = rw (e, f)
-
-  pub looks_decide : in_row left (t x y) ≡ true → in_row right (t y x) ≡ true → eqb (pattern x y (t x y) (t y x)) looks ≡ stays t x looks left right y
-  unfolding stays
-  looks_decide e f = rw (e, f)
-
 -- ---- what is left of a row
 
 -- The words of what a placing leaves of a row.
