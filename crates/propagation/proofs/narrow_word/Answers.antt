@@ -3,7 +3,7 @@ use lib.Pow.{shr_le, pow_mono}
 use native.Mathlib.Nat.{div-one}
 use Prim.Native.Nat.{◌^◌}
 use Rattle.std.proofs.Common.{◌≡◌, Bool, true, false, ℕ, ◌+◌, ◌*◌, ◌/◌, ◌%◌, ◌<◌, refl, sym, ◌∙◌, arith}
-use Rattle.semigroups.specs.Tables.{product}
+use Rattle.products.specs.Tables.{times_of}
 use Rattle.rows.specs.InnerRows.{word}
 use Rattle.rows.proofs.Words.{kept, jump, done, hit, following, word_more, word_as_was, word_below}
 use Rattle.propagation.specs.InnerRows.{stays}
@@ -33,14 +33,14 @@ returns-then-count-k c =
     let a = c.args in
     let l = c.loop-rest in
     let i = l.invariant in
-    record { answer = i.so_far ∙ jump a.old a.from (stays (product a.n a.target.now) a.x a.looks a.left a.right) l.k l.rest i.after a.count i.within c.if-count-k.true }
+    record { answer = i.so_far ∙ jump a.old a.from (stays (times_of a.target.now) a.x a.looks a.left a.right) l.k l.rest i.after a.count i.within c.if-count-k.true }
 
 pub overflow_add-w : goal.overflow_add-w
 overflow_add-w c =
     let a = c.args in
     let l = c.loop-rest in
     let i = l.invariant in
-    let t : ℕ → Bool = stays (product a.n a.target.now) a.x a.looks a.left a.right in
+    let t : ℕ → Bool = stays (times_of a.target.now) a.x a.looks a.left a.right in
     let p = c.requires.le_from in
     let m = with_bit a.old a.from l.k l.rest l.w t i.after i.so_far (omega arith) (omega (arith, shr_le a.old l.k)) (omega arith) (sym c.stays.ensures.answer ∙ c.if-stays.true) in
     let w = word_below (kept a.old a.from t) a.from (place a.old a.from l.k l.rest l.w t i.after i.so_far + 1) in
@@ -52,7 +52,7 @@ loop-rest-preserved c =
     let a = c.args in
     let l = c.loop-rest in
     let i = l.invariant in
-    let t : ℕ → Bool = stays (product a.n a.target.now) a.x a.looks a.left a.right in
+    let t : ℕ → Bool = stays (times_of a.target.now) a.x a.looks a.left a.right in
     let some : 0 < l.rest = omega arith in
     let fits : l.rest < 2 ^ 64 = omega (arith, shr_le a.old l.k) in
     let is = sym c.stays.ensures.answer in
@@ -70,4 +70,4 @@ returns c =
     let a = c.args in
     let l = c.loop-rest in
     let i = l.invariant in
-    record { answer = i.so_far ∙ done a.old a.from (stays (product a.n a.target.now) a.x a.looks a.left a.right) l.k l.rest i.after c.loop-rest-test.false a.count i.within }
+    record { answer = i.so_far ∙ done a.old a.from (stays (times_of a.target.now) a.x a.looks a.left a.right) l.k l.rest i.after c.loop-rest-test.false a.count i.within }

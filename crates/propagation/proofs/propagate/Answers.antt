@@ -1,19 +1,19 @@
 use Rattle.std.proofs.Common.{Bool, refl, subst, arith}
-use Rattle.semigroups.specs.Tables.{product}
+use Rattle.products.specs.Tables.{times_of}
 use Rattle.semigroups.specs.TablesLaws.{Closed}
 use Rattle.semigroups.proofs.Booleans.{clash}
-use Rattle.semigroups.proofs.Tables.{product_element}
 use Rattle.rows.proofs.Rows.{shrinks_more}
 use Rattle.propagation.specs.InnerLone.{KeptOrEmptiedFrom}
+use Rattle.propagation.proofs.Narrowed.{table_closed}
 use Rattle.propagation.proofs.Lone.{propagating_start, fewer, told_no, propagating_more, all_narrowed, told_yes}
 use Rattle.propagation.proofs.propagate.Goals as goal
 
 pub loop-l-init : goal.loop-l-init
 loop-l-init c =
     let a = c.args in
-    let source = c.requires.0 in
-    let closed : Closed a.m (product a.m a.source.now) = product_element a.m a.source.now source.size source.in_range in
-    propagating_start a.m (product a.m a.source.now) a.n (product a.n a.target.now) closed source.order.1 a.rows.now
+    let source = c.args.source.now.filled in
+    let closed : Closed a.source.now.order (times_of a.source.now) = table_closed a.source.now in
+    propagating_start a.source.now.order (times_of a.source.now) a.target.now.order (times_of a.target.now) closed source.order.1 a.rows.now
 
 pub returns-then-not-propagate_from-clause-keeps : goal.returns-then-not-propagate_from-clause-keeps
 returns-then-not-propagate_from-clause-keeps c = λ f F h.
@@ -28,57 +28,57 @@ returns-then-not-propagate_from-clause-shrinks c =
 pub returns-then-not-propagate_from-clause-told : goal.returns-then-not-propagate_from-clause-told
 returns-then-not-propagate_from-clause-told c =
     let a = c.args in
-    let s = product a.m a.source.now in
-    let t = product a.n a.target.now in
-    let source = c.requires.0 in
-    let closed : Closed a.m s = product_element a.m a.source.now source.size source.in_range in
+    let s = times_of a.source.now in
+    let t = times_of a.target.now in
+    let source = c.args.source.now.filled in
+    let closed : Closed a.source.now.order s = table_closed a.source.now in
     let l = c.loop-l in
     let next = c.in-Some.ensures.answer in
     let w = c.propagate_from in
     let new = w.new.rows in
-    told_no a.m s a.n t closed source.order.1 a.rows.now l.rows l.used l.invariant c.in-Some.l next.0 next.1 new w.ensures.shrinks
-    (subst (λ (ok : Bool). KeptOrEmptiedFrom a.m s a.n t c.in-Some.l l.rows ok new) c.if-not-propagate_from.true w.ensures.told)
+    told_no a.source.now.order s a.target.now.order t closed source.order.1 a.rows.now l.rows l.used l.invariant c.in-Some.l next.0 next.1 new w.ensures.shrinks
+    (subst (λ (ok : Bool). KeptOrEmptiedFrom a.source.now.order s a.target.now.order t c.in-Some.l l.rows ok new) c.if-not-propagate_from.true w.ensures.told)
 
 pub loop-l-smaller : goal.loop-l-smaller
 loop-l-smaller c =
     let a = c.args in
-    let s = product a.m a.source.now in
-    let source = c.requires.0 in
-    let closed : Closed a.m s = product_element a.m a.source.now source.size source.in_range in
+    let s = times_of a.source.now in
+    let source = c.args.source.now.filled in
+    let closed : Closed a.source.now.order s = table_closed a.source.now in
     let l = c.loop-l in
     let next = c.in-Some.ensures.answer in
-    omega (arith, fewer a.m s a.n (product a.n a.target.now) closed source.order.1 a.rows.now l.rows l.used l.invariant c.in-Some.l next.0 next.1)
+    omega (arith, fewer a.source.now.order s a.target.now.order (times_of a.target.now) closed source.order.1 a.rows.now l.rows l.used l.invariant c.in-Some.l next.0 next.1)
 
 pub loop-l-preserved : goal.loop-l-preserved
 loop-l-preserved c =
     let a = c.args in
-    let s = product a.m a.source.now in
-    let t = product a.n a.target.now in
-    let source = c.requires.0 in
-    let closed : Closed a.m s = product_element a.m a.source.now source.size source.in_range in
+    let s = times_of a.source.now in
+    let t = times_of a.target.now in
+    let source = c.args.source.now.filled in
+    let closed : Closed a.source.now.order s = table_closed a.source.now in
     let l = c.loop-l in
     let next = c.in-Some.ensures.answer in
     let w = c.propagate_from in
     let new = w.new.rows in
     let ok = c.if-not-propagate_from.false in
-    propagating_more a.m s a.n t closed source.order.1 a.rows.now l.rows l.used l.invariant c.in-Some.l next.0 next.1
+    propagating_more a.source.now.order s a.target.now.order t closed source.order.1 a.rows.now l.rows l.used l.invariant c.in-Some.l next.0 next.1
     new (λ f F h. (refl, (w.ensures.keeps f F h).1)) w.ensures.shrinks (w.ensures.narrows ok)
-    (subst (λ (b : Bool). KeptOrEmptiedFrom a.m s a.n t c.in-Some.l l.rows b new) ok w.ensures.told)
+    (subst (λ (b : Bool). KeptOrEmptiedFrom a.source.now.order s a.target.now.order t c.in-Some.l l.rows b new) ok w.ensures.told)
 
 pub returns-clause-narrows : goal.returns-clause-narrows
 returns-clause-narrows c =
     let a = c.args in
-    let s = product a.m a.source.now in
-    let source = c.requires.0 in
-    let closed : Closed a.m s = product_element a.m a.source.now source.size source.in_range in
+    let s = times_of a.source.now in
+    let source = c.args.source.now.filled in
+    let closed : Closed a.source.now.order s = table_closed a.source.now in
     let l = c.loop-l in
-    λ ok. all_narrowed a.m s a.n (product a.n a.target.now) closed source.order.1 a.rows.now l.rows l.used l.invariant c.in_default.ensures.answer c.requires.1.order.1
+    λ ok. all_narrowed a.source.now.order s a.target.now.order (times_of a.target.now) closed source.order.1 a.rows.now l.rows l.used l.invariant c.in_default.ensures.answer c.args.target.now.filled.order.1
 
 pub returns-clause-told : goal.returns-clause-told
 returns-clause-told c =
     let a = c.args in
-    let s = product a.m a.source.now in
-    let source = c.requires.0 in
-    let closed : Closed a.m s = product_element a.m a.source.now source.size source.in_range in
+    let s = times_of a.source.now in
+    let source = c.args.source.now.filled in
+    let closed : Closed a.source.now.order s = table_closed a.source.now in
     let l = c.loop-l in
-    told_yes a.m s a.n (product a.n a.target.now) closed source.order.1 a.rows.now l.rows l.used l.invariant c.in_default.ensures.answer c.requires.1.order.1
+    told_yes a.source.now.order s a.target.now.order (times_of a.target.now) closed source.order.1 a.rows.now l.rows l.used l.invariant c.in_default.ensures.answer c.args.target.now.filled.order.1
