@@ -29,25 +29,33 @@ image_is m s n t rows l x hm hn hl hx row f F h = lone_image m s n t f F hm.1 hn
 pub returns-then-not-small_have_room-clause-keeps : goal.returns-then-not-small_have_room-clause-keeps
 returns-then-not-small_have_room-clause-keeps c = λ f F h.
     let a = c.args in
+    let m = a.source.now.order in
+    let n = a.target.now.order in
+    let s = times_of a.source.now in
+    let t = times_of a.target.now in
     let x = c.in-Some.x in
     let A = c.in-Some.ensures.answer in
     let some = A.0 in
     let most = c.if-target-x.false in
     let row = row_is a.rows.now a.l x c.row_of.result c.row_of.ensures.answer A in
-    let e = image_is a.source.now.order (times_of a.source.now) a.target.now.order (times_of a.target.now) a.rows.now a.l x a.source.now.filled.order a.target.now.filled.order c.requires.element (omega arith) row f F h in
+    let e = image_is m s n t a.rows.now a.l x a.source.now.filled.order a.target.now.filled.order c.requires.element (omega arith) row f F h in
     let forced = c.force_all.new.rows in
-    let room = roomy_kept forced a.source.now.order (times_of a.source.now) a.target.now.order (times_of a.target.now) f a.target.now.filled.order.1 F (c.force_all.ensures.keeps f F e h) in
-    absurd (clash {b = roomy forced a.source.now.order} room (small_fails forced a.source.now.order (sym c.small_have_room.ensures.answer ∙ c.if-not-small_have_room.true)))
+    let room = roomy_kept forced m s n t f a.target.now.filled.order.1 F (c.force_all.ensures.keeps f F e h) in
+    absurd (clash {b = roomy forced m} room (small_fails forced m (sym c.small_have_room.ensures.answer ∙ c.if-not-small_have_room.true)))
 
 pub returns-clause-keeps : goal.returns-clause-keeps
 returns-clause-keeps c = λ f F h.
     let a = c.args in
+    let m = a.source.now.order in
+    let n = a.target.now.order in
+    let s = times_of a.source.now in
+    let t = times_of a.target.now in
     let x = c.in-Some.x in
     let A = c.in-Some.ensures.answer in
     let some = A.0 in
     let most = c.if-target-x.false in
     let row = row_is a.rows.now a.l x c.row_of.result c.row_of.ensures.answer A in
-    let e = image_is a.source.now.order (times_of a.source.now) a.target.now.order (times_of a.target.now) a.rows.now a.l x a.source.now.filled.order a.target.now.filled.order c.requires.element (omega arith) row f F h in
+    let e = image_is m s n t a.rows.now a.l x a.source.now.filled.order a.target.now.filled.order c.requires.element (omega arith) row f F h in
     c.narrow.ensures.keeps f F e (c.force_all.ensures.keeps f F e h)
 
 pub returns-clause-shrinks : goal.returns-clause-shrinks
@@ -56,13 +64,15 @@ returns-clause-shrinks c = shrinks_more c.force_all.new.rows c.narrow.new.rows c
 pub returns-clause-narrows : goal.returns-clause-narrows
 returns-clause-narrows c = λ ok v hv e.
     let a = c.args in
+    let m = a.source.now.order in
+    let n = a.target.now.order in
     let s = times_of a.source.now in
     let t = times_of a.target.now in
     let source = c.args.source.now.filled in
     let order = c.args.target.now.filled.order in
-    let closed : Closed a.source.now.order s = table_closed a.source.now in
+    let closed : Closed m s = table_closed a.source.now in
     let x = c.in-Some.x in
     let A = c.in-Some.ensures.answer in
     let same : x ≡ v = A.1.found v (omega arith) (c.row_of.ensures.answer ∙ e) in
-    subst (λ (i : ℕ). Narrows a.source.now.order s a.target.now.order t a.l i (has a.rows.now) (has c.narrow.new.rows)) same
-    (narrows_wider a.source.now.order s a.target.now.order t closed source.order.1 a.rows.now c.force_all.new.rows c.force_all.ensures.shrinks a.l x c.requires.element (has c.narrow.new.rows) (c.narrow.ensures.narrows ok))
+    subst (λ (i : ℕ). Narrows m s n t a.l i (has a.rows.now) (has c.narrow.new.rows)) same
+    (narrows_wider m s n t closed source.order.1 a.rows.now c.force_all.new.rows c.force_all.ensures.shrinks a.l x c.requires.element (has c.narrow.new.rows) (c.narrow.ensures.narrows ok))
