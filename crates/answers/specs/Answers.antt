@@ -1,7 +1,6 @@
 -- What the answers about a table mean (RULES 7): for each case the number of the question and the values said with it.
 -- Assumes nothing.
 use Rattle.std.specs.Prelude.{[], ◌∷◌, ℕ, get_or, Result}
-use Rattle.std.proofs.Math.Option.{Option, none, some}
 use Rattle.semigroups.specs.Questions.{Refusal}
 use Rattle.semigroups.specs.InnerQuestions.{no, naming}
 use Rattle.semigroups.specs.Calls.{Answer}
@@ -14,8 +13,6 @@ use Rattle.answers.specs.declared.Side.{Side}
 use Rattle.answers.specs.declared.Side.TheVariants.{Source, Target}
 use Rattle.answers.specs.declared.SideFault.{SideFault}
 use Rattle.answers.specs.declared.Refusal.{Refusal as Numbers}
-use Rattle.answers.specs.declared.Place.{Place}
-use Rattle.answers.specs.declared.Place.TheVariants.{At, Nothing}
 
 -- The refusal of each fault: 1 and 2 carry nothing, 3 carries the cell, 4 the triple.
 abbrev pub fault_refusal : Fault → Refusal
@@ -42,11 +39,6 @@ side_number Target = 2
 -- The refusal of one of two tables, which names its side.
 abbrev pub side_refusal : SideFault → Refusal
 side_refusal f = naming (side_number f.side) (fault_refusal f.fault)
-
--- The place, or none.
-abbrev pub place_option : Place → Option ℕ
-place_option (At k) = some k
-place_option Nothing = none
 
 -- ---- refusals as numbers
 

@@ -47,13 +47,6 @@ pub struct SideFault {
     pub fault: Fault,
 }
 
-// The place of something, counted from 1; or none.
-#[derive(Clone, Copy)]
-pub enum Place {
-    At(usize),
-    Nothing,
-}
-
 // ---- refusals as numbers
 
 impl Side {

@@ -7,10 +7,11 @@ ghost use Rattle.cases.specs.InnerAnswering.{same_given_powers, same_given_profi
 ghost use Rattle.judging.specs.InnerTally.{empty, agreed};
 
 use comparisons::walk::Pair;
-use invariants::{ElementProfile, IndexPeriod, IndexPeriodAnswer, ProfileAnswer};
+use invariants::{ElementProfile, IndexPeriod};
 use judging::judged::judged;
 use judging::tally::{Tally, counted, start};
 use plain::{Kind, Said, failed};
+use tables::No;
 
 pub const MAT5: [u8; 25] = [
     1, 1, 1, 1, 1, 1, 2, 3, 2, 3, 1, 1, 1, 2, 3, 1, 4, 5, 4, 5, 1, 1, 1, 4, 5,
@@ -40,20 +41,20 @@ pub fn tables() -> Tally
 // ---- elements
 
 // Returns whether the index, the period and the idempotent power of an element are these. Field by field: `invariants` has no `==` for its types.
-fn same_powers(a: IndexPeriodAnswer, b: IndexPeriod) -> bool
+fn same_powers(a: Result<IndexPeriod, No>, b: IndexPeriod) -> bool
     ensures answer { result ≡ same_given_powers (index_period_says a) (index_period_value b) }
 {
-    let IndexPeriodAnswer::Value(v) = a else {
+    let Ok(v) = a else {
         return false;
     };
     ((v.index == b.index) & (v.period == b.period)) & (v.idempotent == b.idempotent)
 }
 
 // Returns whether the profile of an element is this one, its idempotent power included.
-fn same_profile(a: ProfileAnswer, b: ElementProfile) -> bool
+fn same_profile(a: Result<ElementProfile, No>, b: ElementProfile) -> bool
     ensures answer { result ≡ same_given_profile (profile_says a) (profile_value b) }
 {
-    let ProfileAnswer::Value(v) = a else {
+    let Ok(v) = a else {
         return false;
     };
     (((v.powers.index == b.powers.index) & (v.powers.period == b.powers.period))

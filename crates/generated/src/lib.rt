@@ -21,8 +21,6 @@ use light::FoundElements;
 use tables::limits::PLACES;
 use tables::{Fault, Refusal, Table};
 
-pub mod old;
-
 // ---- what a list generates
 
 // Adds to the elements found the products of the element at `place` with itself and with each one before it, from both sides.

@@ -76,34 +76,3 @@ pub fn find(
     };
     outcome(crate::find(&search, next))
 }
-
-// Returns what `find` returns, after rows of one element have narrowed the others.
-pub fn find_narrowed(
-    source: &[u8],
-    m: usize,
-    target: &[u8],
-    n: usize,
-    scratch: &[u8],
-    after: &[u8],
-    next: bool,
-) -> Outcome
-    requires filled { Filled m source.now × Filled n target.now }
-    requires n_in_bounds { (scratch_size m n ≤ length scratch.now) × (length after.now ≡ m) }
-    ensures answer { result ≡ found_in (search (product m source.now) (product n target.now) (marked n scratch.now) (bounded next after.now) n m []) }
-{
-    let source = Table {
-        cells: source,
-        order: m,
-    };
-    let target = Table {
-        cells: target,
-        order: n,
-    };
-    let search = Search {
-        source: &source,
-        target: &target,
-        scratch,
-        after,
-    };
-    outcome(crate::find_narrowed(&search, next))
-}

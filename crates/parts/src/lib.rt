@@ -19,8 +19,6 @@ use products::Table;
 use tables::No;
 use tables::limits::PLACES;
 
-pub mod old;
-
 // Writes the marked elements, in rising order, to the start of `elements`.
 fn write_elements(marks: &[u8; PLACES], n: usize, elements: &mut [u8])
     requires order { n ≤ largest_order }

@@ -7,4 +7,4 @@ use Rattle.cases.proofs.worked.same_powers.Goals as goal
 
 pub returns : goal.returns
 unfolding same_index_period
-returns c = record { answer = sym (ap (λ x. same_given_powers (index_period_says x) (index_period_value c.args.b)) c.in-Value.is) }
+returns c = record { answer = sym (ap (λ x. same_given_powers (index_period_says x) (index_period_value c.args.b)) c.in-Ok.is) }

@@ -7,4 +7,4 @@ use Rattle.cases.proofs.worked.same_profile.Goals as goal
 
 pub returns : goal.returns
 unfolding same_profile same_index_period
-returns c = record { answer = sym (ap (λ x. same_given_profile (profile_says x) (profile_value c.args.b)) c.in-Value.is) }
+returns c = record { answer = sym (ap (λ x. same_given_profile (profile_says x) (profile_value c.args.b)) c.in-Ok.is) }
