@@ -5,11 +5,11 @@ use Prim.Native.Nat.{ℕ}
 use native.Mathlib.Omega.{arith}
 use Rattle.semigroups.specs.InnerQuestions.{no}
 use Rattle.semigroups.specs.Calls.{refused, gives}
+use Rattle.std.specs.Prelude.{Ok, Err}
 use Rattle.answers.specs.Answers.{no_refusal, fault_refusal, numbered_says}
 use Rattle.answers.specs.AnswersLaws.{Brief}
 use Rattle.answers.specs.declared.No.{No}
 use Rattle.answers.specs.declared.No.TheVariants.{Bare, With, Triple as NoTriple}
-use Rattle.answers.specs.declared.Numbered.TheVariants.{Number, Refused}
 use Rattle.answers.specs.declared.Fault.{Fault}
 use Rattle.answers.specs.declared.Fault.TheVariants.{Order, Size, Cell, Triple}
 
@@ -24,5 +24,5 @@ fault_brief Size = omega arith
 fault_brief (Cell k) = omega arith
 fault_brief (Triple i j k) = omega arith
 
-pub numbered_said : (x number value : ℕ) → (numbered_says (Number x) ≡ gives x) × (numbered_says (Refused (With number value)) ≡ refused (no number (value ∷ [])))
+pub numbered_said : (x number value : ℕ) → (numbered_says (Ok x) ≡ gives x) × (numbered_says (Err (With number value)) ≡ refused (no number (value ∷ [])))
 numbered_said x number value = (refl, refl)

@@ -1,25 +1,18 @@
 -- What the answers about a table mean (RULES 7): for each case the number of the question and the values said with it.
 -- Assumes nothing.
-use Rattle.std.specs.Prelude.{[], ◌∷◌, ℕ, get_or}
-use Rattle.std.proofs.Math.Option.{Option, none, some}
+use Rattle.std.specs.Prelude.{[], ◌∷◌, ℕ, get_or, Result}
 use Rattle.semigroups.specs.Questions.{Refusal}
 use Rattle.semigroups.specs.InnerQuestions.{no, naming}
-use Rattle.semigroups.specs.Calls.{Answer, refused, gives}
+use Rattle.semigroups.specs.Calls.{Answer}
+use Rattle.semigroups.specs.Results.{answer_in}
 use Rattle.answers.specs.declared.Fault.{Fault}
 use Rattle.answers.specs.declared.Fault.TheVariants.{Order, Size, Cell, Triple}
 use Rattle.answers.specs.declared.No.{No}
 use Rattle.answers.specs.declared.No.TheVariants.{Bare, With, Triple as NoTriple}
-use Rattle.answers.specs.declared.Numbered.{Numbered}
-use Rattle.answers.specs.declared.Numbered.TheVariants.{Number, Refused as NumberRefused}
-use Rattle.answers.specs.declared.Verdict.{Verdict}
-use Rattle.answers.specs.declared.Verdict.TheVariants.{Accepted, Refused}
 use Rattle.answers.specs.declared.Side.{Side}
 use Rattle.answers.specs.declared.Side.TheVariants.{Source, Target}
-use Rattle.answers.specs.declared.PairVerdict.{PairVerdict}
-use Rattle.answers.specs.declared.PairVerdict.TheVariants as pair
+use Rattle.answers.specs.declared.SideFault.{SideFault}
 use Rattle.answers.specs.declared.Refusal.{Refusal as Numbers}
-use Rattle.answers.specs.declared.Place.{Place}
-use Rattle.answers.specs.declared.Place.TheVariants.{At, Nothing}
 
 -- The refusal of each fault: 1 and 2 carry nothing, 3 carries the cell, 4 the triple.
 abbrev pub fault_refusal : Fault → Refusal
@@ -35,29 +28,17 @@ no_refusal (With number value) = no number (value ∷ [])
 no_refusal (NoTriple i j k) = no 4 (i ∷ j ∷ k ∷ [])
 
 -- What the answer says: a number, or the earliest failed question.
-abbrev pub numbered_says : Numbered → Answer ℕ
-numbered_says (Number x) = gives x
-numbered_says (NumberRefused r) = refused (no_refusal r)
-
--- The refusal of a verdict; an accepted table has none.
-abbrev pub verdict_refusal : Verdict → Option Refusal
-verdict_refusal Accepted = none
-verdict_refusal (Refused fault) = some (fault_refusal fault)
+abbrev pub numbered_says : Result ℕ No → Answer ℕ
+numbered_says said = answer_in (λ n. n) no_refusal said
 
 -- The side as a number: 1 for source, 2 for target.
 abbrev pub side_number : Side → ℕ
 side_number Source = 1
 side_number Target = 2
 
--- The refusal of two tables, which names the side of the refused one; none if both are accepted.
-abbrev pub pair_refusal : PairVerdict → Option Refusal
-pair_refusal pair.Accepted = none
-pair_refusal (pair.Refused side fault) = some (naming (side_number side) (fault_refusal fault))
-
--- The place, or none.
-abbrev pub place_option : Place → Option ℕ
-place_option (At k) = some k
-place_option Nothing = none
+-- The refusal of one of two tables, which names its side.
+abbrev pub side_refusal : SideFault → Refusal
+side_refusal f = naming (side_number f.side) (fault_refusal f.fault)
 
 -- ---- refusals as numbers
 

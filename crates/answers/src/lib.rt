@@ -4,7 +4,7 @@
 
 ghost use Rattle.std.specs.Prelude.{◌≡◌, [], ◌∷◌};
 ghost use Rattle.semigroups.specs.InnerQuestions.{no};
-ghost use Rattle.answers.specs.Answers.{no_refusal, fault_refusal, side_number, refusal_numbers, numbers_naming};
+ghost use Rattle.answers.specs.Answers.{no_refusal, fault_refusal, side_refusal, side_number, refusal_numbers, numbers_naming};
 
 // Why a table is refused: which of questions 1 to 4 fails; for 3 the first cell that is not 1 to n, counted from 1; for 4 the first failing triple.
 #[derive(Clone, Copy)]
@@ -13,13 +13,6 @@ pub enum Fault {
     Size,
     Cell(usize),
     Triple(usize, usize, usize),
-}
-
-// The answer to the questions about a table.
-#[derive(Clone, Copy)]
-pub enum Verdict {
-    Accepted,
-    Refused(Fault),
 }
 
 // One of the two tables.
@@ -47,25 +40,11 @@ pub enum No {
     Triple(usize, usize, usize),
 }
 
-// The answer of a call that gives a number, which is an order, a length or a count; or the earliest "no".
+// Why one of two tables is refused: which of them, and its fault.
 #[derive(Clone, Copy)]
-pub enum Numbered {
-    Number(usize),
-    Refused(No),
-}
-
-// The answer to the questions about two tables.
-#[derive(Clone, Copy)]
-pub enum PairVerdict {
-    Accepted,
-    Refused(Side, Fault),
-}
-
-// The place of something, counted from 1; or none.
-#[derive(Clone, Copy)]
-pub enum Place {
-    At(usize),
-    Nothing,
+pub struct SideFault {
+    pub side: Side,
+    pub fault: Fault,
 }
 
 // ---- refusals as numbers
@@ -101,11 +80,8 @@ impl Refusal {
         ensures answer { result ≡ numbers_naming (side_number side) self }
     {
         Refusal {
-            number: self.number,
             side: side.number(),
-            first: self.first,
-            second: self.second,
-            third: self.third,
+            ..self
         }
     }
 }
@@ -129,23 +105,34 @@ impl No {
     }
 }
 
-impl Fault {
-    // Returns the "no" that this fault stands for.
-    pub fn no(self) -> No
-        ensures answer { no_refusal result ≡ fault_refusal self }
-    {
-        match self {
+// The "no" that a fault stands for.
+impl From<Fault> for No {
+    ghost from_gives = { λ fault r. no_refusal r ≡ fault_refusal fault };
+
+    fn from(fault: Fault) -> Self {
+        match fault {
             Fault::Order => No::Bare(1),
             Fault::Size => No::Bare(2),
             Fault::Cell(cell) => No::With(3, cell),
             Fault::Triple(i, j, k) => No::Triple(i, j, k),
         }
     }
+}
 
+impl Fault {
     // Returns the refusal by this fault: its number and values; it names no side.
     pub fn refusal(self) -> Refusal
         ensures answer { result ≡ refusal_numbers (fault_refusal self) }
     {
-        self.no().refusal()
+        No::from(self).refusal()
+    }
+}
+
+impl SideFault {
+    // Returns the refusal by this fault, which names its side.
+    pub fn refusal(self) -> Refusal
+        ensures answer { result ≡ refusal_numbers (side_refusal self) }
+    {
+        self.fault.refusal().naming(self.side)
     }
 }

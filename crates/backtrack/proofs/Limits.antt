@@ -10,7 +10,10 @@ use lib.Dec.{leb}
 use Rattle.semigroups.specs.Trials.{Work, work, followed}
 use Rattle.semigroups.specs.InnerTrials.{and_then}
 use Rattle.semigroups.proofs.Booleans.{same_truth}
-use Rattle.backtrack.specs.InnerState.{Remainder, exhausted, remaining, within, outcome_of}
+use Rattle.std.specs.Prelude.{Option as Optional, None, Some, SomeIff, Ok, Err, is_some}
+use Rattle.backtrack.specs.declared.Ended.{Ended}
+use Rattle.backtrack.specs.declared.Stopped.{Stopped}
+use Rattle.backtrack.specs.InnerState.{Remainder, exhausted, remaining, within, padded, ended_of}
 
 -- ---- one work after another
 
@@ -58,32 +61,36 @@ module _ (limit : ℕ) (v w : Work) where
 
 -- ---- paying for a trial
 
-pub pay_none : (left : ℕ) → left ≡ 0 → exhausted ≡ within left (work none 1)
+-- What is left of the limit after one more trial, by a checked subtraction.
+pub unpaid : (o : Optional ℕ) (left : ℕ) → SomeIff o (1 ≤ left) (left - 1) → o ≡ None → exhausted ≡ within left (work none 1)
 unfolding within
-pay_none left e = rw (lt-leb 1 left (omega arith))
+unpaid None left h e = rw (lt-leb 1 left (omega arith))
+unpaid (Some x) left h e = cc
 
-pub pay_one : (left : ℕ) → (left ≡ 0 → ⊥) → remaining (left - 1) none ≡ within left (work none 1)
+pub paid : (o : Optional ℕ) (left rest : ℕ) → SomeIff o (1 ≤ left) (left - 1) → o ≡ Some rest → remaining rest none ≡ within left (work none 1)
 unfolding within
-pay_one left e = rw (le-leb 1 left (omega arith))
+paid None left rest h e = cc
+paid (Some x) left rest h e = let k : rest ≡ left - 1 = cc h.1 in rw (le-leb 1 left h.0, k)
 
--- ---- what an outcome says
+-- ---- what the result of a search says
 
 module _ (go : ℕ → Remainder) where
   -- A search that is stopped, or finds a map, is over.
-  pub over_stopped : (r : Remainder) → (outcome_of r).stopped ≡ true → resumed r go ≡ r
-  unfolding outcome_of
-  over_stopped exhausted e = refl
-  over_stopped (remaining left o) e = absurd (false≢true e)
+  pub over_stopped : (r : Remainder) (e : Stopped) → Err e ≡ ended_of r → resumed r go ≡ r
+  unfolding ended_of
+  over_stopped exhausted e h = refl
+  over_stopped (remaining left o) e h = cc
 
-  pub over_found : (r : Remainder) → (outcome_of r).ok ≡ true → resumed r go ≡ r
-  unfolding outcome_of
-  over_found exhausted e = refl
-  over_found (remaining left none) e = absurd (false≢true e)
-  over_found (remaining left (some f)) e = refl
+  pub over_found : (r : Remainder) (d : Ended) → Ok d ≡ ended_of r → is_some d.map ≡ true → resumed r go ≡ r
+  unfolding ended_of
+  over_found exhausted d h e = cc
+  over_found (remaining left none) d h e = let k : d ≡ record { left = left; map = None } = cc in absurd (false≢true (sym (ap (λ (x : Ended). is_some x.map) k) ∙ e))
+  over_found (remaining left (some f)) d h e = refl
 
   -- Otherwise it goes on with what is left.
-  pub not_over : (r : Remainder) → (outcome_of r).stopped ≡ false → (outcome_of r).ok ≡ false → resumed r go ≡ go (outcome_of r).left
-  unfolding outcome_of
-  not_over exhausted e f = absurd (false≢true (sym e))
-  not_over (remaining left none) e f = refl
-  not_over (remaining left (some l)) e f = absurd (false≢true (sym f))
+  pub not_over : (r : Remainder) (d : Ended) → Ok d ≡ ended_of r → is_some d.map ≡ false → resumed r go ≡ go d.left
+  unfolding ended_of
+  not_over exhausted d h e = cc
+  not_over (remaining left none) d h e = let k : d ≡ record { left = left; map = None } = cc in ap (λ (x : Ended). go x.left) (sym k)
+  not_over (remaining left (some f)) d h e =
+      let k : d ≡ record { left = left; map = padded (some f) } = cc in absurd (false≢true (sym e ∙ ap (λ (x : Ended). is_some x.map) k))

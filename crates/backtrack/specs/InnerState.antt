@@ -1,15 +1,20 @@
 -- What the contracts of the search say of its state, a partial map, and of its result. Assumes nothing.
-use Rattle.std.specs.Prelude.{◌≡◌, Bool, true, false, cond, List, ◌++◌, ℕ, ◌-◌, ◌≤◌, leb, length, take, replicate}
+use Rattle.std.specs.Prelude.{◌≡◌, Bool, true, false, cond, List, [], ◌++◌, ℕ, ◌-◌, ◌≤◌, leb, length, take, replicate, Option as Optional, None, Some, Result, Ok, Err}
 use Rattle.std.proofs.Math.Option.{Option, none, some}
 use Rattle.semigroups.specs.Lists.{is_some}
-use Rattle.semigroups.specs.Tables.{Product}
-use Rattle.semigroups.specs.Scratch.{scratch_size}
+use Rattle.semigroups.specs.Scratch.{marked}
 use Rattle.semigroups.specs.Maps.{Ask, first, next}
 use Rattle.semigroups.specs.Trials.{passes, Work}
+use Rattle.semigroups.specs.InnerTrials.{counted}
+use Rattle.products.specs.Tables.{times_of}
+use Rattle.constraints.specs.declared.Required.{Required}
 use Rattle.constraints.specs.InnerTracking.{Placing, Tracks}
 use Rattle.placing.specs.declared.Partial.{Partial}
 use Rattle.placing.specs.InnerPlaced.{prefix}
 use Rattle.backtrack.specs.declared.Outcome.{Outcome}
+use Rattle.backtrack.specs.declared.asked.Search.{Search}
+use Rattle.backtrack.specs.declared.Ended.{Ended}
+use Rattle.backtrack.specs.declared.Stopped.{Stopped}
 
 -- How many trials a search without a limit makes at most before a search with rows takes over.
 abbrev pub first_trials : ℕ
@@ -43,12 +48,29 @@ abbrev pub bounded : Bool → List ℕ → Ask
 bounded true after = next after
 bounded false after = first
 
--- What holds whenever the search goes on from a partial map, with the constraints of its list without the newest element.
-pub record Ready (s : Product) (m : ℕ) (t : Product) (n : ℕ) (scratch after : List ℕ) (tight : Bool) (known held : List ℕ) (p : Partial) : Type 0 where
-  pub placing : Placing n p.image p.used p.len
-  pub tracks : Tracks s t (take (p.len - 1) p.image) (p.len - 1) 0 known held
-  pub within : p.len ≤ m
-  pub passed : passes s t (prefix p) ≡ true
-  pub space : scratch_size m n ≤ length scratch
-  pub bound : length after ≡ m
-  pub same : tight ≡ true → take p.len after ≡ prefix p
+-- The map of a search as the code holds it: its images, followed by zeros.
+abbrev pub padded : Option (List ℕ) → Optional (List ℕ)
+padded none = None
+padded (some f) = Some (f ++ replicate (120 - length f) 0)
+
+-- The result of a search as the code answers it.
+unfoldable pub ended_of : Remainder → Result Ended Stopped
+ended_of exhausted = Err (record {})
+ended_of (remaining left o) = Ok (record { left = left; map = padded o })
+
+-- The work of the whole search: for the first map or, for true, for the next one.
+abbrev pub asked : Search → Bool → Work
+asked w later = counted (times_of w.source.now) (times_of w.target.now) (marked w.target.now.order w.scratch.now) (bounded later w.after.now) w.target.now.order w.source.now.order []
+
+-- The work of the search that goes on from a partial map.
+abbrev pub ahead : Search → Bool → Partial → Work
+ahead w tight p =
+    counted (times_of w.source.now) (times_of w.target.now) (marked w.target.now.order w.scratch.now) (bounded tight w.after.now) w.target.now.order (w.source.now.order - p.len) (prefix p)
+
+-- What holds whenever the search goes on from a partial map, with what its list requires without the newest element.
+pub record Ready (w : Search) (tight : Bool) (known : Required) (p : Partial) : Type 0 where
+  pub placing : Placing w.target.now.order p.image p.used p.len
+  pub tracks : Tracks (times_of w.source.now) (times_of w.target.now) (take (p.len - 1) p.image) (p.len - 1) 0 known.forced known.owner
+  pub within : p.len ≤ w.source.now.order
+  pub passed : passes (times_of w.source.now) (times_of w.target.now) (prefix p) ≡ true
+  pub same : tight ≡ true → take p.len w.after.now ≡ prefix p

@@ -163,6 +163,15 @@ module _ (n : ℕ) (key : ℕ → ℕ) (bound : ℕ) (keys : List ℕ) (k : AllK
 pub no_keys : (n : ℕ) → n ≤ 120 → AllKeys n (λ a. 0) 1 (replicate 120 0)
 no_keys n h = record { each = zero_start n (λ a. 0) h (λ x. refl); below = λ a u. omega arith }
 
+-- The parts of an index-period, one after the other.
+module _ (n : ℕ) (cells : List ℕ) (t : Filled n cells) where
+  pub append_index : (indices : List ℕ) → indices ≡ per_element n (index n (product n cells)) → Appends n (λ a. 0 * 256 + index n (product n cells) a) 256 256 (replicate 120 0) indices
+  append_index indices e = append_part n (λ a. 0) 1 (replicate 120 0) (no_keys n t.order.1) 256 (index n (product n cells)) indices e (index_fits n cells t) (omega arith)
+
+  pub append_period : (keys : List ℕ) → AllKeys n (λ a. 0 * 256 + index n (product n cells) a) 256 keys → (periods : List ℕ) → periods ≡ per_element n (period n (product n cells))
+      → Appends n (λ a. (0 * 256 + index n (product n cells) a) * 256 + period n (product n cells) a) 65536 256 keys periods
+  append_period keys k periods e = append_part n _ 256 keys k 256 (period n (product n cells)) periods e (period_fits n cells t) (omega arith)
+
 -- The parts of a profile, one after another: 64 bits have room for each, and the keys get one more part.
 module _ (n : ℕ) (cells : List ℕ) (t : Filled n cells) (r : ElementCounts) (e : AllCounts n (product n cells) r) where
   -- The key with the first k counts.

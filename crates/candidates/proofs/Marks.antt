@@ -1,12 +1,12 @@
 -- Pairs in the sequence of their numbers, and the bytes of their marks: a pair and the one after it, where a byte of marks begins, and that marks depend only
 -- on the pairs of elements. Assumes nothing.
-use mathlib.Core.Path.{◌≡◌, refl, sym, ap, ap₂, ◌∙◌, subst}
+use mathlib.Core.Path.{◌≡◌, sym, ap, ap₂, ◌∙◌, subst}
 use mathlib.Core.Bool.{Bool, cond}
-use mathlib.Core.List.{List, map}
+use mathlib.Core.List.{List, map, ◌++◌}
 use Prim.Native.Nat.{ℕ, suc, ◌+◌, ◌-◌, ◌*◌, ◌/◌, ◌%◌, ◌^◌, ◌≤◌, ◌<◌}
-use native.Mathlib.Nat.{mul-le-mul_left, suc-mul, mul-one, pow-suc}
+use native.Mathlib.Nat.{mul-le-mul_left, mul-le-mul_right, suc-mul, mul-one, pow-suc}
 use native.Mathlib.Omega.{arith}
-use lib.ListN.{length, get_or}
+use lib.ListN.{length, get_or, set, drop}
 use lib.Seq.{ext_get_or}
 use lib.Pow.{pow_mono}
 use Rattle.semigroups.specs.Lists.{range}
@@ -16,13 +16,10 @@ use Rattle.semigroups.specs.InnerScratch.{pair_marks}
 use Rattle.semigroups.specs.Calls.{overwritten}
 use Rattle.semigroups.specs.InnerCalls.{scratch_after}
 use Rattle.semigroups.proofs.Tables.{place_below, place_of, place_elements}
-use Rattle.semigroups.proofs.Packing.{worth_of, worth_none, worth_next, worth_all, worth_below, packed_below}
-use Rattle.semigroups.proofs.Candidates.{length_pairs, pair_at, mark_small}
-use Rattle.candidates.specs.InnerPairs.{PairAt}
-
--- The number of a pair is below 14,400.
-pub pair_small : (n i j : ℕ) → Element 120 i → Element n j → n ≤ 120 → cell_place n i j < 14400
-pair_small n i j hi hj hn = let size : 120 * n ≤ 120 * 120 = mul-le-mul_left 120 hn in omega (arith, place_below 120 n i j hi hj)
+use Rattle.semigroups.proofs.Packing.{worth_of, worth_none, worth_next, worth_all}
+use Rattle.semigroups.proofs.Candidates.{length_pairs, pair_at, length_marks, marks_byte}
+use Rattle.semigroups.proofs.Writing.{written, written_all, write_next}
+use Rattle.candidates.specs.InnerPairs.{PairAt, Decides}
 
 -- ---- pair after pair
 
@@ -53,58 +50,73 @@ module _ {n k i j : ℕ} (a : PairAt n k i j) where
 
 -- ---- eight marks
 
-module _ (m n : ℕ) (p : ℕ → ℕ → Bool) (b : ℕ) where
-  -- The first r marks of byte b are worth `byte` together; the next is worth `worth`, and its pair is i, j.
-  pub record Gathered (i j byte worth r : ℕ) : Type 0 where
-    pub inside : r ≤ 8
+module _ (m n : ℕ) (Answers : ℕ → ℕ → Bool → Type 0) (b : ℕ) where
+  -- The first r marks of byte b are worth `byte` together, and the pair of the next is i, j.
+  pub record Gathered (i j byte r : ℕ) : Type 0 where
     pub pair : PairAt n (8 * b + r) i j
-    pub so_far : byte ≡ worth_of (pair_marks m n p) b r
-    pub next : worth ≡ 2 ^ r
+    pub small : byte < 2 ^ r
+    pub so_far : (p : ℕ → ℕ → Bool) → Decides m n Answers p → byte ≡ worth_of (pair_marks m n p) b r
 
-  pub gather_begin : b < scratch_size m n → Gathered (b * 8 / n + 1) (b * 8 % n + 1) 0 1 0
+  pub gather_begin : b < scratch_size m n → Gathered (b * 8 / n + 1) (b * 8 % n + 1) 0 0
   gather_begin h =
       record {
-        inside = omega arith;
         pair = subst (λ (k : ℕ). PairAt n k (b * 8 / n + 1) (b * 8 % n + 1)) (omega arith) (first_pair m n b h);
-        so_far = sym (worth_none (pair_marks m n p) b);
-        next = refl;
+        small = omega arith;
+        so_far = λ p d. sym (worth_none (pair_marks m n p) b);
       }
 
-  module _ {i j byte worth r : ℕ} (g : Gathered i j byte worth r) where
-    module _ (more : r < 8) (v : ℕ) (e : v ≡ get_or (pair_marks m n p) (cell_place n i j) 0) where
-      mark_here : v ≡ get_or (pair_marks m n p) (8 * b + r) 0
-      mark_here = e ∙ ap (λ (k : ℕ). get_or (pair_marks m n p) k 0) g.pair.number
+  module _ {i j byte r : ℕ} (g : Gathered i j byte r) (more : r < 8) (v : ℕ) (one : v ≤ 1) where
+    -- The shift wraps nothing.
+    shifted : v * 2 ^ r % 2 ^ 64 ≡ v * 2 ^ r
+    shifted =
+        let most : 2 ^ r ≤ 2 ^ 7 = pow_mono {i = r} {j = 7} (omega arith) in
+        let less : v * 2 ^ r ≤ 1 * 2 ^ r = mul-le-mul_right (2 ^ r) one in
+        omega arith
 
-      gathered : byte + v * worth ≡ worth_of (pair_marks m n p) b (r + 1)
-      gathered =
-          ap₂ (λ (x y : ℕ). x + y) g.so_far (ap₂ (λ (x y : ℕ). x * y) mark_here g.next) ∙ sym (worth_next (pair_marks m n p) b r)
-          ∙ ap (worth_of (pair_marks m n p) b) (let z : suc r ≡ r + 1 = omega arith in z)
+    pub gathered_small : byte + v * 2 ^ r % 2 ^ 64 < 2 ^ (r + 1)
+    gathered_small =
+        let s = g.small in
+        let e = shifted in
+        let less : v * 2 ^ r ≤ 1 * 2 ^ r = mul-le-mul_right (2 ^ r) one in
+        let twice : 2 ^ (r + 1) ≡ 2 ^ r * 2 = ap (λ (k : ℕ). 2 ^ k) (let z : r + 1 ≡ suc r = omega arith in z) ∙ pow-suc 2 r in
+        omega arith
 
-      -- Nothing wraps.
-      pub gathered_small : byte + v * worth < 256
-      gathered_small =
-          let most : 2 ^ (r + 1) ≤ 2 ^ 8 = pow_mono {i = r + 1} {j = 8} (omega arith) in
-          let below = worth_below (pair_marks m n p) (mark_small m n p) b (r + 1) in
-          let same = gathered in
-          omega arith
+    pub gather_next : ((p : ℕ → ℕ → Bool) → Decides m n Answers p → v ≡ get_or (pair_marks m n p) (cell_place n i j) 0) → (i' j' : ℕ) → PairAt n (cell_place n i j + 1) i' j'
+        → Gathered i' j' (byte + v * 2 ^ r % 2 ^ 64) (r + 1)
+    gather_next e i' j' a =
+        record {
+          pair = subst (λ (k : ℕ). PairAt n k i' j') (let here = g.pair.number in omega arith) a;
+          small = gathered_small;
+          so_far = λ p d.
+              let here : v ≡ get_or (pair_marks m n p) (8 * b + r) 0 = e p d ∙ ap (λ (k : ℕ). get_or (pair_marks m n p) k 0) g.pair.number in
+              ap₂ (λ (x y : ℕ). x + y) (g.so_far p d) (shifted ∙ ap (λ (x : ℕ). x * 2 ^ r) here) ∙ sym (worth_next (pair_marks m n p) b r)
+              ∙ ap (worth_of (pair_marks m n p) b) (let z : suc r ≡ r + 1 = omega arith in z);
+        }
 
-      pub gather_next : (i' j' : ℕ) → PairAt n (cell_place n i j + 1) i' j' → Gathered i' j' (byte + v * worth) (worth * 2) (r + 1)
-      gather_next i' j' a =
-          record {
-            inside = omega arith;
-            pair = subst (λ (k : ℕ). PairAt n k i' j') (let here = g.pair.number in omega arith) a;
-            so_far = gathered;
-            next = ap (λ (x : ℕ). x * 2) g.next ∙ sym (pow-suc 2 r) ∙ ap (λ (k : ℕ). 2 ^ k) (let z : suc r ≡ r + 1 = omega arith in z);
-          }
+    -- The sum is a byte.
+    pub gathered_byte : byte + v * 2 ^ r % 2 ^ 64 < 256
+    gathered_byte = let s = gathered_small in let most : 2 ^ (r + 1) ≤ 2 ^ 8 = pow_mono {i = r + 1} {j = 8} (omega arith) in omega arith
 
-    pub worth_small : r < 8 → worth ≤ 128
-    worth_small h = let most : 2 ^ r ≤ 2 ^ 7 = pow_mono {i = r} {j = 7} (omega arith) in let e = g.next in omega arith
+  module _ {i j byte r : ℕ} (g : Gathered i j byte r) (end : r ≡ 8) where
+    pub gather_end : (p : ℕ → ℕ → Bool) → Decides m n Answers p → byte ≡ packed_byte (pair_marks m n p) b
+    gather_end p d = g.so_far p d ∙ ap (worth_of (pair_marks m n p) b) end ∙ worth_all (pair_marks m n p) b
 
-    pub gather_end : 8 ≤ r → byte ≡ packed_byte (pair_marks m n p) b
-    gather_end h = let i = g.inside in g.so_far ∙ ap (worth_of (pair_marks m n p) b) (let z : r ≡ 8 = omega arith in z) ∙ worth_all (pair_marks m n p) b
+    pub gather_byte : byte < 256
+    gather_byte = let s = g.small in let e : 2 ^ r ≡ 2 ^ 8 = ap (λ (k : ℕ). 2 ^ k) end in omega arith
 
-    pub gather_byte : 8 ≤ r → byte < 256
-    gather_byte h = let e = gather_end h in omega (arith, packed_below (pair_marks m n p) (mark_small m n p) b)
+-- ---- byte after byte
+
+module _ (m n : ℕ) (p : ℕ → ℕ → Bool) (before buffer : List ℕ) (place : ℕ) (room : scratch_size m n ≤ length before) (so_far : buffer ≡ written (marks m n p) before place) where
+  pub byte_written : (v : ℕ) → place < scratch_size m n → v ≡ packed_byte (pair_marks m n p) place → set buffer place v ≡ written (marks m n p) before (place + 1)
+  byte_written v h e =
+      let size = length_marks m n p in
+      ap (λ (b : List ℕ). set b place v) so_far ∙ write_next (marks m n p) before place v (omega arith) (omega arith) (e ∙ sym (marks_byte m n p place h))
+
+  pub all_written : place ≡ scratch_size m n → buffer ≡ scratch_after m n p before
+  unfolding scratch_after
+  all_written h =
+      let end : place ≡ length (marks m n p) = let size = length_marks m n p in omega arith in
+      so_far ∙ written_all (marks m n p) before place end ∙ ap (λ (k : ℕ). marks m n p ++ drop k before) end
 
 -- ---- marks go by the pairs of elements alone
 

@@ -1,9 +1,9 @@
-// Candidates and their marks in the scratch buffer. Where a mark stands, and how many bytes the marks take, is known here and in `rows::write_marks` alone.
+// Candidates and their marks in the scratch buffer. Where a mark stands, and how many bytes the marks take, is known here alone.
 // What is compared of an element is packed into one number, its key, once for each element; a pair of elements then takes one comparison.
 
 #![tactic(auto)]
 
-ghost use Rattle.std.specs.Prelude.{◌≡◌, ◌+◌, ◌*◌, ◌≤◌, ◌<◌, length, get_or};
+ghost use Rattle.std.specs.Prelude.{◌≡◌, Bool, ℕ, ◌+◌, ◌*◌, ◌≤◌, ◌<◌, length, get_or};
 ghost use Rattle.semigroups.specs.Tables.{largest_order, cell_place, product, Element, Filled};
 ghost use Rattle.semigroups.specs.Invariants.{index_period, profile};
 ghost use Rattle.semigroups.specs.Maps.{embeddings, isomorphisms};
@@ -12,7 +12,7 @@ ghost use Rattle.semigroups.specs.Scratch.{packed_byte, scratch_size, marked};
 ghost use Rattle.semigroups.specs.InnerScratch.{pair_marks};
 ghost use Rattle.semigroups.specs.InnerCalls.{scratch_after};
 ghost use Rattle.products.specs.InnerPerElement.{per_element};
-ghost use Rattle.candidates.specs.InnerPairs.{PairAt};
+ghost use Rattle.candidates.specs.InnerPairs.{PairAt, MayAsk, Decides};
 ghost use Rattle.candidates.specs.InnerKeys.{index_period_key, profile_key, appended, Room, same_key};
 
 use tables::limits::ORDER;
@@ -20,6 +20,7 @@ use tables::limits::ORDER;
 // ---- marks
 
 // Returns how many bytes the marks of m source and n target elements take.
+#[tactic(auto, unfolding(semigroups::specs::Scratch::scratch_size))]
 pub fn scratch_size(m: usize, n: usize) -> usize
     requires { (m ≤ largest_order) × (n ≤ largest_order) }
     ensures answer { result ≡ scratch_size m n }
@@ -54,11 +55,8 @@ fn append(keys: &[u64; ORDER], n: usize, values: u64, numbers: &[u16; ORDER]) ->
     ensures answer { result ≡ per_element n (appended values keys.now numbers.now) }
 {
     let mut longer = [0u64; ORDER];
-    let mut a: usize = 1;
-    while a <= n {
-        let place = a - 1;
-        longer[place] = keys[place] * values + (numbers[place] as u64);
-        a += 1;
+    for place in 0..n {
+        longer[place] = keys[place] * values + numbers[place] as u64;
     }
     longer
 }
@@ -68,7 +66,7 @@ fn index_period_keys(cells: &[u8], n: usize) -> [u64; ORDER]
     requires { Filled n cells.now }
     ensures answer { result ≡ per_element n (λ a. index_period_key (index_period n (product n cells.now) a)) }
 {
-    let powers = invariants::all_index_period_keys(cells, n);
+    let powers = invariants::old::all_index_period_keys(cells, n);
     let none = [0u64; ORDER];
     let indices = append(&none, n, 256, &powers.index);
     append(&indices, n, 256, &powers.period)
@@ -79,7 +77,7 @@ pub fn profile_keys(cells: &[u8], n: usize) -> [u64; ORDER]
     requires { Filled n cells.now }
     ensures answer { result ≡ per_element n (λ a. profile_key (profile n (product n cells.now) a)) }
 {
-    let counts = counts::all_counts(cells, n);
+    let counts = counts::old::all_counts(cells, n);
     let powers = index_period_keys(cells, n);
     let frequencies = append(&powers, n, 65536, &counts.frequency);
     let diagonals = append(&frequencies, n, 256, &counts.diagonal);
@@ -97,40 +95,45 @@ struct Pair {
     j: usize,
 }
 
-// Returns the pair that follows the given one: the same source element with the next target element, or the next source element with the first.
-fn following(pair: Pair, n: usize) -> Pair
-    requires { (1 ≤ pair.i) × (pair.i ≤ largest_order * largest_order) × Element n pair.j × (n ≤ largest_order) }
-    ensures next { PairAt n (cell_place n pair.i pair.j + 1) result.i result.j }
-{
-    if pair.j < n {
-        return Pair {
-            i: pair.i,
-            j: pair.j + 1,
-        };
-    }
-    Pair {
-        i: pair.i + 1,
-        j: 1,
+impl Pair {
+    // Returns the pair that follows: the same source element with the next target element, or the next source element with the first.
+    fn following(self, n: usize) -> Self
+        requires { (1 ≤ self.i) × (self.i ≤ largest_order * largest_order) × Element n self.j × (n ≤ largest_order) }
+        ensures next { PairAt n (cell_place n self.i self.j + 1) result.i result.j }
+    {
+        if self.j < n {
+            Pair {
+                i: self.i,
+                j: self.j + 1,
+            }
+        } else {
+            Pair {
+                i: self.i + 1,
+                j: 1,
+            }
+        }
     }
 }
 
-// Returns the mark of a pair: 1 where its elements have equal keys, else 0; after the last pair it is 0.
-fn mark(source: &[u64; ORDER], m: usize, target: &[u64; ORDER], n: usize, pair: Pair) -> usize
-    requires { (1 ≤ pair.i) × Element n pair.j × (m ≤ largest_order) × (n ≤ largest_order) }
-    ensures answer { result ≡ get_or (pair_marks m n (same_key source.now target.now)) (cell_place n pair.i pair.j) 0 }
+// Returns the mark of a pair: 1 where it passes, else 0; after the last pair it is 0.
+fn mark<F: Fn(usize, usize) -> bool>(m: usize, n: usize, passes: &F, pair: Pair) -> usize
+    requires pair { (1 ≤ pair.i) × Element n pair.j × (m ≤ largest_order) × (n ≤ largest_order) }
+    requires asked { MayAsk m n (F.pre passes.now) }
+    ensures small { result ≤ 1 }
+    ensures answer { (p : ℕ → ℕ → Bool) → Decides m n (F.post passes.now) p → result ≡ get_or (pair_marks m n p) (cell_place n pair.i pair.j) 0 }
 {
-    let i = pair.i;
-    let j = pair.j;
-    if i <= m {
-        return (source[i - 1] == target[j - 1]) as usize;
+    if pair.i <= m {
+        passes(pair.i, pair.j) as usize
+    } else {
+        0
     }
-    0
 }
 
-// Returns one byte of the marks: eight pairs, each worth twice the one before it.
-fn marks_byte(source: &[u64; ORDER], m: usize, target: &[u64; ORDER], n: usize, place: usize) -> u8
-    requires { (m ≤ largest_order) × (n ≤ largest_order) × (place < scratch_size m n) }
-    ensures answer { result ≡ packed_byte (pair_marks m n (same_key source.now target.now)) place }
+// Returns one byte of the marks: eight pairs, that of the r-th at bit r.
+fn marks_byte<F: Fn(usize, usize) -> bool>(m: usize, n: usize, passes: &F, place: usize) -> u8
+    requires place { (m ≤ largest_order) × (n ≤ largest_order) × (place < scratch_size m n) }
+    requires asked { MayAsk m n (F.pre passes.now) }
+    ensures answer { (p : ℕ → ℕ → Bool) → Decides m n (F.post passes.now) p → result ≡ packed_byte (pair_marks m n p) place }
 {
     let first = place * 8;
     let mut pair = Pair {
@@ -138,15 +141,23 @@ fn marks_byte(source: &[u64; ORDER], m: usize, target: &[u64; ORDER], n: usize, 
         j: first % n + 1,
     };
     let mut byte: usize = 0;
-    let mut worth: usize = 1;
-    let mut r: usize = 0;
-    while r < 8 {
-        byte += mark(source, m, target, n, pair) * worth;
-        pair = following(pair, n);
-        worth *= 2;
-        r += 1;
+    for r in 0..8usize {
+        byte += mark(m, n, passes, pair) << r;
+        pair = pair.following(n);
     }
     byte as u8
+}
+
+// Writes the marks of the pairs that pass to the start of `marks`; later bytes are untouched.
+pub fn write_marks<F: Fn(usize, usize) -> bool>(m: usize, n: usize, passes: F, marks: &mut [u8])
+    requires m_le_largest_order { (m ≤ largest_order) × (n ≤ largest_order) }
+    requires n_in_bounds { scratch_size m n ≤ length marks.old }
+    requires asked { MayAsk m n (F.pre passes) }
+    ensures marks { (p : ℕ → ℕ → Bool) → Decides m n (F.post passes) p → marks.new ≡ scratch_after m n p marks.old }
+{
+    for place in 0..scratch_size(m, n) {
+        marks[place] = marks_byte(m, n, &passes, place);
+    }
 }
 
 // Writes the marks of the pairs of elements with equal keys to the start of `scratch`; later bytes are untouched.
@@ -161,12 +172,7 @@ pub fn fill_equal(
     requires n_in_bounds { scratch_size m n ≤ length scratch.old }
     ensures scratch { scratch.new ≡ scratch_after m n (same_key source.now target.now) scratch.old }
 {
-    let size = scratch_size(m, n);
-    let mut place: usize = 0;
-    while place < size {
-        scratch[place] = marks_byte(source, m, target, n, place);
-        place += 1;
-    }
+    write_marks(m, n, |i, j| source[i - 1] == target[j - 1], scratch);
 }
 
 // Writes the marks of the candidates for embeddings, the pairs of elements with equal index-periods, to the start of `scratch`; later bytes are untouched.

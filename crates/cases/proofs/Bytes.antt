@@ -1,5 +1,5 @@
 -- When two buffers hold the same bytes. Assumes nothing.
-use mathlib.Core.Path.{◌≡◌, refl, sym, ap, ◌∙◌}
+use mathlib.Core.Path.{◌≡◌, refl, sym}
 use mathlib.Core.Bool.{Bool, true, false}
 use mathlib.Core.List.{List}
 use Prim.Native.Nat.{ℕ}
@@ -14,6 +14,3 @@ same_bytes a b false to from = go (same_list a b) refl
     go : (s : Bool) → same_list a b ≡ s → false ≡ s
     go true e = from (same_list_law a b e)
     go false e = refl
-
-pub same_left : (a b d : List ℕ) (r : Bool) → r ≡ same_list a b → a ≡ d → r ≡ same_list d b
-same_left a b d r e h = e ∙ ap (λ (l : List ℕ). same_list l b) h

@@ -1,12 +1,12 @@
 -- What is compared of the first embedding of swap in two. Scratch is the first bytes of an array of 3. Assumes nothing.
-use Rattle.std.specs.Prelude.{List, [], ◌∷◌, ◌++◌, ℕ, eqb, take, drop, replicate}
+use Rattle.std.specs.Prelude.{List, [], ◌∷◌, ◌++◌, ℕ, Bool, Result, take, drop, replicate}
 use Rattle.semigroups.specs.Calls.{Answer}
 use Rattle.semigroups.specs.Maps.{embeddings, Sought, first}
 use Rattle.semigroups.specs.Copies.{same_list}
 use Rattle.judging.specs.InnerTally.{counted}
 use Rattle.judging.specs.declared.tally.Tally.{Tally}
 use Rattle.calls.specs.Calls.{Called, lend, call}
-use Rattle.comparisons.specs.InnerSaid.{said_number}
+use Rattle.comparisons.specs.InnerSaid.{search_said, same_search}
 
 -- 1,2 / 2,1
 abbrev swap_cells : List ℕ
@@ -25,7 +25,7 @@ abbrev embedded_call : ℕ → Called (Answer Sought)
 embedded_call size = call embeddings first (lend swap_cells 2 two_cells 4 (0 ∷ 0 ∷ []) (take size (replicate 3 255)))
 
 -- The tally after three comparisons: of the answer, of the map buffer, and of the array of 3 bytes that scratch is the start of.
-abbrev pub embedded_tally : ℕ → ℕ → List ℕ → List ℕ → Tally → Tally
+abbrev pub embedded_tally : ℕ → Result Bool ℕ → List ℕ → List ℕ → Tally → Tally
 embedded_tally size said bytes scratch t =
     let c = embedded_call size in
-    counted (counted (counted t (eqb (said_number c.says) said)) (same_list c.map_bytes bytes)) (same_list (c.scratch ++ drop size (replicate 3 255)) scratch)
+    counted (counted (counted t (same_search (search_said c.says) said)) (same_list c.map_bytes bytes)) (same_list (c.scratch ++ drop size (replicate 3 255)) scratch)

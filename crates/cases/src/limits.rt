@@ -14,68 +14,68 @@ ghost use Rattle.rfc4180.specs.Calls.{load_answer, cells_after as loaded_cells};
 ghost use Rattle.judging.specs.InnerSaid.{same_said};
 ghost use Rattle.cases.specs.InnerEmbedded.{mat5_cells, embedded_tally};
 ghost use Rattle.comparisons.specs.InnerWalking.{walk_calls};
+ghost use Rattle.semigroups.specs.Maps.{embeddings};
 
 use crate::worked::{MAT5, SWAP, TWO};
-use comparisons::said::said_number;
-use comparisons::walk::walk;
+use comparisons::said::search_said;
+use comparisons::walk::Pair;
 use judging::judged::judged;
-use judging::said::{said_of_no, same_said};
+use judging::said::said_of_no;
 use judging::tally::{Tally, counted, start};
 use kinds::Kind;
 use plain::{Said, failed};
-use tables::Numbered;
+use tables::No;
 
 // Compares the answers about a table of order 120, which is accepted, and of order 121, which is refused. Returns the tally.
 pub fn orders() -> Tally
     ensures answer { result ≡ agreed 3 (counted empty (same_said (said_of (table_refusal 120 (replicate 14400 1))) (said_of none))) }
 {
     let most = [1u8; 14400];
-    let accepted = judged(&most, 120, failed(0, 0), start());
+    let accepted = judged(&most, 120, Ok(()), start());
     let more = [1u8; 14641];
-    judged(&more, 121, failed(1, 0), accepted)
+    judged(&more, 121, Err(failed(1, 0)), accepted)
 }
 
 // Returns whether two buffers hold the same bytes.
 pub fn same_bytes(a: &[u8], b: &[u8]) -> bool
     ensures answer { result ≡ same_list a.now b.now }
 {
-    check::same(a, b)
+    a == b
 }
 
-// Returns the answer as numbers: the question that fails and what it carries, or 0 with the number.
-fn numbered_said(answer: Numbered) -> Said
+// Returns the answer, with the "no" as numbers.
+fn numbered_said(answer: Result<usize, No>) -> Result<usize, Said>
     ensures answer { result ≡ answer_said (numbered_says answer) }
 {
     match answer {
-        Numbered::Number(n) => failed(0, n),
-        Numbered::Refused(no) => said_of_no(no),
+        Ok(n) => Ok(n),
+        Err(no) => Err(said_of_no(no)),
     }
 }
 
-// Compares what a call answers with this number and this value, and its buffer after the call with `after`. Returns the tally.
+// Compares what a call answers with `said`, and its buffer after the call with `after`. Returns the tally.
 fn numbered_told(
-    answer: Numbered,
-    number: usize,
-    value: usize,
+    answer: Result<usize, No>,
+    said: Result<usize, Said>,
     buffer: &[u8],
     after: &[u8],
     tally: Tally,
 ) -> Tally
-    ensures answer { result ≡ numbered_tally (numbered_says answer) number value buffer.now after.now tally }
+    ensures answer { result ≡ numbered_tally (numbered_says answer) said buffer.now after.now tally }
 {
-    let same = same_said(numbered_said(answer), failed(number, value));
-    counted(counted(tally, same), same_bytes(buffer, after))
+    let answered = counted(tally, numbered_said(answer) == said);
+    counted(answered, same_bytes(buffer, after))
 }
 
 // ---- degrees
 
 // Asks for a table of degree d with a buffer of 20 cells, and compares the answer and the buffer after the call. Returns the tally.
-fn degree(d: usize, number: usize, value: usize, after: [u8; 20], tally: Tally) -> Tally
-    ensures answer { result ≡ numbered_tally (transformation_says d 20) number value (transformation_cells_after d (replicate 20 7)) after tally }
+fn degree(d: usize, said: Result<usize, Said>, after: [u8; 20], tally: Tally) -> Tally
+    ensures answer { result ≡ numbered_tally (transformation_says d 20) said (transformation_cells_after d (replicate 20 7)) after tally }
 {
     let mut cells = [7u8; 20];
     let answer = transformations::fill(d, &mut cells);
-    numbered_told(answer, number, value, &cells, &after, tally)
+    numbered_told(answer, said, &cells, &after, tally)
 }
 
 // Compares the answers for degrees 1 to 4: 1 and 2 are made, 3 has more cells than the buffer, and 4 is refused. Returns the tally.
@@ -84,29 +84,41 @@ pub fn degrees() -> Tally
 {
     let left = [7u8; 20];
     let single = [1, 7, 7, 7, 7, 7, 7, 7, 7, 7, 7, 7, 7, 7, 7, 7, 7, 7, 7, 7];
-    let one = degree(1, 0, 1, single, start());
+    let one = degree(1, Ok(1), single, start());
     let square = [1, 1, 4, 4, 1, 2, 3, 4, 1, 3, 2, 4, 1, 4, 1, 4, 7, 7, 7, 7];
-    let two = degree(2, 0, 4, square, one);
-    let three = degree(3, 9, 0, left, two);
-    degree(4, 8, 0, left, three)
+    let two = degree(2, Ok(4), square, one);
+    let three = degree(3, Err(failed(9, 0)), left, two);
+    degree(4, Err(failed(8, 0)), left, three)
 }
 
 // Compares the answer for the table of all transformations of three points, whose order is 27, and the walk through the embeddings of mat5 in it. Returns the
 // tally.
 pub fn large_target() -> Tally
-    ensures answer { result ≡ agreed (suc (walk_calls false mat5_cells 5 (transformation_cells 3) 27 (replicate 5 0))) empty }
+    ensures answer { result ≡ agreed (suc (walk_calls embeddings mat5_cells 5 (transformation_cells 3) 27 (replicate 5 0))) empty }
 {
     let mut cells = [0u8; 729];
     let answer = numbered_said(transformations::fill(3, &mut cells));
-    let answered = counted(start(), same_said(answer, failed(0, 27)));
-    walk(false, &MAT5, 5, &cells, 27, [0; 5], answered)
+    let answered = counted(start(), answer == Ok(27));
+    let pair = Pair {
+        source: &MAT5,
+        m: 5,
+        target: &cells,
+        n: 27,
+    };
+    pair.walk(plain::Kind::Embeddings, [0; 5], answered)
 }
 
 // ---- buffers and fields
 
 // Asks for the first embedding of swap in two with a scratch buffer of `size` bytes, and compares the answer and both buffers after the call. Returns the
 // tally.
-fn embedded(size: usize, said: usize, map: [u8; 2], scratch: [u8; 3], tally: Tally) -> Tally
+fn embedded(
+    size: usize,
+    said: Result<bool, usize>,
+    map: [u8; 2],
+    scratch: [u8; 3],
+    tally: Tally,
+) -> Tally
     requires { size ≤ 3 }
     ensures answer { result ≡ embedded_tally size said map scratch tally }
 {
@@ -121,7 +133,7 @@ fn embedded(size: usize, said: usize, map: [u8; 2], scratch: [u8; 3], tally: Tal
         &mut images,
         &mut marks[..size],
     );
-    let answered = counted(tally, said_number(answer) == said);
+    let answered = counted(tally, search_said(answer) == said);
     let mapped = counted(answered, same_bytes(&images, &map));
     counted(mapped, same_bytes(&marks, &scratch))
 }
@@ -130,25 +142,25 @@ fn embedded(size: usize, said: usize, map: [u8; 2], scratch: [u8; 3], tally: Tal
 pub fn scratch() -> Tally
     ensures answer { result ≡ agreed 6 empty }
 {
-    let short = embedded(0, 6, [0, 0], [255; 3], start());
-    embedded(1, 100, [2, 3], [75, 255, 255], short)
+    let short = embedded(0, Err(6), [0, 0], [255; 3], start());
+    embedded(1, Ok(true), [2, 3], [75, 255, 255], short)
 }
 
 // Loads a text of one field, and compares the answer and the cell that is written, if one is. Returns the tally.
-fn field(text: &[u8], number: usize, value: usize, cell: u8, tally: Tally) -> Tally
-    ensures answer { result ≡ numbered_tally (load_answer text.now (7 ∷ 7 ∷ [])) number value (loaded_cells text.now (7 ∷ 7 ∷ [])) (cell ∷ 7 ∷ []) tally }
+fn field(text: &[u8], said: Result<usize, Said>, cell: u8, tally: Tally) -> Tally
+    ensures answer { result ≡ numbered_tally (load_answer text.now (7 ∷ 7 ∷ [])) said (loaded_cells text.now (7 ∷ 7 ∷ [])) (cell ∷ 7 ∷ []) tally }
 {
     let mut cells = [7u8; 2];
     let answer = text::load(text, &mut cells);
-    numbered_told(answer, number, value, &cells, &[cell, 7], tally)
+    numbered_told(answer, said, &cells, &[cell, 7], tally)
 }
 
 // Compares the answers for four texts of one field: 120 passes, 121 fails question 25, and 0 and 0001 fail question 24. Returns the tally.
 pub fn fields() -> Tally
     ensures answer { result ≡ agreed 8 empty }
 {
-    let most = field(b"120\r\n", 0, 1, 120, start());
-    let above = field(b"121\r\n", 25, 0, 7, most);
-    let zero = field(b"0\r\n", 24, 0, 7, above);
-    field(b"0001\r\n", 24, 0, 7, zero)
+    let most = field(b"120\r\n", Ok(1), 120, start());
+    let above = field(b"121\r\n", Err(failed(25, 0)), 7, most);
+    let zero = field(b"0\r\n", Err(failed(24, 0)), 7, above);
+    field(b"0001\r\n", Err(failed(24, 0)), 7, zero)
 }

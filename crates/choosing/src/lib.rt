@@ -3,23 +3,26 @@
 #![tactic(auto)]
 
 ghost use Rattle.std.specs.Prelude.{◌≡◌, cond, ◌≤◌, eqb};
-ghost use Rattle.semigroups.specs.Tables.{product, Element, Filled};
+ghost use Rattle.semigroups.specs.Tables.{Element};
+ghost use Rattle.products.specs.Tables.{times_of};
 ghost use Rattle.choosing.specs.InnerNext.{weight, Costs, rank, better, Open};
 
+use products::Table;
 use rows::WORDS;
 
+pub mod old;
+
 // Returns how many products of c, on either side, differ from its square. Placing an element with many of them settles much of the rest.
-fn weight(source: &[u8], m: usize, c: usize) -> usize
-    requires { Filled m source.now × Element m c }
-    ensures answer { (result ≡ weight m (product m source.now) c) × (result ≤ 240) }
+fn weight(source: &Table<'_>, c: usize) -> usize
+    requires { Element source.now.order c }
+    ensures answer { result ≡ weight source.now.order (times_of source.now) c }
+    ensures most { result ≤ 240 }
 {
-    let square = tables::times(source, m, c, c);
+    let square = source.times(c, c);
     let mut k: usize = 0;
-    let mut b: usize = 1;
-    while b <= m {
-        k += differs(tables::times(source, m, c, b), square);
-        k += differs(tables::times(source, m, b, c), square);
-        b += 1;
+    for b in 1..source.order + 1 {
+        k += differs(source.times(c, b), square);
+        k += differs(source.times(b, c), square);
     }
     k
 }
@@ -28,22 +31,16 @@ fn weight(source: &[u8], m: usize, c: usize) -> usize
 fn differs(a: usize, b: usize) -> usize
     ensures answer { (result ≡ cond (eqb a b) 0 1) × (result ≤ 1) }
 {
-    if a == b {
-        return 0;
-    }
-    1
+    (a != b) as usize
 }
 
-// Returns for each of m elements its cost, which is the lower the larger its weight is; zeros follow.
-pub fn costs(source: &[u8], m: usize) -> [u16; 120]
-    requires { Filled m source.now }
-    ensures costs { Costs m (product m source.now) result }
+// Returns for each element its cost, which is the lower the larger its weight is; zeros follow.
+pub fn costs(source: &Table<'_>) -> [u16; 120]
+    ensures costs { Costs source.now.order (times_of source.now) result }
 {
     let mut found = [0u16; 120];
-    let mut c: usize = 1;
-    while c <= m {
-        found[c - 1] = (30000 / (weight(source, m, c) + 1)) as u16;
-        c += 1;
+    for c in 1..source.order + 1 {
+        found[c - 1] = (30000 / (weight(source, c) + 1)) as u16;
     }
     found
 }
@@ -61,7 +58,7 @@ fn rank<'a>(rows: &'a [u64; WORDS], costs: &'a [u16; 120], c: usize) -> usize
     requires { Element 120 c }
     ensures answer { result ≡ rank rows.now costs.now c }
 {
-    let k = rows::size(rows::row_of(rows, c));
+    let k = rows::row_of(rows, c).size();
     let r = k * long(costs[c - 1]);
     if k < 2 {
         return r;
@@ -120,10 +117,8 @@ pub fn next_open<'a>(
         element: 0,
         rank: 0,
     };
-    let mut c: usize = 1;
-    while c <= m {
+    for c in 1..m + 1 {
         best = better(used, rows, costs, c, best);
-        c += 1;
     }
     best.element
 }

@@ -17,15 +17,13 @@ fn main(rt: HostRuntime) {
     let mut cells = [0u8; CELLS];
     let mut out = [0u8; 1700];
     let mut classifier = Classifier::start();
-    let mut wanted = classifier.wanted();
-    while wanted != 0 {
-        let name = file_name(wanted);
+    while let Some(k) = classifier.wanted() {
+        let name = file_name(k);
         // The name is ASCII, so it is always text.
         let path = str::from_utf8(&name).unwrap_or("");
-        let reading = read_opened(fs::open(&rt, path), &mut text);
-        let length = reading.length;
-        classifier = classification::step(classifier, reading.opened, &text[..length], &mut cells);
-        wanted = classifier.wanted();
+        let read = read_opened(fs::open(&rt, path), &mut text);
+        let length = read.unwrap_or(0);
+        classifier = classification::step(classifier, read.is_some(), &text[..length], &mut cells);
     }
     let written = classification::put(classifier, &mut out);
     io::write_all(STDOUT, &out[..written]);

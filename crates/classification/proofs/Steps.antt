@@ -1,12 +1,11 @@
 -- What each way through the code gives, as an equation to the progress. Assumes nothing.
 use mathlib.Core.Path.{◌≡◌, refl, sym, ap, ap₂, ◌∙◌, subst}
-use mathlib.Core.Bool.{Bool, true, false, ◌&&◌}
+use mathlib.Core.Bool.{Bool, false, ◌&&◌}
 use mathlib.Core.List.{List}
 use mathlib.Core.Option.{Option}
 use Prim.Native.Nat.{ℕ, zero, suc, ◌*◌, ◌≤◌, ◌<◌}
 use native.Mathlib.Omega.{arith}
-use borrow.Author.Tests.{le-leb, lt-leb, eq-eqb, ne_eqb}
-use lib.Dec.{eqb}
+use borrow.Author.Tests.{le-leb, lt-leb}
 use lib.ListN.{length, take}
 use Rattle.semigroups.specs.Tables.{Element, Accepted}
 use Rattle.semigroups.specs.Questions.{Refusal}
@@ -16,11 +15,10 @@ use Rattle.files.specs.Files.{file_refusal, room}
 use Rattle.files.specs.Answers.{file_answer}
 use Rattle.files.proofs.Files.{Holds, accepted_file, refused_file}
 use Rattle.progress.specs.Classes.{isomorphic, holds_like, Note, refused_by, in_class}
-use Rattle.progress.specs.Output.{is_in}
-use Rattle.progress.specs.Progress.{names_order, comparing, progress, wanted, next_class, noted, onward, begun, compared, step_in, step, SoundIn, Sound}
-use Rattle.progress.specs.Held.{note_from, notes_in, phase_of, progress_of, opened_text, cells_then}
+use Rattle.progress.specs.Progress.{comparing, progress, wanted, next_class, noted, onward, begun, SoundIn, Sound}
+use Rattle.progress.specs.Held.{note_from, notes_in, phase_of, progress_of}
 use Rattle.progress.specs.declared.Task.{Task}
-use Rattle.progress.specs.declared.Task.TheVariants.{Read, Compare, Stop}
+use Rattle.progress.specs.declared.Task.TheVariants.{Read, Compare}
 use Rattle.progress.specs.declared.Classifier.{Classifier}
 use Rattle.progress.proofs.Wanted.{count_notes, wanted_at}
 use Rattle.classification.proofs.Files.{passes_accepted, refused_not}
@@ -32,23 +30,6 @@ use Rattle.classification.proofs.Progress.{reading_room}
 pub note_accepted : (n j : ℕ) → 1 ≤ n → note_from n j ≡ in_class n j
 note_accepted zero j h = absurd (let z : ⊥ = omega arith in z)
 note_accepted (suc n) j h = refl
-
-module _ (order number : ℕ) (h : order ≡ 0 → ⊥) where
-  pub is_class : note_from order number ≡ in_class order number
-  is_class = go order h
-    where
-      go : (n : ℕ) → (n ≡ 0 → ⊥) → note_from n number ≡ in_class n number
-      go zero u = absurd (u refl)
-      go (suc n) u = refl
-
-  pub in_class_law : (a : ℕ) → eqb number a ≡ is_in a (note_from order number)
-  in_class_law a = sym (ap (is_in a) is_class)
-
-  pub names_other : (n i : ℕ) → (order ≡ n → ⊥) → false ≡ names_order n i (note_from order number)
-  names_other n i ne = sym (ap (names_order n i) is_class ∙ ap (λ (b : Bool). b && eqb number i) (ne_eqb order n ne))
-
-  pub names_same : (n i : ℕ) → order ≡ n → eqb number i ≡ names_order n i (note_from order number)
-  names_same n i e = sym (ap (names_order n i) is_class ∙ ap (λ (b : Bool). b && eqb number i) (eq-eqb order n e))
 
 -- ---- the table that a file holds
 
@@ -89,12 +70,6 @@ module _ (notes : List Note) (n : ℕ) (cells : List ℕ) (j : ℕ) where
   unfolding onward
   onward_own {i} p e h = ap (noted notes) (note_accepted n i p) ∙ rw (← e) (rw (lt-leb i (length notes) h))
 
-  pub compared_same : (b : Bool) → 1 ≤ n → b ≡ true → noted notes (note_from n j) ≡ compared notes n cells j b
-  compared_same b p e = ap (noted notes) (note_accepted n j p) ∙ ap (compared notes n cells j) (sym e)
-
-  pub compared_other : (b : Bool) → b ≡ false → onward notes n cells j ≡ compared notes n cells j b
-  compared_other b e = ap (compared notes n cells j) (sym e)
-
 -- ---- a step
 
 module _ (s : Classifier) (cells : List ℕ) where
@@ -109,13 +84,3 @@ module _ (s : Classifier) (cells : List ℕ) where
       let r2 = r.2 in
       let l = count_notes s cells in
       (omega arith, r.1, omega arith)
-
-  module _ (opened : Bool) (text : List ℕ) {t : Task} {b : Bool} (e : s.task ≡ t) (f : opened ≡ b) where
-    pub step_at : step_in (notes_in s) (phase_of t cells) (opened_text b text) ≡ step (progress_of s cells) (opened_text opened text)
-    step_at = sym (ap₂ (λ (u : Task) (x : Bool). step_in (notes_in s) (phase_of u cells) (opened_text x text)) e f)
-
-    pub stopped_at : t ≡ Stop → progress_of s cells ≡ step (progress_of s cells) (opened_text opened text)
-    stopped_at g = ap (λ (u : Task). progress (notes_in s) (phase_of u cells)) (e ∙ g) ∙ sym (ap (λ (u : Task). step_in (notes_in s) (phase_of u cells) (opened_text opened text)) (e ∙ g))
-
-    pub cells_at : cells_then t b text cells ≡ cells_then s.task opened text cells
-    cells_at = sym (ap₂ (λ (u : Task) (x : Bool). cells_then u x text cells) e f)

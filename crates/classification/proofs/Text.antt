@@ -1,6 +1,6 @@
 -- The records of the notes and of the totals as text: how long they are, what is left to write, and what stands in the buffer once it is written.
 -- Assumes nothing.
-use mathlib.Core.Path.{◌≡◌, refl, sym, ap, ◌∙◌, subst}
+use mathlib.Core.Path.{◌≡◌, refl, sym, ap, ◌∙◌}
 use mathlib.Core.Bool.{Bool, true, false, cond}
 use mathlib.Core.List.{List, [], ◌∷◌, ◌++◌, map, flat_map, append_assoc, append-nil}
 use Prim.Native.Nat.{ℕ, zero, suc, ◌+◌, ◌-◌, ◌*◌, ◌≤◌, ◌<◌}
@@ -59,15 +59,6 @@ class_written before start k n l q₁ e₁ q₂ e₂ q₃ e₃ =
     let w₂ = written w₁ (44 ∷ numeral l) [] (sym (append-nil (44 ∷ numeral l))) e₂ q₂ in
     let all = write_last w₂ refl in
     line_written before start (note_record k (in_class n l)) all.1 all.0 q₃ e₃
-
--- Equal notes have the same record.
-module _ (k at : ℕ) {x y : Note} (e : x ≡ y) where
-  pub note_fits : {room : ℕ} → at + length (line_text (note_record k y)) ≤ room → at + length (line_text (note_record k x)) ≤ room
-  note_fits {room} h = subst (λ (z : Note). at + length (line_text (note_record k z)) ≤ room) (sym e) h
-
-  pub note_put : (before : List ℕ) {out : List ℕ} {p : ℕ} → p ≡ at + length (line_text (note_record k x)) → out ≡ sets before at (line_text (note_record k x))
-      → (p ≡ at + length (line_text (note_record k y))) × (out ≡ sets before at (line_text (note_record k y)))
-  note_put before q w = (q ∙ ap (λ (z : Note). at + length (line_text (note_record k z))) e, w ∙ ap (λ (z : Note). sets before at (line_text (note_record k z))) e)
 
 -- ---- the records of the files
 
@@ -193,8 +184,8 @@ module _ (orders numbers : List ℕ) (c : ℕ) where
   notes_next {k = k} h w q e = written w (line_text (note_record k (held orders numbers k))) (notes_left N (k + 1)) (note_text k h) e q
 
   pub notes_done : {before out : List ℕ} {place k : ℕ} → c < k → Writing before 0 (rows_text (note_records N)) (notes_left N k) out place
-      → (place ≡ length (rows_text (note_records N))) × (out ≡ sets before 0 (rows_text (note_records N)))
-  notes_done {k = k} h w = let l = length_from orders numbers c in let all = write_last w (notes_end N k (omega arith)) in (let r = all.1 in omega arith, all.0)
+      → record { answer : place ≡ length (rows_text (note_records N)); out : out ≡ sets before 0 (rows_text (note_records N)) }
+  notes_done {k = k} h w = let l = length_from orders numbers c in let all = write_last w (notes_end N k (omega arith)) in record { answer = (let r = all.1 in omega arith); out = all.0 }
 
   pub totals_begun : (before : List ℕ) (start : ℕ) → Writing before start (rows_text (total_records N)) (totals_left N 1) before start
   totals_begun before start = rw (← totals_first N) (write_first before start (rows_text (total_records N)))
@@ -214,8 +205,8 @@ module _ (orders numbers : List ℕ) (c : ℕ) where
   totals_next {a = a} h w q e = written w (total_text N a) (totals_left N (a + 1)) (total_text_law a h) e q
 
   pub totals_done : {before out : List ℕ} {start place a : ℕ} → c < a → Writing before start (rows_text (total_records N)) (totals_left N a) out place
-      → (place ≡ start + length (rows_text (total_records N))) × (out ≡ sets before start (rows_text (total_records N)))
-  totals_done {a = a} h w = let l = length_from orders numbers c in let all = write_last w (totals_end N a (omega arith)) in (all.1, all.0)
+      → record { answer : place ≡ start + length (rows_text (total_records N)); out : out ≡ sets before start (rows_text (total_records N)) }
+  totals_done {a = a} h w = let l = length_from orders numbers c in let all = write_last w (totals_end N a (omega arith)) in record { answer = all.1; out = all.0 }
 
   -- The text of the total of file a, if it names a class and if it does not.
   module _ (a : ℕ) (h : Element c a) where
@@ -230,8 +221,8 @@ module _ (orders numbers : List ℕ) (c : ℕ) where
     -- What stands in the buffer once that text is written, and if there is none.
     module _ (before : List ℕ) (start : ℕ) where
       pub total_put : {line out : List ℕ} {p : ℕ} → line ≡ total_text N a → p ≡ start + length line → out ≡ sets before start line
-          → (p ≡ start + length (total_text N a)) × (out ≡ sets before start (total_text N a))
-      total_put e q w = (q ∙ ap (λ (t : List ℕ). start + length t) e, w ∙ ap (sets before start) e)
+          → record { answer : p ≡ start + length (total_text N a); out : out ≡ sets before start (total_text N a) }
+      total_put e q w = record { answer = q ∙ ap (λ (t : List ℕ). start + length t) e; out = w ∙ ap (sets before start) e }
 
-      pub total_kept : total_text N a ≡ [] → (start ≡ start + length (total_text N a)) × (before ≡ sets before start (total_text N a))
-      total_kept e = (let z : start ≡ start + 0 = omega arith in z ∙ ap (λ (t : List ℕ). start + length t) (sym e), ap (sets before start) (sym e))
+      pub total_kept : total_text N a ≡ [] → record { answer : start ≡ start + length (total_text N a); out : before ≡ sets before start (total_text N a) }
+      total_kept e = record { answer = (let z : start ≡ start + 0 = omega arith in z ∙ ap (λ (t : List ℕ). start + length t) (sym e)); out = ap (sets before start) (sym e) }

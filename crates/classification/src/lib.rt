@@ -3,10 +3,12 @@
 
 #![tactic(auto)]
 
-ghost use Rattle.std.specs.Prelude.{◌≡◌, List, ℕ, ◌+◌, ◌*◌, ◌≤◌, ◌<◌, length, take, drop};
+ghost use Rattle.std.specs.Prelude.{◌≡◌, List, ℕ, ◌+◌, ◌*◌, ◌≤◌, ◌<◌, MatchOption, length, take, drop};
+ghost use Rattle.std.proofs.Math.Option.{get_or};
 ghost use Rattle.std.proofs.lemmas.List.Edits.{sets};
 ghost use Rattle.semigroups.specs.Tables.{largest_order, Accepted};
 ghost use Rattle.semigroups.specs.Calls.{overwritten};
+ghost use Rattle.semigroups.specs.Results.{optional};
 ghost use Rattle.rfc4180.specs.Records.{line_text, rows_text};
 ghost use Rattle.rfc4180.specs.Calls.{cells_after};
 ghost use Rattle.files.specs.Files.{file_refusal, room};
@@ -20,7 +22,6 @@ use files::{failed_question, load_then_check};
 use kinds::Kind;
 use lines::{put_break, put_field, put_fields, put_record};
 use progress::{Classifier, Task};
-use tables::Numbered;
 use tables::limits::{CELLS, ORDER, SCRATCH};
 
 // Returns whether an isomorphism exists between two accepted tables.
@@ -50,7 +51,7 @@ fn holds_like(text: &[u8], n: usize, cells: &[u8]) -> bool
 {
     let mut own = [0u8; CELLS];
     let verdict = load_then_check(text, &mut own);
-    let Numbered::Number(m) = verdict else {
+    let Ok(m) = verdict else {
         return false;
     };
     if m != n {
@@ -64,55 +65,39 @@ fn holds_like(text: &[u8], n: usize, cells: &[u8]) -> bool
 fn is_in(a: usize, order: u8, number: u8) -> bool
     ensures answer { result ≡ output.is_in a (note_from order number) }
 {
-    if order == 0 {
-        return false;
-    }
-    number as usize == a
+    order != 0 && number as usize == a
 }
 
 // Returns whether file i, with this note, is the lowest of a class of tables of order n.
 fn names_order(n: usize, i: usize, order: u8, number: u8) -> bool
     ensures answer { result ≡ progress.names_order n i (note_from order number) }
 {
-    if order == 0 {
-        return false;
-    }
-    if order as usize != n {
-        return false;
-    }
-    number as usize == i
+    order != 0 && order as usize == n && number as usize == i
 }
 
-// Returns the first file above j that is the lowest of a class of tables of order n; or one more than `count` if there is none.
-fn next_class(orders: &[u8; 50], numbers: &[u8; 50], count: usize, n: usize, j: usize) -> usize
-    requires { (count ≤ 50) × (j ≤ count) }
-    ensures answer { result ≡ progress.next_class (notes_from orders.now numbers.now count) n j }
+// Returns the first file above j that is the lowest of a class of tables of order n.
+fn next_class(classifier: &Classifier, n: usize, j: usize) -> Option<usize>
+    requires few { (classifier.now.count ≤ 50) × (j ≤ classifier.now.count) }
+    ensures answer { get_or (optional result) (classifier.now.count + 1) ≡ progress.next_class (notes_in classifier.now) n j }
+    ensures within { MatchOption result Unit (λ i. i ≤ classifier.now.count) }
 {
-    let mut i = j + 1;
-    while i <= count {
-        if names_order(n, i, orders[i - 1], numbers[i - 1]) {
-            return i;
+    for i in j + 1..classifier.count + 1 {
+        if names_order(n, i, classifier.orders[i - 1], classifier.numbers[i - 1]) {
+            return Some(i);
         }
-        i += 1;
     }
-    i
+    None
 }
 
 // Returns how many members there are in the class that file a names.
-fn members(orders: &[u8; 50], numbers: &[u8; 50], count: usize, a: usize) -> usize
-    requires { count ≤ 50 }
-    ensures answer { result ≡ output.members (notes_from orders.now numbers.now count) a }
-    ensures most { result ≤ count }
+fn members(classifier: &Classifier, a: usize) -> usize
+    requires few { classifier.now.count ≤ 50 }
+    ensures answer { result ≡ output.members (notes_in classifier.now) a }
+    ensures most { result ≤ classifier.now.count }
 {
-    let mut found: usize = 0;
-    let mut i: usize = 1;
-    while i <= count {
-        if is_in(a, orders[i - 1], numbers[i - 1]) {
-            found += 1;
-        }
-        i += 1;
-    }
-    found
+    (1..classifier.count + 1)
+        .filter(|k| is_in(a, classifier.orders[*k - 1], classifier.numbers[*k - 1]))
+        .count()
 }
 
 // Writes the record of file k, which is accepted, at `at`. Returns the place after it.
@@ -141,60 +126,49 @@ fn put_note(out: &mut [u8], at: usize, k: usize, order: u8, number: u8) -> usize
 }
 
 // Writes the records of the files to the start of `out`. Returns their length.
-fn put_notes(out: &mut [u8], orders: &[u8; 50], numbers: &[u8; 50], count: usize) -> usize
-    requires few { count ≤ 50 }
-    requires room { 19 * count ≤ length out.old }
-    ensures answer { result ≡ length (rows_text (output.note_records (notes_from orders.now numbers.now count))) }
-    ensures out { out.new ≡ sets out.old 0 (rows_text (output.note_records (notes_from orders.now numbers.now count))) }
+fn put_notes(out: &mut [u8], classifier: &Classifier) -> usize
+    requires few { classifier.now.count ≤ 50 }
+    requires room { 19 * classifier.now.count ≤ length out.old }
+    ensures answer { result ≡ length (rows_text (output.note_records (notes_in classifier.now))) }
+    ensures out { out.new ≡ sets out.old 0 (rows_text (output.note_records (notes_in classifier.now))) }
 {
-    let mut at: usize = 0;
-    let mut k: usize = 1;
-    while k <= count {
-        at = put_note(out, at, k, orders[k - 1], numbers[k - 1]);
-        k += 1;
+    let mut at = 0;
+    for k in 1..classifier.count + 1 {
+        at = put_note(
+            out,
+            at,
+            k,
+            classifier.orders[k - 1],
+            classifier.numbers[k - 1],
+        );
     }
     at
 }
 
 // Writes the total of the class that file a names, if it names one, at `at`. Returns the place after it.
-fn put_total(
-    out: &mut [u8],
-    at: usize,
-    orders: &[u8; 50],
-    numbers: &[u8; 50],
-    count: usize,
-    a: usize,
-) -> usize
-    requires file { (count ≤ 50) × (1 ≤ a) × (a ≤ count) }
-    requires room { at + length (total_text (notes_from orders.now numbers.now count) a) ≤ length out.old }
-    ensures answer { result ≡ at + length (total_text (notes_from orders.now numbers.now count) a) }
-    ensures out { out.new ≡ sets out.old at (total_text (notes_from orders.now numbers.now count) a) }
+fn put_total(out: &mut [u8], at: usize, classifier: &Classifier, a: usize) -> usize
+    requires file { (classifier.now.count ≤ 50) × (1 ≤ a) × (a ≤ classifier.now.count) }
+    requires room { at + length (total_text (notes_in classifier.now) a) ≤ length out.old }
+    ensures answer { result ≡ at + length (total_text (notes_in classifier.now) a) }
+    ensures out { out.new ≡ sets out.old at (total_text (notes_in classifier.now) a) }
 {
-    if is_in(a, orders[a - 1], numbers[a - 1]) {
-        let total = members(orders, numbers, count, a);
+    if is_in(a, classifier.orders[a - 1], classifier.numbers[a - 1]) {
+        let total = members(classifier, a);
         return put_record(out, at, b"total", a, total);
     }
     at
 }
 
 // Writes the totals at `start`, in rising order of their lowest files. Returns the place after them.
-fn put_totals(
-    out: &mut [u8],
-    start: usize,
-    orders: &[u8; 50],
-    numbers: &[u8; 50],
-    count: usize,
-) -> usize
-    requires few { count ≤ 50 }
-    requires room { start + 15 * count ≤ length out.old }
-    ensures answer { result ≡ start + length (rows_text (output.total_records (notes_from orders.now numbers.now count))) }
-    ensures out { out.new ≡ sets out.old start (rows_text (output.total_records (notes_from orders.now numbers.now count))) }
+fn put_totals(out: &mut [u8], start: usize, classifier: &Classifier) -> usize
+    requires few { classifier.now.count ≤ 50 }
+    requires room { start + 15 * classifier.now.count ≤ length out.old }
+    ensures answer { result ≡ start + length (rows_text (output.total_records (notes_in classifier.now))) }
+    ensures out { out.new ≡ sets out.old start (rows_text (output.total_records (notes_in classifier.now))) }
 {
     let mut at = start;
-    let mut a: usize = 1;
-    while a <= count {
-        at = put_total(out, at, orders, numbers, count, a);
-        a += 1;
+    for a in 1..classifier.count + 1 {
+        at = put_total(out, at, classifier, a);
     }
     at
 }
@@ -228,13 +202,9 @@ fn stopped(classifier: Classifier) -> Classifier
     ensures orders { drop result.count result.orders ≡ drop result.count classifier.orders }
     ensures numbers { drop result.count result.numbers ≡ drop result.count classifier.numbers }
 {
-    let orders = classifier.orders;
-    let numbers = classifier.numbers;
     Classifier {
-        count: classifier.count,
-        orders,
-        numbers,
         task: Task::Stop,
+        ..classifier
     }
 }
 
@@ -245,19 +215,13 @@ fn onward(classifier: Classifier, n: usize, j: usize) -> Classifier
     ensures orders { drop result.count result.orders ≡ drop result.count classifier.orders }
     ensures numbers { drop result.count result.numbers ≡ drop result.count classifier.numbers }
 {
-    let count = classifier.count;
-    let orders = classifier.orders;
-    let numbers = classifier.numbers;
-    let i = next_class(&orders, &numbers, count, n, j);
-    if i <= count {
-        return Classifier {
-            count,
-            orders,
-            numbers,
+    match next_class(&classifier, n, j) {
+        Some(i) => Classifier {
             task: Task::Compare(n, i),
-        };
+            ..classifier
+        },
+        None => noted(classifier, n, classifier.count + 1),
     }
-    noted(classifier, n, i)
 }
 
 // Loads a new file into `cells`. Returns the classifier after it: its table is compared next; or it has started a class of its own, since there is no class of
@@ -270,7 +234,7 @@ fn begun(classifier: Classifier, text: &[u8], cells: &mut [u8]) -> Classifier
     ensures cells { cells.new ≡ cells_after text.now cells.old }
 {
     let verdict = load_then_check(text, cells);
-    let Numbered::Number(n) = verdict else {
+    let Ok(n) = verdict else {
         return noted(classifier, 0, failed_question(verdict));
     };
     onward(classifier, n, 0)
@@ -325,9 +289,6 @@ pub fn put(classifier: Classifier, out: &mut [u8; 1700]) -> usize
     ensures answer { result ≡ length (output.notes_text (notes_in classifier)) }
     ensures out { out.new ≡ overwritten (output.notes_text (notes_in classifier)) out.old }
 {
-    let count = classifier.count;
-    let orders = classifier.orders;
-    let numbers = classifier.numbers;
-    let at = put_notes(out, &orders, &numbers, count);
-    put_totals(out, at, &orders, &numbers, count)
+    let at = put_notes(out, &classifier);
+    put_totals(out, at, &classifier)
 }

@@ -2,7 +2,7 @@
 -- element and its target product is not the new image, or the other way round. Assumes nothing.
 use mathlib.Core.Path.{◌≡◌, refl, sym, ap, ap₂, subst, ◌∙◌}
 use mathlib.Core.Logic.{◌⊎◌, inl, inr, ⊎_elim}
-use mathlib.Core.Bool.{Bool, true, false, cond, not, ◌&&◌, ◌||◌, and-true, and-false, or-true, or-false, or_assoc}
+use mathlib.Core.Bool.{Bool, true, false, cond, not, ◌&&◌, ◌||◌, and-true, or-true, or-false, or_assoc}
 use mathlib.Core.List.{List, [], ◌∷◌, ◌++◌, Memᴰ}
 use Prim.Native.Nat.{ℕ, suc, ◌+◌, ◌-◌, ◌≤◌, ◌<◌, max}
 use native.Mathlib.Nat.{eq-or-lt_of_le, le-max_left, max-le}
@@ -18,7 +18,6 @@ use Rattle.semigroups.specs.Trials.{fits, passes}
 use Rattle.semigroups.proofs.Booleans.{clash, untrue, same_truth, both, and_left, and_right, or_holds}
 use Rattle.semigroups.proofs.Lists.{each_at, each_of, pairs_at, pairs_of, at_front, at_seam, length_snoc, not_member}
 use Rattle.semigroups.proofs.NoRepeats.{place_mem}
-use Rattle.semigroups.proofs.Completions.{all_from, all_step}
 use Rattle.constraints.specs.InnerConstraints.{permits, merge, asked_at, image_product, asks, agree_on, cross, new_fits, near_fits, Reads}
 
 -- ---- one more value is required
@@ -229,15 +228,3 @@ near_of_new s t p h e =
     let k = length p in
     let j = max 1 (k - 1) in
     and_left (fits s t p j k) (fits s t p k j) (each_at k (λ i. cross (fits s t p) k i) e j (le-max_left 1 (k - 1), max-le h (omega arith)))
-
--- ---- the pairs of the newest element, one after another
-
-module _ (p : ℕ → ℕ → Bool) (k j : ℕ) (h : j ≤ k) where
-  pub first_fails : p j k ≡ false → all_from (cross p k) k j ≡ false
-  first_fails e = all_step (cross p k) k j h ∙ ap (λ (b : Bool). b && p k j && all_from (cross p k) k (j + 1)) e
-
-  pub second_fails : p k j ≡ false → all_from (cross p k) k j ≡ false
-  second_fails e = all_step (cross p k) k j h ∙ ap (λ (b : Bool). p j k && b && all_from (cross p k) k (j + 1)) e ∙ ap (λ (b : Bool). b && all_from (cross p k) k (j + 1)) (and-false (p j k))
-
-  pub both_fit : p j k ≡ true → p k j ≡ true → all_from (cross p k) k j ≡ all_from (cross p k) k (j + 1)
-  both_fit e g = all_step (cross p k) k j h ∙ ap (λ (b : Bool). b && all_from (cross p k) k (j + 1)) (both (p j k) (p k j) e g)

@@ -2,3 +2,4 @@ pub mod Constraints
 pub mod Placing
 pub mod Noting
 pub mod Images
+pub mod Attempts

@@ -1,10 +1,8 @@
 -- The images placed and the target elements used, as a pair is looked up and as an element is placed. Assumes nothing.
 use mathlib.Core.Path.{◌≡◌, refl, sym, ap, subst, ◌∙◌}
 use mathlib.Core.Bool.{Bool, true, false, cond, not, ◌||◌, or-true, or-false}
-use mathlib.Core.Logic.{⊎_elim}
 use mathlib.Core.List.{List, [], ◌∷◌, ◌++◌}
 use Prim.Native.Nat.{ℕ, suc, ◌+◌, ◌-◌, ◌≤◌, ◌<◌}
-use native.Mathlib.Nat.{eq-or-lt_of_le}
 use native.Mathlib.Numerals.{add-one}
 use native.Mathlib.Omega.{arith}
 use borrow.Author.Tests.{le-leb, lt-leb, eqb-true, eqb-false, eq-eqb, ne_eqb}
@@ -111,12 +109,6 @@ module _ (n : ℕ) (image used : List ℕ) (len x : ℕ) (X : Trial n image used
 
   pub trial_length : length f ≡ len
   trial_length = length-take-le len image room
-
-  pub next_element : (a : ℕ) → Element (len + 1) a → Element n (at g a)
-  next_element a h =
-      ⊎_elim (λ (e : a ≡ len + 1). subst (Element n) (image_next image len x room a e) X.element)
-      (λ (l : a < len + 1). let w : Element len a = (h.0, omega arith) in subst (Element n) (image_before image len x room a w) (unfold at in X.placed a w))
-      (eq-or-lt_of_le h.1)
 
   module _ (s t : Product) (a b c v : ℕ) (ec : c ≡ s a b) (ev : v ≡ t (at g a) (at g b)) where
     pub fits_inside : c ≤ len + 1 → eqb (at g c) v ≡ fits s t g a b

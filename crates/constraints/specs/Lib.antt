@@ -1,2 +1,3 @@
 pub mod InnerConstraints
 pub mod InnerTracking
+pub mod InnerAttempt

@@ -6,28 +6,20 @@
 
 ghost use Rattle.std.specs.Prelude.{◌≡◌, true, false, ◌&&◌, [], ◌∷◌, ◌++◌, ℕ, ◌+◌, ◌-◌, ◌≤◌, ◌<◌, length, get_or, take};
 ghost use Rattle.semigroups.specs.Lists.{at, member};
-ghost use Rattle.semigroups.specs.Tables.{largest_order, Product, product, Element, Filled};
+ghost use Rattle.semigroups.specs.Tables.{largest_order, Product, Element};
 ghost use Rattle.semigroups.specs.Trials.{fits, passes};
+ghost use Rattle.products.specs.Tables.{times_of};
 ghost use Rattle.constraints.specs.InnerConstraints.{permits, asked_at, image_product, new_fits, near_fits};
 ghost use Rattle.constraints.specs.InnerTracking.{Trial, Tracks};
 
+use products::Table;
 use products::limits::{ORDER, PLACES};
 
 // Returns whether a constraint permits the value y.
 fn allowed(constraint: u8, y: usize) -> bool
     ensures answer { result ≡ permits constraint y }
 {
-    if constraint == 0 {
-        return true;
-    }
-    constraint as usize == y
-}
-
-// Returns the constraints that require nothing.
-pub fn nothing() -> [u8; PLACES]
-    ensures nothing { (s t : Product) → Tracks s t [] 0 0 result result }
-{
-    [0u8; PLACES]
+    constraint == 0 || constraint as usize == y
 }
 
 // Notes that the value y is also required at this place.
@@ -42,207 +34,159 @@ fn note(constraints: &mut [u8; PLACES], place: usize, y: usize)
     }
 }
 
-// Notes the pair a, b: its product must go to the product of the images, and that target element is reserved for it.
-fn note_pair(
-    source: &[u8],
-    m: usize,
-    target: &[u8],
-    n: usize,
-    image: &[u8; ORDER],
-    forced: &mut [u8; PLACES],
-    owner: &mut [u8; PLACES],
-    a: usize,
-    b: usize,
-)
-    requires filled { Filled m source.now × Filled n target.now }
-    requires element { Element m a × Element m b }
-    requires element_2 { Element n (at image.now a) × Element n (at image.now b) }
-    ensures forced { forced.new ≡ asked_at forced.old (product m source.now a b) (image_product (product n target.now) image.now a b) }
-    ensures owner { owner.new ≡ asked_at owner.old (image_product (product n target.now) image.now a b) (product m source.now a b) }
-{
-    let c = products::times(source, m, a, b);
-    let x = image[a - 1] as usize;
-    let y = image[b - 1] as usize;
-    let z = products::times(target, n, x, y);
-    note(forced, c, z);
-    note(owner, z, c);
+// ---- an element tried as the next image
+
+// An element x tried as the image of the next element: the two tables, the images of the first `len` elements, the target elements that they use (whether
+// `used` already marks x makes no difference), and x.
+#[derive(Clone, Copy)]
+pub struct Attempt<'a> {
+    pub source: &'a Table<'a>,
+    pub target: &'a Table<'a>,
+    pub image: &'a [u8; ORDER],
+    pub used: &'a [u8; PLACES],
+    pub len: usize,
+    pub x: usize,
+    pub ghost trial: { Trial target.now.order image.now used.now len x },
+    pub ghost room: { len < source.now.order },
 }
 
-// Notes the pairs that the newest element makes with each element placed, itself included. If no element is placed, nothing changes.
-pub fn note_newest(
-    source: &[u8],
-    m: usize,
-    target: &[u8],
-    n: usize,
-    image: &[u8; ORDER],
-    forced: &mut [u8; PLACES],
-    owner: &mut [u8; PLACES],
-    len: usize,
-)
-    requires filled { Filled m source.now × Filled n target.now }
-    requires len_le_m { (len ≤ m) × ((a : ℕ) → Element len a → Element n (at image.now a)) }
-    requires tracks { Tracks (product m source.now) (product n target.now) (take len image.now) (len - 1) 0 forced.old owner.old }
-    ensures constraints { Tracks (product m source.now) (product n target.now) (take len image.now) len 0 forced.new owner.new }
-{
-    let mut j: usize = 1;
-    while j <= len {
-        note_pair(source, m, target, n, image, forced, owner, j, len);
-        note_pair(source, m, target, n, image, forced, owner, len, j);
-        j += 1;
-    }
-}
+impl Attempt<'_> {
+    ghost use Rattle.constraints.specs.InnerAttempt.{longer};
 
-// Returns the image of element a, where x is the image of the next element.
-fn image_of(image: &[u8; ORDER], len: usize, x: usize, a: usize) -> usize
-    requires image_len { (length image.now ≡ 120) × (len < largest_order) × Element (len + 1) a }
-    requires a_bound { Element len a → at image.now a ≤ largest_order }
-    ensures answer { result ≡ at (take len image.now ++ x ∷ []) a }
-{
-    if a <= len {
-        return image[a - 1] as usize;
-    }
-    x
-}
-
-// Returns whether the pair a, b fits, where x is the image of the next element: if the product of the pair is placed, its image is the product of the images;
-// if it is not, that target element is unused. Whether `used` already marks x makes no difference.
-fn pair_fits(
-    source: &[u8],
-    m: usize,
-    target: &[u8],
-    n: usize,
-    image: &[u8; ORDER],
-    used: &[u8; PLACES],
-    len: usize,
-    x: usize,
-    a: usize,
-    b: usize,
-) -> bool
-    requires filled { Filled m source.now × Filled n target.now }
-    requires trial { Trial n image.now used.now len x × (len < m) }
-    requires element { Element (len + 1) a × Element (len + 1) b }
-    ensures answer { result ≡ fits (product m source.now) (product n target.now) (take len image.now ++ x ∷ []) a b }
-{
-    let c = products::times(source, m, a, b);
-    let y = image_of(image, len, x, a);
-    let z = image_of(image, len, x, b);
-    let v = products::times(target, n, y, z);
-    if c <= len + 1 {
-        return image_of(image, len, x, c) == v;
-    }
-    if v == x {
-        return false;
-    }
-    used[v] == 0
-}
-
-// Returns whether the pairs of the next element fit, where x is its image. One lifetime is enough, because both arrays are parts of one map.
-fn new_fits<'a>(
-    source: &[u8],
-    m: usize,
-    target: &[u8],
-    n: usize,
-    image: &'a [u8; ORDER],
-    used: &'a [u8; PLACES],
-    len: usize,
-    x: usize,
-) -> bool
-    requires filled { Filled m source.now × Filled n target.now }
-    requires trial { Trial n image.now used.now len x × (len < m) }
-    ensures answer { result ≡ new_fits (product m source.now) (product n target.now) (take len image.now ++ x ∷ []) }
-{
-    let next = len + 1;
-    let mut j: usize = 1;
-    while j <= next {
-        if !pair_fits(source, m, target, n, image, used, len, x, j, next) {
-            return false;
+    // Returns the image of element a.
+    fn image_of(&self, a: usize) -> usize
+        requires { Element (self.now.len + 1) a }
+        ensures answer { result ≡ at (longer self.now) a }
+        ensures element { Element self.now.target.now.order result }
+    {
+        if a <= self.len {
+            return self.image[a - 1] as usize;
         }
-        if !pair_fits(source, m, target, n, image, used, len, x, next, j) {
-            return false;
+        self.x
+    }
+
+    // Returns whether the pair a, b fits: if the product of the pair is placed, its image is the product of the images; if it is not, that target element is
+    // unused.
+    fn pair_fits(&self, a: usize, b: usize) -> bool
+        requires left { Element (self.now.len + 1) a }
+        requires right { Element (self.now.len + 1) b }
+        ensures answer { result ≡ fits (times_of self.now.source.now) (times_of self.now.target.now) (longer self.now) a b }
+    {
+        let c = self.source.times(a, b);
+        let v = self.target.times(self.image_of(a), self.image_of(b));
+        if c <= self.len + 1 {
+            return self.image_of(c) == v;
         }
-        j += 1;
+        v != self.x && self.used[v] == 0
     }
-    true
+
+    // Returns whether the pairs of the next element fit.
+    fn new_fits(&self) -> bool
+        ensures answer { result ≡ new_fits (times_of self.now.source.now) (times_of self.now.target.now) (longer self.now) }
+    {
+        let next = self.len + 1;
+        (1..next + 1).all(|j| self.pair_fits(j, next) && self.pair_fits(next, j))
+    }
+
+    // Returns whether the newest element and the next one fit as a pair. Where nothing is placed, the next element makes a pair with itself.
+    fn near_fits(&self) -> bool
+        ensures answer { result ≡ near_fits (times_of self.now.source.now) (times_of self.now.target.now) (longer self.now) }
+    {
+        self.pair_fits(self.len.max(1), self.len + 1)
+    }
 }
 
-// Returns whether the constraints allow x as the image of element `next`.
-fn settled(forced: &[u8; PLACES], owner: &[u8; PLACES], next: usize, x: usize) -> bool
-    requires { (next ≤ largest_order) × (x ≤ largest_order) }
-    ensures answer { result ≡ (permits (get_or forced.now next 0) x && permits (get_or owner.now x 0) next) }
-{
-    if !allowed(forced[next], x) {
-        return false;
-    }
-    allowed(owner[x], next)
+// ---- the constraints
+
+// What the placed pairs require: `forced` of the images of source elements, and `owner` of the source elements that target elements are reserved for.
+#[derive(Clone, Copy)]
+pub struct Required {
+    pub forced: [u8; PLACES],
+    pub owner: [u8; PLACES],
 }
 
-// Returns whether the newest element and the next one fit as a pair, where x is the image of the next one. Where nothing is placed, the next element makes a
-// pair with itself.
-fn near_fits<'a>(
-    source: &[u8],
-    m: usize,
-    target: &[u8],
-    n: usize,
-    image: &'a [u8; ORDER],
-    used: &'a [u8; PLACES],
-    len: usize,
-    x: usize,
-) -> bool
-    requires filled { Filled m source.now × Filled n target.now }
-    requires trial { Trial n image.now used.now len x × (len < m) }
-    ensures answer { result ≡ near_fits (product m source.now) (product n target.now) (take len image.now ++ x ∷ []) }
-{
-    let newest: usize = if len == 0 { 1 } else { len };
-    pair_fits(source, m, target, n, image, used, len, x, newest, len + 1)
-}
+impl Required {
+    ghost use Rattle.constraints.specs.InnerAttempt.{placed_in, longer};
 
-// Returns whether x is worth a test as the image of the next element: the constraints allow x, and the newest element and the next one fit as a pair. With an
-// x that is not worth a test, the list placed would not pass. This takes constant time. Only one pair is looked at, so that the compiler can put the function
-// into the loop of the search that calls it.
-pub fn may_pass<'a>(
-    source: &[u8],
-    m: usize,
-    target: &[u8],
-    n: usize,
-    image: &'a [u8; ORDER],
-    used: &'a [u8; PLACES],
-    forced: &[u8; PLACES],
-    owner: &[u8; PLACES],
-    len: usize,
-    x: usize,
-) -> bool
-    requires filled { Filled m source.now × Filled n target.now }
-    requires trial { Trial n image.now used.now len x × (len < m) × (member x (take len image.now) ≡ false) }
-    requires tracks { Tracks (product m source.now) (product n target.now) (take len image.now) len 0 forced.now owner.now × (passes (product m source.now) (product n target.now) (take len image.now) ≡ true) }
-    ensures answer { result ≡ ((permits (get_or forced.now (len + 1) 0) x && permits (get_or owner.now x 0) (len + 1)) && near_fits (product m source.now) (product n target.now) (take len image.now ++ x ∷ [])) }
-    ensures refused { result ≡ false → passes (product m source.now) (product n target.now) (take len image.now ++ x ∷ []) ≡ false }
-{
-    if !settled(forced, owner, len + 1, x) {
-        return false;
+    // Returns the constraints that require nothing.
+    pub fn nothing() -> Self
+        ensures nothing { (s t : Product) → Tracks s t [] 0 0 result.forced result.owner }
+    {
+        Required {
+            forced: [0u8; PLACES],
+            owner: [0u8; PLACES],
+        }
     }
-    near_fits(source, m, target, n, image, used, len, x)
-}
 
-// Returns whether the list placed passes with x as the image of the next element: the constraints allow x, and its new pairs fit.
-pub fn passes_with<'a>(
-    source: &[u8],
-    m: usize,
-    target: &[u8],
-    n: usize,
-    image: &'a [u8; ORDER],
-    used: &'a [u8; PLACES],
-    forced: &[u8; PLACES],
-    owner: &[u8; PLACES],
-    len: usize,
-    x: usize,
-) -> bool
-    requires filled { Filled m source.now × Filled n target.now }
-    requires trial { Trial n image.now used.now len x × (len < m) × (member x (take len image.now) ≡ false) }
-    requires tracks { Tracks (product m source.now) (product n target.now) (take len image.now) len 0 forced.now owner.now × (passes (product m source.now) (product n target.now) (take len image.now) ≡ true) }
-    ensures answer { result ≡ passes (product m source.now) (product n target.now) (take len image.now ++ x ∷ []) }
-{
-    if !settled(forced, owner, len + 1, x) {
-        return false;
+    // Notes the pair a, b: its product must go to the product of the images, and that target element is reserved for it.
+    #[tactic(auto, unfolding(semigroups::specs::Lists::at))]
+    fn note_pair(
+        &mut self,
+        source: &Table<'_>,
+        target: &Table<'_>,
+        image: &[u8; ORDER],
+        a: usize,
+        b: usize,
+    )
+        requires left { Element source.now.order a × Element target.now.order (at image.now a) }
+        requires right { Element source.now.order b × Element target.now.order (at image.now b) }
+        ensures forced { self.new.forced ≡ asked_at self.old.forced (times_of source.now a b) (image_product (times_of target.now) image.now a b) }
+        ensures owner { self.new.owner ≡ asked_at self.old.owner (image_product (times_of target.now) image.now a b) (times_of source.now a b) }
+    {
+        let c = source.times(a, b);
+        let z = target.times(image[a - 1] as usize, image[b - 1] as usize);
+        note(&mut self.forced, c, z);
+        note(&mut self.owner, z, c);
     }
-    new_fits(source, m, target, n, image, used, len, x)
+
+    // Notes the pairs that the newest element makes with each element placed, itself included. If no element is placed, nothing changes.
+    pub fn note_newest(
+        &mut self,
+        source: &Table<'_>,
+        target: &Table<'_>,
+        image: &[u8; ORDER],
+        len: usize,
+    )
+        requires within { len ≤ source.now.order }
+        requires images { (a : ℕ) → Element len a → Element target.now.order (at image.now a) }
+        requires tracks { Tracks (times_of source.now) (times_of target.now) (take len image.now) (len - 1) 0 self.old.forced self.old.owner }
+        ensures constraints { Tracks (times_of source.now) (times_of target.now) (take len image.now) len 0 self.new.forced self.new.owner }
+    {
+        for j in 1..len + 1 {
+            self.note_pair(source, target, image, j, len);
+            self.note_pair(source, target, image, len, j);
+        }
+    }
+
+    // Returns whether the constraints allow x as the image of element `next`.
+    fn settled(&self, next: usize, x: usize) -> bool
+        requires next { next ≤ largest_order }
+        requires image { x ≤ largest_order }
+        ensures answer { result ≡ (permits (get_or self.now.forced next 0) x && permits (get_or self.now.owner x 0) next) }
+    {
+        allowed(self.forced[next], x) && allowed(self.owner[x], next)
+    }
+
+    // Returns whether x is worth a test as the image of the next element: the constraints allow x, and the newest element and the next one fit as a pair. With
+    // an x that is not worth a test, the list placed would not pass. This takes constant time. Only one pair is looked at, so that the compiler can put the
+    // function into the loop of the search that calls it.
+    pub fn may_pass(&self, attempt: &Attempt<'_>) -> bool
+        requires fresh { member attempt.now.x (placed_in attempt.now) ≡ false }
+        requires tracks { Tracks (times_of attempt.now.source.now) (times_of attempt.now.target.now) (placed_in attempt.now) attempt.now.len 0 self.now.forced self.now.owner }
+        requires passed { passes (times_of attempt.now.source.now) (times_of attempt.now.target.now) (placed_in attempt.now) ≡ true }
+        ensures answer { result ≡ ((permits (get_or self.now.forced (attempt.now.len + 1) 0) attempt.now.x && permits (get_or self.now.owner attempt.now.x 0) (attempt.now.len + 1)) && near_fits (times_of attempt.now.source.now) (times_of attempt.now.target.now) (longer attempt.now)) }
+        ensures refused { result ≡ false → passes (times_of attempt.now.source.now) (times_of attempt.now.target.now) (longer attempt.now) ≡ false }
+    {
+        self.settled(attempt.len + 1, attempt.x) && attempt.near_fits()
+    }
+
+    // Returns whether the list placed passes with x as the image of the next element: the constraints allow x, and its new pairs fit.
+    pub fn passes_with(&self, attempt: &Attempt<'_>) -> bool
+        requires fresh { member attempt.now.x (placed_in attempt.now) ≡ false }
+        requires tracks { Tracks (times_of attempt.now.source.now) (times_of attempt.now.target.now) (placed_in attempt.now) attempt.now.len 0 self.now.forced self.now.owner }
+        requires passed { passes (times_of attempt.now.source.now) (times_of attempt.now.target.now) (placed_in attempt.now) ≡ true }
+        ensures answer { result ≡ passes (times_of attempt.now.source.now) (times_of attempt.now.target.now) (longer attempt.now) }
+    {
+        self.settled(attempt.len + 1, attempt.x) && attempt.new_fits()
+    }
 }

@@ -1,14 +1,14 @@
 -- Counting over the cells of a row, a column and the diagonal, which stand a step apart. Assumes nothing.
 use mathlib.Core.Path.{◌≡◌, ap, ap₂, ◌∙◌}
 use mathlib.Core.List.{List}
-use Prim.Native.Nat.{ℕ, suc, ◌+◌, ◌-◌, ◌*◌, ◌≤◌, ◌<◌}
+use Prim.Native.Nat.{ℕ, suc, ◌+◌, ◌-◌, ◌*◌, ◌≤◌}
 use native.Mathlib.Nat.{suc-mul, mul-le-mul_right, mul-suc}
 use native.Mathlib.Numerals.{add-one}
 use native.Mathlib.Omega.{arith}
 use lib.Dec.{eqb}
 use lib.ListN.{length, get_or, take, drop, length-drop}
 use lib.Seq.{get_or-drop, take_all}
-use Rattle.semigroups.specs.Tables.{product, Element, Filled}
+use Rattle.semigroups.specs.Tables.{product, Filled}
 use Rattle.semigroups.specs.Invariants.{diagonal_frequency, row_frequency, column_frequency, commuting}
 use Rattle.products.specs.InnerCounting.{occurrences, InRange}
 use Rattle.products.proofs.Counting.{counted, count_elements}
@@ -55,25 +55,12 @@ module _ (n : ℕ) (cells : List ℕ) where
 
 -- ---- the cells lie in the table
 
-module _ (n : ℕ) (cells : List ℕ) (t : Filled n cells) where
-  -- A row of n cells lies within the table.
-  row_below : (i : ℕ) → i < n → i * n + n ≤ length cells
-  row_below i h = let le : suc i * n ≤ n * n = mul-le-mul_right n h in let e = t.size in omega (arith, suc-mul i n)
-
-  pub row_within : (a : ℕ) → Element n a → (a - 1) * n + n ≤ length cells
-  row_within a h = row_below (a - 1) (omega arith)
-
-  pub row_in_range : (a : ℕ) → Element n a → InRange n 1 (drop ((a - 1) * n) cells)
-  row_in_range a h i u = let e = length-drop ((a - 1) * n) cells in omega (arith, row_within a h)
-
-  pub column_within : (a : ℕ) → Element n a → a - 1 < length cells
-  column_within a h = let r = row_below 0 (omega arith) in omega arith
-
-  pub column_in_range : (a : ℕ) → Element n a → InRange n n (drop (a - 1) cells)
-  column_in_range a h i u = let d = length-drop (a - 1) cells in omega (arith, row_below i u)
-
-  pub diagonal_in_range : InRange n (n + 1) cells
-  diagonal_in_range i u = let d = ap (λ (j : ℕ). i * j) (add-one n) ∙ mul-suc i n in omega (arith, row_below i u)
+pub diagonal_in_range : (n : ℕ) (cells : List ℕ) → Filled n cells → InRange n (n + 1) cells
+diagonal_in_range n cells t i u =
+    let le : suc i * n ≤ n * n = mul-le-mul_right n u in
+    let e = t.size in
+    let d = ap (λ (j : ℕ). i * j) (add-one n) ∙ mul-suc i n in
+    omega (arith, suc-mul i n)
 
 -- The part of a list that goes to its end is the list without its beginning.
 pub part_to_end : (l : List ℕ) (at : ℕ) → take (length l - at) (drop at l) ≡ drop at l

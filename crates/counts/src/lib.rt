@@ -4,13 +4,16 @@
 #![tactic(auto)]
 
 ghost use Rattle.std.specs.Prelude.{◌≡◌};
-ghost use Rattle.semigroups.specs.Tables.{product, Element, Filled};
+ghost use Rattle.semigroups.specs.Tables.{Element};
 ghost use Rattle.semigroups.specs.Invariants.{row_frequency, column_frequency, commuting};
+ghost use Rattle.products.specs.Tables.{times_of};
 ghost use Rattle.products.specs.InnerCounting.{occurrences, InRange};
-ghost use Rattle.counts.specs.InnerCounts.{AllLineCounts, AllCounts};
+ghost use Rattle.counts.specs.InnerCounts.{AllCounts};
 
+use products::Table;
 use products::limits::ORDER;
-use products::{frequencies, tally, times};
+
+pub mod old;
 
 // ---- one element
 
@@ -19,89 +22,40 @@ pub fn count(cells: &[u8], k: usize, step: usize, a: usize) -> usize
     requires { InRange k step cells.now }
     ensures answer { result ≡ occurrences a step k cells.now }
 {
-    let mut found: usize = 0;
-    let mut i: usize = 0;
-    while i < k {
-        if cells[i * step] as usize == a {
-            found += 1;
-        }
-        i += 1;
-    }
-    found
+    (0..k).filter(|i| cells[*i * step] as usize == a).count()
 }
 
 // Returns how often a stands in row a, the n cells that start at (a - 1) × n.
-pub fn row_frequency(cells: &[u8], n: usize, a: usize) -> usize
-    requires fact_1 { Filled n cells.now }
-    requires fact_2 { Element n a }
-    ensures answer { result ≡ row_frequency n (product n cells.now) a }
+pub fn row_frequency(table: &Table<'_>, a: usize) -> usize
+    requires { Element table.now.order a }
+    ensures answer { result ≡ row_frequency table.now.order (times_of table.now) a }
 {
-    let at = (a - 1) * n;
-    count(&cells[at..], n, 1, a)
+    let at = (a - 1) * table.order;
+    count(&table.cells[at..], table.order, 1, a)
 }
 
 // Returns how often a stands in column a, whose n cells stand n apart.
-pub fn column_frequency(cells: &[u8], n: usize, a: usize) -> usize
-    requires fact_1 { Filled n cells.now }
-    requires fact_2 { Element n a }
-    ensures answer { result ≡ column_frequency n (product n cells.now) a }
+pub fn column_frequency(table: &Table<'_>, a: usize) -> usize
+    requires { Element table.now.order a }
+    ensures answer { result ≡ column_frequency table.now.order (times_of table.now) a }
 {
     let at = a - 1;
-    count(&cells[at..], n, n, a)
+    count(&table.cells[at..], table.order, table.order, a)
 }
 
 // Returns how many b have a·b = b·a, by comparing row a with column a.
-pub fn commuting(cells: &[u8], n: usize, a: usize) -> usize
-    requires fact_1 { Filled n cells.now }
-    requires fact_2 { Element n a }
-    ensures answer { result ≡ commuting n (product n cells.now) a }
+pub fn commuting(table: &Table<'_>, a: usize) -> usize
+    requires { Element table.now.order a }
+    ensures answer { result ≡ commuting table.now.order (times_of table.now) a }
 {
-    let mut found: usize = 0;
-    let mut b: usize = 1;
-    while b <= n {
-        let product = times(cells, n, a, b);
-        let turned = times(cells, n, b, a);
-        if product == turned {
-            found += 1;
-        }
-        b += 1;
-    }
-    found
+    (1..table.order + 1)
+        .filter(|b| table.times(a, *b) == table.times(*b, a))
+        .count()
 }
 
 // ---- all elements
 
-// The counts of element a over its row and its column stand at place a - 1; places after the last element hold 0.
-#[derive(Clone, Copy)]
-struct LineCounts {
-    row: [u16; ORDER],
-    column: [u16; ORDER],
-    commuting: [u16; ORDER],
-}
-
-// Returns the counts of every element over its row and its column.
-fn line_counts(cells: &[u8], n: usize) -> LineCounts
-    requires { Filled n cells.now }
-    ensures answer { AllLineCounts n (product n cells.now) result }
-{
-    let mut row = [0u16; ORDER];
-    let mut column = [0u16; ORDER];
-    let mut commute = [0u16; ORDER];
-    let mut a: usize = 1;
-    while a <= n {
-        row[a - 1] = row_frequency(cells, n, a) as u16;
-        column[a - 1] = column_frequency(cells, n, a) as u16;
-        commute[a - 1] = commuting(cells, n, a) as u16;
-        a += 1;
-    }
-    LineCounts {
-        row,
-        column,
-        commuting: commute,
-    }
-}
-
-// Each count of element a stands at place a - 1; places after the last element hold 0.
+// Each count of element a stands at place a - 1; places after the last element hold 0. An array for each count, since a key takes them one after another.
 #[derive(Clone, Copy)]
 pub struct ElementCounts {
     pub frequency: [u16; ORDER],
@@ -112,19 +66,23 @@ pub struct ElementCounts {
 }
 
 // Returns the counts of every element's profile.
-pub fn all_counts(cells: &[u8], n: usize) -> ElementCounts
-    requires { Filled n cells.now }
-    ensures answer { AllCounts n (product n cells.now) result }
+pub fn all_counts(table: &Table<'_>) -> ElementCounts
+    ensures answer { AllCounts table.now.order (times_of table.now) result }
 {
-    let lines = line_counts(cells, n);
-    let row = lines.row;
-    let column = lines.column;
-    let commuting = lines.commuting;
+    let n = table.order;
+    let mut row = [0u16; ORDER];
+    let mut column = [0u16; ORDER];
+    let mut commute = [0u16; ORDER];
+    for a in 1..n + 1 {
+        row[a - 1] = row_frequency(table, a) as u16;
+        column[a - 1] = column_frequency(table, a) as u16;
+        commute[a - 1] = commuting(table, a) as u16;
+    }
     ElementCounts {
-        frequency: frequencies(cells, n),
-        diagonal: tally(cells, n, n, n + 1),
+        frequency: table.frequencies(),
+        diagonal: table.tally(n, n + 1),
         row,
         column,
-        commuting,
+        commuting: commute,
     }
 }

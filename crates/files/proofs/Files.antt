@@ -1,6 +1,6 @@
 -- The questions about a file in the code's order: those about loading, then the table's four, of which a loaded table passes 1 and 2.
 -- Assumes nothing.
-use mathlib.Core.Path.{◌≡◌, refl, ap, ap₂, sym, ◌∙◌, subst₂}
+use mathlib.Core.Path.{◌≡◌, ap, ap₂, sym, ◌∙◌, subst₂}
 use mathlib.Core.Logic.{◌↔◌}
 use mathlib.Core.List.{List, [], ◌∷◌}
 use mathlib.Core.Option.{Option, none, some}
@@ -24,12 +24,6 @@ use Rattle.rfc4180.proofs.Passing.{load_passes}
 use Rattle.rfc4180.proofs.Loading.{cells_length, load_passed}
 use Rattle.rfc4180.proofs.Accepted.{first_row}
 use Rattle.rfc4180.proofs.RoundTrips.{given_passed, loads_given}
-use denote.Enum.Declared.{tag_of}
-use types.Run.{OneOf, miss}
-use Rattle.answers.specs.Answers.{no_refusal, numbered_says}
-use Rattle.answers.specs.declared.Numbered.{Numbered}
-use Rattle.answers.specs.declared.Numbered.TheVariants.{Number, Refused as NumberRefused}
-use Rattle.answers.specs.contracts.Numbered as numbered
 use Rattle.files.specs.Files.{loaded_questions, file_refusal}
 use Rattle.files.specs.FilesLaws.{FilePasses}
 use Rattle.files.specs.Answers.{file_answer}
@@ -91,17 +85,6 @@ module _ (t cells : List ℕ) where
 
     pub loaded_room : {after : List ℕ} → after ≡ cells_after t cells → length after ≡ length cells → n * n ≤ length after
     loaded_room same kept = let l = loads_given t cells n e in let p = l.passes.room in let q = rw l.order at p in omega arith
-
--- ---- a verdict that is not the first case
-
--- The file is refused, and by which refusal.
-pub record Refused (v : Numbered) : Type 0 where
-  pub by : Refusal
-  pub says : numbered_says v ≡ refused by
-
-pub not_accepted : (v : Numbered) → OneOf (1 ∷ []) (tag_of numbered.the_type v) → Refused v
-not_accepted (Number n) h = absurd (miss (1 ∷ []) 0 tt h)
-not_accepted (NumberRefused r) h = record { by = no_refusal r; says = refl }
 
 -- ---- an accepted file
 

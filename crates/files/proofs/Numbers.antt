@@ -3,6 +3,7 @@ use mathlib.Core.Path.{◌≡◌, refl, sym, ap, subst, ◌∙◌}
 use mathlib.Core.Bool.{Bool, true, false}
 use mathlib.Core.List.{List, [], ◌∷◌}
 use mathlib.Core.Option.{Option, none, some, or_else}
+use Rattle.std.specs.Prelude.{Result}
 use Prim.Native.Nat.{ℕ, ◌*◌, ◌<◌}
 use native.Mathlib.Omega.{arith}
 use borrow.Author.Tests.{leb-true, le-leb}
@@ -14,7 +15,7 @@ use Rattle.semigroups.specs.Calls.{given_unless}
 use Rattle.semigroups.proofs.Lists.{all_at, member_mem}
 use Rattle.semigroups.proofs.Questions.{Listed, listed, listed_append}
 use Rattle.answers.specs.Answers.{numbered_says}
-use Rattle.answers.specs.declared.Numbered.{Numbered}
+use Rattle.answers.specs.declared.No.{No}
 use Rattle.products.proofs.Products.{square_small}
 use Rattle.rfc4180.specs.Tables.{order_of}
 use Rattle.rfc4180.specs.Questions.{size_questions, load_questions}
@@ -57,5 +58,5 @@ file_small t cells = go (file_refusal t (length cells)) refl
     go (some r) e = let h = leb-true r.number 99 (all_at (λ k. leb k 99) all_numbers refl r.number (member_mem r.number all_numbers (known r e))) in omega arith
 
 -- The number of the question that a file fails has at most two digits.
-pub failed_small : (t cells : List ℕ) (v : Numbered) {k : ℕ} → numbered_says v ≡ file_answer t cells → k ≡ failed_number (numbered_says v) → k < 100
+pub failed_small : (t cells : List ℕ) (v : Result ℕ No) {k : ℕ} → numbered_says v ≡ file_answer t cells → k ≡ failed_number (numbered_says v) → k < 100
 failed_small t cells v e q = subst (λ (x : ℕ). x < 100) (sym (q ∙ ap failed_number e)) (file_small t cells)

@@ -4,7 +4,7 @@ use mathlib.Core.Path.{◌≡◌, refl, sym, ap, ap₂, ◌∙◌, subst}
 use mathlib.Core.Logic.{◌⊎◌, inl, inr, ⊎_elim}
 use mathlib.Core.List.Memᴰ
 use mathlib.Core.List.{List, [], ◌∷◌, ◌++◌, flat_map, Memᴰ}
-use Prim.Native.Nat.{ℕ, ◌+◌, ◌≤◌, ◌<◌, zero-le}
+use Prim.Native.Nat.{ℕ, ◌+◌, ◌≤◌, ◌<◌}
 use native.Mathlib.Numerals.{add-one}
 use native.Mathlib.Omega.{arith}
 use lib.ListN.{length, take, get_or}
@@ -19,9 +19,9 @@ use Rattle.semigroups.proofs.Lists.{mem_take}
 use Rattle.semigroups.proofs.FlatMap.{mem_flat_map, flat_map_mem}
 use Rattle.semigroups.proofs.NoRepeats.{mem_place, place_mem}
 use Rattle.semigroups.proofs.Generated.{same_length, generated_inside, generated_no_repeats, generated_closed, generated_holds, generated_smallest}
-use Rattle.light.specs.InnerFound.{indicator, adding, adding_all, Found}
+use Rattle.light.specs.InnerFound.{indicator, adding, adding_all}
 use Rattle.light.proofs.Indicators.{indicator_same}
-use Rattle.light.proofs.Found.{adding_last, all_keeps, all_longer, all_place, all_holds, mem_all, found_list, found_again, found_at}
+use Rattle.light.proofs.Found.{adding_last, all_keeps, all_longer, all_place, all_holds, mem_all}
 use Rattle.generated.specs.InnerFound.{products_with, products_up_to}
 
 -- ---- products of one entry
@@ -71,26 +71,12 @@ module _ (s : Product) (r : List ℕ) (x : ℕ) where
   unfolding multiplied_to
   multiplied_longer i = all_longer r (products_with s x (take i r))
 
--- ---- the loops
+  pub multiplied_element : (n i : ℕ) → Inside n r → (j : ℕ) → j < length r → Element n (get_or (multiplied_to i) j 0)
+  multiplied_element n i inside j h = subst (Element n) (sym (multiplied_place i j h)) (inside (get_or r j 0) (place_mem 0 r j h))
 
--- Both products with an entry that was found are added.
-module _ (s : Product) (r : List ℕ) (x i : ℕ) {found marks : List ℕ} {count : ℕ} (f : Found (multiplied_to s r x i) found marks count) where
-  -- What was found before stands in its place.
-  pub still_at : (j : ℕ) → j < length r → get_or found j 0 ≡ get_or r j 0
-  still_at j h = found_at f j (let u = multiplied_longer s r x i in omega arith) ∙ multiplied_place s r x i j h
-
-  pub still_element : (n : ℕ) → Inside n r → (j : ℕ) → j < length r → Element n (get_or found j 0)
-  still_element n inside j h = subst (Element n) (sym (still_at j h)) (inside (get_or r j 0) (place_mem 0 r j h))
-
-  pub both_added : (xy yx : ℕ) {found' marks' found'' marks'' : List ℕ} {count' count'' : ℕ} → i < length r → xy ≡ s x (get_or found i 0) → yx ≡ s (get_or found i 0) x
-      → Found (adding (take count found) xy) found' marks' count' → Found (adding (take count' found') yx) found'' marks'' count'' → Found (multiplied_to s r x (i + 1)) found'' marks'' count''
-  both_added xy yx {found'} {marks'} {found''} {marks''} {count'} {count''} h p q g k =
-      subst (λ (a : List ℕ). Found a found'' marks'' count'')
-      (ap₂ adding (found_list g ∙ ap₂ adding (found_list f) p) q ∙ multiplied_next s r x i (get_or found i 0) h (still_at i h)) k
-
-  pub all_added : (place : ℕ) → x ≡ get_or r place 0 → i ≡ place + 1 → Found (adding_all r (products_up_to s r place)) found marks count
-  unfolding multiplied_to products_up_to
-  all_added place e q = subst (λ (a : List ℕ). Found a found marks count) (ap₂ (λ (y k : ℕ). adding_all r (products_with s y (take k r))) e q) f
+pub multiplied_all : (s : Product) (r : List ℕ) (place : ℕ) → multiplied_to s r (get_or r place 0) (place + 1) ≡ adding_all r (products_up_to s r place)
+unfolding multiplied_to products_up_to
+multiplied_all s r place = refl
 
 -- ---- until nothing is new
 
@@ -113,8 +99,8 @@ module _ (n : ℕ) (s : Product) (l : List ℕ) where
           multiplied = λ i j h k. absurd (let z : ⊥ = omega arith in z);
         }
 
-    pub growing_start : (i : ℕ) {found marks : List ℕ} {count : ℕ} → length l ≤ i → Found (adding_all [] (take i l)) found marks count → (0 ≤ count) × Found (take count found) found marks count × Growing 0 (take count found)
-    growing_start i h f = (zero-le, found_again f, subst (Growing 0) (sym (found_list f ∙ ap (adding_all []) (take_all i l h))) start)
+    pub growing_start : (i : ℕ) (r : List ℕ) → length l ≤ i → r ≡ adding_all [] (take i l) → Growing 0 r
+    growing_start i r h e = subst (Growing 0) (sym (e ∙ ap (adding_all []) (take_all i l h))) start
 
     module _ (place : ℕ) (r : List ℕ) (g : Growing place r) (h : place < length r) where
       abbrev more : List ℕ
@@ -156,10 +142,8 @@ module _ (n : ℕ) (s : Product) (l : List ℕ) where
             multiplied = λ i j hi hj. Memᴰ.cast (ap₂ s (all_place r more i (omega arith)) (all_place r more j (omega arith))) (new_products i j hi hj);
           }
 
-      pub growing_next : {found marks : List ℕ} {count : ℕ} → Found (adding_all r more) found marks count → (place + 1 ≤ count) × Found (take count found) found marks count × Growing (place + 1) (take count found)
-      growing_next f =
-          let c = f.counted in
-          (omega (arith, all_longer r more), found_again f, subst (Growing (place + 1)) (sym (found_list f)) next)
+      pub growing_next : (q : List ℕ) → q ≡ adding_all r more → (place + 1 ≤ length q) × Growing (place + 1) q
+      growing_next q e = (omega (arith, ap length e, all_longer r more), subst (Growing (place + 1)) (sym e) next)
 
     module _ (place : ℕ) (r : List ℕ) (g : Growing place r) (h : length r ≤ place) where
       all_found : (x : ℕ) → Memᴰ x (generated n s l) → Memᴰ x r

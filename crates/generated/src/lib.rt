@@ -3,52 +3,38 @@
 
 #![tactic(auto)]
 
-ghost use Rattle.std.specs.Prelude.{◌≡◌, ◌<◌, length, take};
+ghost use Rattle.std.specs.Prelude.{◌≡◌, ◌<◌, length};
 ghost use Rattle.std.proofs.Math.Option.{map};
-ghost use Rattle.semigroups.specs.Tables.{largest_order, Filled, product};
+ghost use Rattle.semigroups.specs.Tables.{largest_order};
 ghost use Rattle.semigroups.specs.InnerQuestions.{no};
 ghost use Rattle.semigroups.specs.InnerGenerated.{Inside};
 ghost use Rattle.semigroups.specs.Generated.{generated};
 ghost use Rattle.semigroups.specs.Light.{bad_triple_through, generators_refusal};
-ghost use Rattle.answers.specs.Answers.{verdict_refusal, refusal_numbers};
-ghost use Rattle.light.specs.InnerFound.{indicator, adding_all, Found};
+ghost use Rattle.semigroups.specs.Results.{refusal_in};
+ghost use Rattle.answers.specs.Answers.{fault_refusal, refusal_numbers};
+ghost use Rattle.products.specs.Tables.{times_of};
+ghost use Rattle.light.specs.InnerFound.{indicator, adding_all};
 ghost use Rattle.generated.specs.InnerFound.{products_up_to};
-ghost use Rattle.generated.specs.Answers.{generators_fault_refusal, generators_verdict_refusal};
+ghost use Rattle.generated.specs.Answers.{generators_fault_refusal};
 
-use light::add;
-use tables::limits::{ORDER, PLACES};
-use tables::{Fault, Place, Refusal, Verdict};
+use light::FoundElements;
+use tables::limits::PLACES;
+use tables::{Fault, Refusal, Table};
 
 // ---- what a list generates
 
-// Adds to `found`, and marks in `marks`, the products of the element at `place` with itself and with each one before it, from both sides. Returns how many
-// elements are found in all.
-fn multiply(
-    cells: &[u8],
-    n: usize,
-    found: &mut [u8; ORDER],
-    marks: &mut [u8; PLACES],
-    count: usize,
-    place: usize,
-) -> usize
-    requires fact_1 { Filled n cells.now }
-    requires fact_2 { Found (take count found.old) found.old marks.old count }
-    requires fact_3 { Inside n (take count found.old) }
-    requires fact_4 { place < count }
-    ensures found { Found (adding_all (take count found.old) (products_up_to (product n cells.now) (take count found.old) place)) found.new marks.new result }
+// Adds to the elements found the products of the element at `place` with itself and with each one before it, from both sides.
+fn multiply(table: &Table<'_>, found: &mut FoundElements, place: usize)
+    requires inside { Inside table.now.order found.old }
+    requires place { place < length found.old }
+    ensures found { found.new ≡ adding_all found.old (products_up_to (times_of table.now) found.old place) }
 {
-    let x = found[place] as usize;
-    let mut known = count;
-    let mut i: usize = 0;
-    while i <= place {
-        let y = found[i] as usize;
-        let xy = tables::times(cells, n, x, y);
-        known = add(found, marks, known, xy);
-        let yx = tables::times(cells, n, y, x);
-        known = add(found, marks, known, yx);
-        i += 1;
+    let x = found.at(place);
+    for i in 0..place + 1 {
+        let y = found.at(i);
+        found.add(table.times(x, y));
+        found.add(table.times(y, x));
     }
-    known
 }
 
 // The elements that a list generates: place x is 1 where x is one of them, else 0; and how many there are.
@@ -59,27 +45,25 @@ pub struct Generated {
 }
 
 // Returns what the list generates. Each element found is multiplied with itself and with all that were found before it: n × (n + 1) products at most.
-pub fn generate(cells: &[u8], n: usize, list: &[u8]) -> Generated
-    requires fact_1 { Filled n cells.now }
-    requires fact_2 { Inside n list.now }
-    ensures marks { result.marks ≡ indicator (generated n (product n cells.now) list.now) }
-    ensures count { result.count ≡ length (generated n (product n cells.now) list.now) }
+pub fn generate(table: &Table<'_>, list: &[u8]) -> Generated
+    requires inside { Inside table.now.order list.now }
+    ensures marks { result.marks ≡ indicator (generated table.now.order (times_of table.now) list.now) }
+    ensures count { result.count ≡ length (generated table.now.order (times_of table.now) list.now) }
 {
-    let mut found = [0u8; ORDER];
-    let mut marks = [0u8; PLACES];
-    let mut count: usize = 0;
-    let mut i: usize = 0;
-    while i < list.len() {
-        let x = list[i] as usize;
-        count = add(&mut found, &mut marks, count, x);
-        i += 1;
+    let mut found = FoundElements::new();
+    for x in list {
+        found.add(*x as usize);
     }
     let mut place: usize = 0;
-    while place < count {
-        count = multiply(cells, n, &mut found, &mut marks, count, place);
+    // A while: what is found grows as the loop runs.
+    while place < found.len() {
+        multiply(table, &mut found, place);
         place += 1;
     }
-    Generated { marks, count }
+    Generated {
+        marks: found.marks(),
+        count: found.len(),
+    }
 }
 
 // ---- the shorter check
@@ -90,6 +74,15 @@ pub enum GeneratorsFault {
     Table(Fault),
     Entry,
     Elements,
+}
+
+// A fault of the table.
+impl From<Fault> for GeneratorsFault {
+    ghost from_gives = { λ fault r. generators_fault_refusal r ≡ fault_refusal fault };
+
+    fn from(fault: Fault) -> Self {
+        GeneratorsFault::Table(fault)
+    }
 }
 
 impl GeneratorsFault {
@@ -105,75 +98,52 @@ impl GeneratorsFault {
     }
 }
 
-// The answer of the shorter check.
-#[derive(Clone, Copy)]
-pub enum GeneratorsVerdict {
-    Accepted,
-    Refused(GeneratorsFault),
-}
-
 // Returns which elements the list holds: place x is 1 where x stands in it, else 0.
 fn marked(list: &[u8]) -> [u8; PLACES]
     requires { Inside largest_order list.now }
     ensures answer { result ≡ indicator list.now }
 {
     let mut marks = [0u8; PLACES];
-    let mut i: usize = 0;
-    while i < list.len() {
-        let x = list[i] as usize;
-        marks[x] = 1;
-        i += 1;
+    for x in list {
+        marks[*x as usize] = 1;
     }
     marks
 }
 
 // Asks question 4 only of the triples with their middle on the list; for k different entries these are k × n × n triples. Returns the first that fails.
-fn associative_through(cells: &[u8], n: usize, list: &[u8]) -> Verdict
-    requires fact_1 { Filled n cells.now }
-    requires fact_2 { Inside n list.now }
-    ensures answer { verdict_refusal result ≡ map (λ l. no 4 l) (bad_triple_through n (product n cells.now) list.now) }
+fn associative_through(table: &Table<'_>, list: &[u8]) -> Result<(), Fault>
+    requires inside { Inside table.now.order list.now }
+    ensures answer { refusal_in fault_refusal result ≡ map (λ l. no 4 l) (bad_triple_through table.now.order (times_of table.now) list.now) }
 {
+    let n = table.order;
     let middles = marked(list);
-    let mut verdict = Verdict::Accepted;
-    let mut i: usize = 1;
-    'triples: while i <= n {
-        let mut j: usize = 1;
-        while j <= n {
+    let mut answer = Ok(());
+    'triples: for i in 1..n + 1 {
+        for j in 1..n + 1 {
             let listed = middles[j] != 0;
             if listed {
-                let third = products::failing_third(cells, n, i, j);
-                if let Place::At(k) = third {
-                    verdict = Verdict::Refused(Fault::Triple(i, j, k));
+                if let Some(k) = table.failing_third(i, j) {
+                    answer = Err(Fault::Triple(i, j, k));
                     break 'triples;
                 }
             }
-            j += 1;
         }
-        i += 1;
     }
-    verdict
+    answer
 }
 
 // Asks questions 1 to 3; then 50, is every entry of the list 1 to n? then 51, does the list generate all n elements? then 4, of the triples with their middle
 // on the list. Returns the first that fails.
-pub fn check(cells: &[u8], n: usize, generators: &[u8]) -> GeneratorsVerdict
-    ensures answer { generators_verdict_refusal result ≡ generators_refusal n cells.now generators.now }
+pub fn check(cells: &[u8], n: usize, generators: &[u8]) -> Result<(), GeneratorsFault>
+    ensures answer { refusal_in generators_fault_refusal result ≡ generators_refusal n cells.now generators.now }
 {
-    let table = tables::check_cells(cells, n);
-    if let Verdict::Refused(fault) = table {
-        return GeneratorsVerdict::Refused(GeneratorsFault::Table(fault));
+    let table = tables::check_cells(cells, n)?;
+    if tables::outside(generators, n).is_some() {
+        return Err(GeneratorsFault::Entry);
     }
-    let entry = tables::outside(generators, n);
-    if let Place::At(_) = entry {
-        return GeneratorsVerdict::Refused(GeneratorsFault::Entry);
+    if generate(&table, generators).count != n {
+        return Err(GeneratorsFault::Elements);
     }
-    let generated = generate(cells, n, generators);
-    let count = generated.count;
-    if count != n {
-        return GeneratorsVerdict::Refused(GeneratorsFault::Elements);
-    }
-    match associative_through(cells, n, generators) {
-        Verdict::Refused(fault) => GeneratorsVerdict::Refused(GeneratorsFault::Table(fault)),
-        Verdict::Accepted => GeneratorsVerdict::Accepted,
-    }
+    associative_through(&table, generators)?;
+    Ok(())
 }

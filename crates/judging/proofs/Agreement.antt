@@ -1,12 +1,10 @@
 -- When two answers about tables agree. Assumes nothing.
-use mathlib.Core.Path.{◌≡◌}
-use mathlib.Core.Bool.{true}
-use borrow.Author.Tests.{eq-eqb}
+use Rattle.std.proofs.Common.{◌≡◌, refl, true, eq-eqb}
+use Rattle.std.specs.Prelude.{Result, Ok, Err}
 use Rattle.plain.specs.declared.Said.{Said}
 use Rattle.judging.specs.InnerSaid.{same_said}
 
 -- What is said agrees with itself.
-pub same_said_itself : (a b : Said) → a ≡ b → same_said a b ≡ true
-unfolding same_said
-same_said_itself a b e =
-    rw (eq-eqb a.number b.number (cc), eq-eqb a.first b.first (cc), eq-eqb a.second b.second (cc), eq-eqb a.third b.third (cc))
+pub same_said_itself : (a : Result (Unit {0}) Said) → same_said a a ≡ true
+same_said_itself (Ok u) = refl
+same_said_itself (Err a) = rw (eq-eqb a.number a.number refl, eq-eqb a.first a.first refl, eq-eqb a.second a.second refl, eq-eqb a.third a.third refl)

@@ -1,10 +1,10 @@
 -- Counting comparisons that agree. Assumes nothing.
 use mathlib.Core.Path.{◌≡◌, refl, ap, sym, ◌∙◌}
-use mathlib.Core.Bool.{Bool, true, false}
+use mathlib.Core.Bool.{Bool, true}
 use Prim.Native.Nat.{ℕ, zero, suc, ◌+◌}
 use native.Mathlib.Omega.{arith}
 use Rattle.judging.specs.declared.tally.Tally.{Tally}
-use Rattle.judging.specs.InnerTally.{up, counted, agreed}
+use Rattle.judging.specs.InnerTally.{counted, agreed}
 
 pub agreed_counted : (k : ℕ) (t : Tally) → agreed k (counted t true) ≡ agreed (suc k) t
 unfolding agreed
@@ -22,12 +22,6 @@ unfolding agreed
 agreed_next k t same e h =
     let z : k + 1 ≡ suc k = omega arith in
     e ∙ ap (counted (agreed k t)) h ∙ ap (λ (x : ℕ). agreed x t) (sym z)
-
-pub counted_same : (t : Tally) (same : Bool) (k : ℕ) → same ≡ true → k ≡ up t.agreeing → record { agreeing = k; differing = t.differing } ≡ counted t same
-counted_same t same k h e = rw (h, e)
-
-pub counted_other : (t : Tally) (same : Bool) (k : ℕ) → same ≡ false → k ≡ up t.differing → record { agreeing = t.agreeing; differing = k } ≡ counted t same
-counted_other t same k h e = rw (h, e)
 
 -- Two more comparisons agree, after k that agree.
 pub two_more : (b : Tally) (k : ℕ) {t r : Tally} (one two : Bool) → t ≡ agreed k b → one ≡ true → two ≡ true → r ≡ counted (counted t one) two → r ≡ agreed (suc (suc k)) b

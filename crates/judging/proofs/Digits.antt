@@ -6,7 +6,7 @@ use Prim.Native.Nat.{ℕ, zero, suc, ◌+◌, ◌*◌, ◌/◌, ◌%◌, ◌≤�
 use native.Mathlib.Omega.{arith}
 use borrow.Author.Tests.{lt-ltb, le-ltb}
 use lib.Dec.{ltb}
-use lib.ListN.{length, drop, set, length-append}
+use lib.ListN.{length, set, length-append}
 use lib.Seq.{sets}
 use Rattle.rfc4180.specs.Decimals.{numeral_within}
 use Rattle.rfc4180.proofs.Writing.{write_first, write_last, sets_overwritten}
@@ -87,6 +87,3 @@ line_written before group t small room q₁ e₁ q₂ e₂ q₃ e₃ q₄ e₄ q
     let all = write_last w₆ refl in
     let short = line_short group t small in
     (let r = all.1 in omega arith, all.0 ∙ sets_overwritten before (tally_line group t) (omega arith))
-
-pub line_within : (group : List ℕ) (t : Tally) (before : List ℕ) {p : ℕ} {out : List ℕ} → p ≡ length (tally_line group t) → out ≡ overwritten (tally_line group t) before → p ≤ length out
-line_within group t before q e = omega (arith, ap length e ∙ length-append (tally_line group t) (drop (length (tally_line group t)) before))

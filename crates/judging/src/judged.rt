@@ -5,7 +5,7 @@ ghost use Rattle.plain.specs.InnerSaid.{said_of};
 ghost use Rattle.judging.specs.InnerSaid.{same_said};
 ghost use Rattle.judging.specs.InnerTally.{counted};
 
-use crate::said::{said_of, same_said};
+use crate::said::said_of;
 use crate::tally::{Tally, counted};
 use plain::{Said, judge};
 
@@ -14,14 +14,13 @@ use plain::{Said, judge};
 pub fn compared(cells: &[u8], n: usize, tally: Tally) -> Tally
     ensures same { result ≡ counted tally true }
 {
-    let said = said_of(tables::check(cells, n));
-    counted(tally, same_said(said, judge(cells, n)))
+    counted(tally, said_of(tables::check(cells, n)) == judge(cells, n))
 }
 
 // Compares the answer to the four questions with `said`, and then with the answer of the second search. Returns the tally.
-pub fn judged(cells: &[u8], n: usize, said: Said, tally: Tally) -> Tally
+pub fn judged(cells: &[u8], n: usize, said: Result<(), Said>, tally: Tally) -> Tally
     ensures answer { result ≡ counted (counted tally (same_said (said_of (table_refusal n cells.now)) said)) true }
 {
-    let answered = counted(tally, same_said(said_of(tables::check(cells, n)), said));
+    let answered = counted(tally, said_of(tables::check(cells, n)) == said);
     compared(cells, n, answered)
 }

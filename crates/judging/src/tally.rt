@@ -2,7 +2,7 @@
 ghost use Rattle.std.specs.Prelude.{◌≡◌, ◌+◌, ◌≤◌, length};
 ghost use Rattle.std.proofs.lemmas.List.Edits.{sets};
 ghost use Rattle.semigroups.specs.Calls.{overwritten};
-ghost use Rattle.judging.specs.InnerTally.{empty, up, counted, decimal, tally_line};
+ghost use Rattle.judging.specs.InnerTally.{empty, counted, decimal, tally_line};
 
 use lines::put_bytes;
 
@@ -22,29 +22,21 @@ pub fn start() -> Tally
     }
 }
 
-// Returns the count plus one. A count that has reached its largest value stays as it is.
-fn up(k: u64) -> u64
-    ensures answer { result ≡ up k }
-{
-    if k == 18446744073709551615 {
-        return k;
-    }
-    k + 1
-}
-
-// Returns the tally after one more comparison.
+// Returns the tally after one more comparison. A count that has reached its largest value stays as it is.
+#[tactic(auto, unfolding(crate::specs::InnerTally::up))]
 pub fn counted(tally: Tally, same: bool) -> Tally
     ensures answer { result ≡ counted tally same }
 {
     if same {
-        return Tally {
-            agreeing: up(tally.agreeing),
-            differing: tally.differing,
-        };
-    }
-    Tally {
-        agreeing: tally.agreeing,
-        differing: up(tally.differing),
+        Tally {
+            agreeing: tally.agreeing.saturating_add(1),
+            ..tally
+        }
+    } else {
+        Tally {
+            differing: tally.differing.saturating_add(1),
+            ..tally
+        }
     }
 }
 

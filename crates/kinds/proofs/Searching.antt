@@ -11,15 +11,15 @@ use Rattle.semigroups.specs.Maps.{Kind, Ask, Sought, sought}
 use Rattle.semigroups.specs.Candidates.{candidate}
 use Rattle.semigroups.specs.Trials.{Work}
 use Rattle.semigroups.proofs.Calls.{found_ne_nothing}
-use Rattle.backtrack.specs.declared.Outcome.{Outcome}
-use Rattle.backtrack.specs.InnerState.{bounded, outcome_of}
-use Rattle.kinds.specs.declared.Limit.{Limit}
-use Rattle.kinds.specs.declared.Limit.TheVariants.{Unlimited}
+use Rattle.std.specs.Prelude.{None, Option as Optional, Result, is_some}
+use Rattle.backtrack.specs.declared.Ended.{Ended}
+use Rattle.backtrack.specs.declared.Stopped.{Stopped}
+use Rattle.backtrack.specs.InnerState.{bounded, ended_of}
 use Rattle.kinds.specs.Answers.{sought_if}
 use Rattle.calls.specs.Calls.{Lent, Called, called, answer_of, leaving, marks_of}
 use Rattle.calls.specs.Allowed.{allowed_candidate}
 use Rattle.calls.specs.Among.{answer_among}
-use Rattle.kinds.specs.InnerSearching.{answered, remainder_under, map_in, searched, work_of}
+use Rattle.kinds.specs.InnerSearching.{answered, remainder_under, map_in, searched, work_of, image_in}
 use Rattle.kinds.specs.InnerAmong.{leaving_among, answered_among}
 use Rattle.kinds.proofs.Marked.{unlimited_says}
 use Rattle.kinds.proofs.Works.{work_finds}
@@ -28,16 +28,16 @@ use Rattle.kinds.proofs.Works.{work_finds}
 pub parts : {A : Type 0} {says : Answer A} {bytes scratch : List ℕ} {c : Called (Answer A)} → called says bytes scratch ≡ c → (says ≡ c.says) × ((bytes ≡ c.map_bytes) × (scratch ≡ c.scratch))
 parts {A = A} e = (ap (λ (c : Called (Answer A)). c.says) e, (ap (λ (c : Called (Answer A)). c.map_bytes) e, ap (λ (c : Called (Answer A)). c.scratch) e))
 
-module _ (kind : Kind) (next : Bool) (limit : Limit) (l : Lent) where
+module _ (kind : Kind) (next : Bool) (limit : Optional ℕ) (l : Lent) where
   -- What a search says and leaves, from the outcome, the map and the marks, by its work.
-  pub as_searched : (r : Outcome) {bytes scratch : List ℕ} (w : Work) → work_of kind (bounded next l.map_bytes) l.m l.source l.n l.target ≡ w
-      → r ≡ outcome_of (remainder_under limit w) → bytes ≡ get_or (map_in (remainder_under limit w)) l.map_bytes
+  pub as_searched : (r : Result Ended Stopped) {bytes scratch : List ℕ} (w : Work) → work_of kind (bounded next l.map_bytes) l.m l.source l.n l.target ≡ w
+      → r ≡ ended_of (remainder_under limit w) → bytes ≡ get_or (map_in (remainder_under limit w)) l.map_bytes
       → scratch ≡ scratch_after l.m l.n (candidate kind l.m (product l.m l.source) l.n (product l.n l.target)) l.scratch
       → called (gives r) bytes scratch ≡ searched kind next limit l
   unfolding searched scratch_after
   as_searched r {bytes = bytes} {scratch = scratch} w e f g h =
-      let made : called (gives r) bytes scratch ≡ leaving (marks_of kind l) l none (outcome_of (remainder_under limit w)) (map_in (remainder_under limit w)) = cc in
-      made ∙ ap (λ (w : Work). leaving (marks_of kind l) l none (outcome_of (remainder_under limit w)) (map_in (remainder_under limit w))) (sym e)
+      let made : called (gives r) bytes scratch ≡ leaving (marks_of kind l) l none (ended_of (remainder_under limit w)) (map_in (remainder_under limit w)) = cc in
+      made ∙ ap (λ (w : Work). leaving (marks_of kind l) l none (ended_of (remainder_under limit w)) (map_in (remainder_under limit w))) (sym e)
 
 -- ---- without a limit
 
@@ -46,15 +46,15 @@ given e = cc
 
 module _ (kind : Kind) (next : Bool) (l : Lent) (a : Accepted l.m l.source) (b : Accepted l.n l.target) where
   -- What a search without a limit finds is the map asked for.
-  pub as_answered : (r : Outcome) {bytes scratch : List ℕ} → called (gives r) bytes scratch ≡ searched kind next Unlimited l
-      → called (gives (sought_if r.ok)) bytes scratch ≡ answered kind (bounded next l.map_bytes) l
+  pub as_answered : (r : Result Ended Stopped) {bytes scratch : List ℕ} → called (gives r) bytes scratch ≡ searched kind next None l
+      → called (gives (sought_if (is_some (image_in r)))) bytes scratch ≡ answered kind (bounded next l.map_bytes) l
   unfolding searched answered
   as_answered r {bytes = bytes} {scratch = scratch} e =
       let w = work_of kind (bounded next l.map_bytes) l.m l.source l.n l.target in
-      let says = unlimited_says w r (given (ap (λ (c : Called (Answer Outcome)). c.says) e)) in
-      let map = ap (λ (c : Called (Answer Outcome)). c.map_bytes) e in
-      let marks = ap (λ (c : Called (Answer Outcome)). c.scratch) e in
-      let made : called (gives (sought_if r.ok)) bytes scratch ≡ leaving (marks_of kind l) l none (sought w.found) w.found = cc in
+      let says = unlimited_says w r (given (ap (λ (c : Called (Answer (Result Ended Stopped))). c.says) e)) in
+      let map = ap (λ (c : Called (Answer (Result Ended Stopped))). c.map_bytes) e in
+      let marks = ap (λ (c : Called (Answer (Result Ended Stopped))). c.scratch) e in
+      let made : called (gives (sought_if (is_some (image_in r)))) bytes scratch ≡ leaving (marks_of kind l) l none (sought w.found) w.found = cc in
       made ∙ ap (λ (o : Option (List ℕ)). leaving (marks_of kind l) l none (sought o) o) (work_finds kind (bounded next l.map_bytes) l.m l.source l.n l.target a b)
 
 module _ (kind : Kind) (l : Lent) (ask : Ask) where

@@ -1,4 +1,5 @@
 -- A call for reversed isomorphisms is one for isomorphisms onto the turned target: it says the same and leaves the same bytes. Assumes nothing.
+use Rattle.std.specs.Prelude.{Option as Optional}
 use mathlib.Core.Path.{◌≡◌, sym, ap, ap₂, subst, ◌∙◌}
 use mathlib.Core.Bool.{Bool}
 use mathlib.Core.List.{List}
@@ -15,18 +16,17 @@ use Rattle.semigroups.specs.Trials.{Work}
 use Rattle.semigroups.specs.Candidates.{candidate}
 use Rattle.semigroups.proofs.Turned.{turned_front, turned_accepted}
 use Rattle.candidates.proofs.Marks.{scratch_same}
-use Rattle.backtrack.specs.InnerState.{bounded, outcome_of}
-use Rattle.kinds.specs.declared.Limit.{Limit}
+use Rattle.backtrack.specs.InnerState.{bounded, ended_of}
 use Rattle.calls.specs.Calls.{lend, called}
 use Rattle.kinds.specs.InnerSearching.{remainder_under, map_in, searched}
 use Rattle.kinds.proofs.Works.{same_candidate, turned_work}
 
-pub turned_call : (next : Bool) (limit : Limit) (m : ℕ) (source : List ℕ) (n : ℕ) (target bytes scratch : List ℕ) → Accepted n target
+pub turned_call : (next : Bool) (limit : Optional ℕ) (m : ℕ) (source : List ℕ) (n : ℕ) (target bytes scratch : List ℕ) → Accepted n target
     → searched isomorphisms next limit (lend source m (turned_cells n target) n bytes scratch) ≡ searched reversed next limit (lend source m target n bytes scratch)
 unfolding searched scratch_after
 turned_call next limit m source n target bytes scratch accepted =
     let s = product m source in
-    ap₂ (λ (w : Work) (b : List ℕ). called (gives (outcome_of (remainder_under limit w))) (get_or (map_in (remainder_under limit w)) bytes) b) (turned_work m source n target accepted (bounded next bytes))
+    ap₂ (λ (w : Work) (b : List ℕ). called (gives (ended_of (remainder_under limit w))) (get_or (map_in (remainder_under limit w)) bytes) b) (turned_work m source n target accepted (bounded next bytes))
     (scratch_same m n (candidate isomorphisms m s n (product n (turned_cells n target))) (candidate reversed m s n (product n target)) (same_candidate m source n target accepted) scratch)
 
 -- ---- the room that the turned target is written to

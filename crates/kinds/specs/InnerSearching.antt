@@ -1,6 +1,6 @@
 -- What a search returns and leaves once every question has passed, with a limit or without. No contract of an entry point cites this.
 -- Assumes nothing.
-use Rattle.std.specs.Prelude.{Bool, cond, List, [], ℕ}
+use Rattle.std.specs.Prelude.{Bool, cond, List, [], ℕ, take, Option as Optional, None, Some, Result, Ok, Err}
 use Rattle.std.proofs.Math.Option.{none, Option}
 use Rattle.semigroups.specs.Calls.{Answer}
 use Rattle.semigroups.specs.Maps.{Kind, Ask, Sought, sought}
@@ -9,13 +9,12 @@ use Rattle.semigroups.specs.Tables.{product}
 use Rattle.semigroups.specs.Scratch.{marked}
 use Rattle.semigroups.specs.Trials.{Work, work}
 use Rattle.semigroups.specs.InnerTrials.{counted}
-use Rattle.backtrack.specs.declared.Outcome.{Outcome}
-use Rattle.backtrack.specs.InnerState.{bounded, Remainder, exhausted, remaining, within, outcome_of}
+use Rattle.backtrack.specs.declared.Ended.{Ended}
+use Rattle.backtrack.specs.declared.Stopped.{Stopped}
+use Rattle.backtrack.specs.InnerState.{bounded, Remainder, exhausted, remaining, within, ended_of}
 use Rattle.calls.specs.Calls.{Lent, Called, leaving, answer_of, marks_of}
 use Rattle.calls.specs.Kinds.{order_fits}
 use Rattle.calls.specs.Limited.{read_by}
-use Rattle.kinds.specs.declared.Limit.{Limit}
-use Rattle.kinds.specs.declared.Limit.TheVariants.{Unlimited, Trials}
 
 -- What a call says and leaves once every question has passed.
 unfoldable pub answered : Kind → Ask → Lent → Called (Answer Sought)
@@ -30,14 +29,14 @@ work_of kind ask m source n target =
     cond (order_fits kind m n) searched (work none 0)
 
 -- How many trials a limit allows; 0 without a limit, since trials are not counted then.
-abbrev pub trials_in : Limit → ℕ
-trials_in Unlimited = 0
-trials_in (Trials limit) = limit
+abbrev pub trials_in : Optional ℕ → ℕ
+trials_in None = 0
+trials_in (Some limit) = limit
 
 -- What becomes of the work under a limit; without a limit the trials are not counted, and none is left.
-abbrev pub remainder_under : Limit → Work → Remainder
-remainder_under Unlimited w = remaining 0 w.found
-remainder_under (Trials limit) w = within limit w
+abbrev pub remainder_under : Optional ℕ → Work → Remainder
+remainder_under None w = remaining 0 w.found
+remainder_under (Some limit) w = within limit w
 
 -- The map that is found, or none.
 abbrev pub map_in : Remainder → Option (List ℕ)
@@ -45,11 +44,21 @@ map_in exhausted = none
 map_in (remaining left o) = o
 
 -- The result of a search between accepted tables, for the first map or, with `next`, for the next one after the bytes of the map buffer.
-unfoldable pub searched : Kind → Bool → Limit → Lent → Called (Answer Outcome)
+unfoldable pub searched : Kind → Bool → Optional ℕ → Lent → Called (Answer (Result Ended Stopped))
 searched kind next limit l =
     let r = remainder_under limit (work_of kind (bounded next l.map_bytes) l.m l.source l.n l.target) in
-    leaving (marks_of kind l) l none (outcome_of r) (map_in r)
+    leaving (marks_of kind l) l none (ended_of r) (map_in r)
 
 -- The work of the search over the marks in scratch.
 abbrev pub marked_work : Bool → ℕ → List ℕ → ℕ → List ℕ → List ℕ → List ℕ → Work
 marked_work next m source n target bytes scratch = counted (product m source) (product n target) (marked n scratch) (bounded next bytes) n m []
+
+-- The images that a search found, as the code holds them.
+abbrev pub image_in : Result Ended Stopped → Optional (List ℕ)
+image_in (Ok e) = e.map
+image_in (Err e) = None
+
+-- What the map buffer holds once the m images that were found, if any, are written to it.
+abbrev pub put : ℕ → Optional (List ℕ) → List ℕ → List ℕ
+put m (Some image) bytes = take m image
+put m None bytes = bytes

@@ -11,15 +11,16 @@ ghost use Rattle.semigroups.specs.InnerTables.{turned_cells};
 ghost use Rattle.semigroups.specs.Scratch.{scratch_size};
 ghost use Rattle.semigroups.specs.Calls.{gives, overwritten};
 ghost use Rattle.semigroups.specs.Maps.{reversed};
-ghost use Rattle.backtrack.specs.InnerState.{bounded, found_in, outcome_of};
+ghost use Rattle.backtrack.specs.InnerState.{bounded, padded, ended_of};
 ghost use Rattle.kinds.specs.Answers.{kind_of, sought_if};
-ghost use Rattle.kinds.specs.InnerSearching.{answered, trials_in, remainder_under, searched, marked_work};
+ghost use Rattle.kinds.specs.InnerSearching.{answered, trials_in, remainder_under, searched, marked_work, image_in, put};
 ghost use Rattle.calls.specs.Kinds.{order_fits};
 ghost use Rattle.calls.specs.Calls.{lend, called};
 ghost use Rattle.kinds.specs.InnerAmong.{answered_among};
 
-use backtrack::Outcome;
-use tables::limits::CELLS;
+use backtrack::{Ended, Search, Stopped};
+use products::Table;
+use products::limits::{CELLS, ORDER};
 
 // The kinds of maps.
 #[derive(Clone, Copy)]
@@ -29,56 +30,71 @@ pub enum Kind {
     Reversed,
 }
 
-// How many trials a search may take. A trial is one candidate, unused so far, tested as the image of the next element.
-#[derive(Clone, Copy)]
-pub enum Limit {
-    Unlimited,
-    Trials(u32),
-}
+// A limit is how many trials a search may take, or none. A trial is one candidate, unused so far, tested as the image of the next element.
 
 // ---- over given marks
 
 // Returns how many trials a limit allows; 0 if there is no limit, since trials are not counted then.
-fn allowance(limit: Limit) -> u32
+fn allowance(limit: Option<u32>) -> u32
     ensures answer { result ≡ trials_in limit }
 {
-    match limit {
-        Limit::Unlimited => 0,
-        Limit::Trials(trials) => trials,
-    }
+    limit.unwrap_or(0)
 }
 
-// Searches the marks in scratch for the first map, or with `next` for the next one after `after`, within the limit. Returns the outcome.
+// Searches the marks in scratch for the first map, or with `next` for the next one after `after`, within the limit. Returns what the search returns.
 fn find_marked(
     next: bool,
-    limit: Limit,
+    limit: Option<u32>,
     source: &[u8],
     m: usize,
     target: &[u8],
     n: usize,
     after: &[u8],
     scratch: &[u8],
-) -> Outcome
+) -> Result<Ended, Stopped>
     requires filled { Filled m source.now × Filled n target.now }
     requires n_in_bounds { (scratch_size m n ≤ length scratch.now) × (length after.now ≡ m) }
-    ensures answer { result ≡ outcome_of (remainder_under limit (marked_work next m source.now n target.now after.now scratch.now)) }
+    ensures answer { result ≡ ended_of (remainder_under limit (marked_work next m source.now n target.now after.now scratch.now)) }
 {
+    let source = Table {
+        cells: source,
+        order: m,
+    };
+    let target = Table {
+        cells: target,
+        order: n,
+    };
+    let search = Search {
+        source: &source,
+        target: &target,
+        scratch,
+        after,
+    };
     match limit {
-        Limit::Unlimited => narrowing::find(source, m, target, n, scratch, after, next),
-        Limit::Trials(trials) => {
-            backtrack::find_within(source, m, target, n, scratch, after, next, trials)
-        }
+        None => Ok(Ended {
+            left: 0,
+            map: narrowing::find(&search, next),
+        }),
+        Some(trials) => backtrack::find_within(&search, next, trials),
     }
 }
 
-// Writes the map of the outcome, if it has one, to `map`.
-fn put_found(res: Outcome, m: usize, map: &mut [u8])
-    requires { (length map.old ≡ m) × (m ≤ largest_order) }
-    ensures map { map.new ≡ cond res.ok (take m res.image) map.old }
+// Returns the map that a search found, or none.
+fn map_of(searched: Result<Ended, Stopped>) -> Option<[u8; ORDER]>
+    ensures answer { result ≡ image_in searched }
 {
-    let ok = res.ok;
-    if ok {
-        let image = res.image;
+    match searched {
+        Ok(ended) => ended.map,
+        Err(_) => None,
+    }
+}
+
+// Writes the map that was found, if there is one, to `map`.
+fn put_found(found: Option<[u8; ORDER]>, m: usize, map: &mut [u8])
+    requires { (length map.old ≡ m) × (m ≤ largest_order) }
+    ensures map { map.new ≡ put m found map.old }
+{
+    if let Some(image) = found {
         maps::write_images(map, &image, m);
     }
 }
@@ -95,36 +111,39 @@ fn order_fits(onto: bool, m: usize, n: usize) -> bool
     m <= n
 }
 
-// Marks the candidates in scratch, searches for embeddings, or with `onto` for isomorphisms, and writes the map to `map` if one is found. Returns the outcome.
+// Marks the candidates in scratch, searches for embeddings, or with `onto` for isomorphisms, and writes the map to `map` if one is found. Returns what the search returns.
 fn search_straight(
     onto: bool,
     next: bool,
-    limit: Limit,
+    limit: Option<u32>,
     source: &[u8],
     m: usize,
     target: &[u8],
     n: usize,
     map: &mut [u8],
     scratch: &mut [u8],
-) -> Outcome
+) -> Result<Ended, Stopped>
     requires accepted { Accepted m source.now × Accepted n target.now }
     requires map_len { (length map.old ≡ m) × (scratch_size m n ≤ length scratch.old) }
     ensures call { called (gives result) map.new scratch.new ≡ searched (plain_kind onto) next limit (lend source.now m target.now n map.old scratch.old) }
 {
     marking::mark(onto, source, m, target, n, scratch);
     if !order_fits(onto, m, n) {
-        return backtrack::no_map(false, allowance(limit));
+        return Ok(Ended {
+            left: allowance(limit),
+            map: None,
+        });
     }
     let result = find_marked(next, limit, source, m, target, n, &*map, &*scratch);
-    put_found(result, m, map);
+    put_found(map_of(result), m, map);
     result
 }
 
-// Marks the candidates in scratch, searches for reversed isomorphisms, and writes the map to `map` if one is found. Returns the outcome. The target with its
+// Marks the candidates in scratch, searches for reversed isomorphisms, and writes the map to `map` if one is found. Returns what the search returns. The target with its
 // rows and columns exchanged is written to the start of `room`.
 fn search_turned(
     next: bool,
-    limit: Limit,
+    limit: Option<u32>,
     source: &[u8],
     m: usize,
     target: &[u8],
@@ -132,7 +151,7 @@ fn search_turned(
     map: &mut [u8],
     scratch: &mut [u8],
     room: &mut [u8],
-) -> Outcome
+) -> Result<Ended, Stopped>
     requires accepted { Accepted m source.now × Accepted n target.now }
     requires map_len { (length map.old ≡ m) × (scratch_size m n ≤ length scratch.old) }
     requires n_in_bounds { n * n ≤ length room.old }
@@ -140,7 +159,7 @@ fn search_turned(
     ensures room { room.new ≡ overwritten (turned_cells n target.now) room.old }
 {
     let size = n * n;
-    products::turn(target, n, room);
+    products::old::turn(target, n, room);
     search_straight(true, next, limit, source, m, &room[..size], n, map, scratch)
 }
 
@@ -148,14 +167,14 @@ fn search_turned(
 // the large one would be a tenth of a call between tables of a few elements.
 fn search_reversed(
     next: bool,
-    limit: Limit,
+    limit: Option<u32>,
     source: &[u8],
     m: usize,
     target: &[u8],
     n: usize,
     map: &mut [u8],
     scratch: &mut [u8],
-) -> Outcome
+) -> Result<Ended, Stopped>
     requires accepted { Accepted m source.now × Accepted n target.now }
     requires map_len { (length map.old ≡ m) × (scratch_size m n ≤ length scratch.old) }
     ensures call { called (gives result) map.new scratch.new ≡ searched reversed next limit (lend source.now m target.now n map.old scratch.old) }
@@ -169,18 +188,18 @@ fn search_reversed(
 }
 
 // Marks the candidates of the kind in scratch, searches for the first map of the kind, or with `next` for the next one after the bytes of `map`, and writes it
-// to `map` if one is found. Returns the outcome.
+// to `map` if one is found. Returns what the search returns.
 pub fn search_kind(
     kind: Kind,
     next: bool,
-    limit: Limit,
+    limit: Option<u32>,
     source: &[u8],
     m: usize,
     target: &[u8],
     n: usize,
     map: &mut [u8],
     scratch: &mut [u8],
-) -> Outcome
+) -> Result<Ended, Stopped>
     requires accepted { Accepted m source.now × Accepted n target.now }
     requires map_len { (length map.old ≡ m) × (scratch_size m n ≤ length scratch.old) }
     ensures call { called (gives result) map.new scratch.new ≡ searched (kind_of kind) next limit (lend source.now m target.now n map.old scratch.old) }
@@ -210,23 +229,13 @@ pub fn find(
     requires map_len { (length map.old ≡ m) × (scratch_size m n ≤ length scratch.old) }
     ensures call { called (gives (sought_if result)) map.new scratch.new ≡ answered (kind_of kind) (bounded next map.old) (lend source.now m target.now n map.old scratch.old) }
 {
-    let result = search_kind(
-        kind,
-        next,
-        Limit::Unlimited,
-        source,
-        m,
-        target,
-        n,
-        map,
-        scratch,
-    );
-    result.ok
+    let result = search_kind(kind, next, None, source, m, target, n, map, scratch);
+    map_of(result).is_some()
 }
 
 // ---- among given pairs
 
-// Searches the marks in scratch without a limit, as `find_marked` does, and returns the outcome. If `all` is false, the pairs exclude candidates; then the
+// Searches the marks in scratch without a limit, and returns the map, or none. If `all` is false, the pairs exclude candidates; then the
 // elements that have one mark left narrow the others before the search.
 fn find_allowed(
     all: bool,
@@ -237,15 +246,29 @@ fn find_allowed(
     n: usize,
     after: &[u8],
     scratch: &[u8],
-) -> Outcome
+) -> Option<[u8; ORDER]>
     requires filled { Filled m source.now × Filled n target.now }
     requires n_in_bounds { (scratch_size m n ≤ length scratch.now) × (length after.now ≡ m) }
-    ensures answer { result ≡ found_in (marked_work next m source.now n target.now after.now scratch.now).found }
+    ensures answer { result ≡ padded (marked_work next m source.now n target.now after.now scratch.now).found }
 {
+    let source = Table {
+        cells: source,
+        order: m,
+    };
+    let target = Table {
+        cells: target,
+        order: n,
+    };
+    let search = Search {
+        source: &source,
+        target: &target,
+        scratch,
+        after,
+    };
     if all {
-        return narrowing::find(source, m, target, n, scratch, after, next);
+        return narrowing::find(&search, next);
     }
-    narrowing::find_narrowed(source, m, target, n, scratch, after, next)
+    narrowing::find_narrowed(&search, next)
 }
 
 // Writes the first allowed embedding between two accepted tables to `map`, or with `next` the next one after the bytes of `map`. Returns whether there is one.
@@ -269,7 +292,7 @@ pub fn find_among(
     if n < m {
         return false;
     }
-    let result = find_allowed(all, next, source, m, target, n, &*map, &*scratch);
-    put_found(result, m, map);
-    result.ok
+    let found = find_allowed(all, next, source, m, target, n, &*map, &*scratch);
+    put_found(found, m, map);
+    found.is_some()
 }

@@ -1,6 +1,7 @@
 -- Elements found one by one: what an addition makes of the list, of its array and of its marks. Assumes nothing.
 use mathlib.Core.Path.{◌≡◌, refl, sym, ap, ◌∙◌, subst}
-use mathlib.Core.Bool.{true, false}
+use mathlib.Core.Bool.{Bool, true, false, cond, not}
+use lib.Dec.{eqb}
 use mathlib.Core.Logic.{◌⊎◌, inl, inr, ⊎_elim}
 use mathlib.Core.List.Memᴰ
 use mathlib.Core.List.{List, [], ◌∷◌, ◌++◌, append-nil, append_assoc, Memᴰ}
@@ -15,9 +16,9 @@ use Rattle.semigroups.specs.Tables.{Element}
 use Rattle.semigroups.specs.InnerGenerated.{Inside}
 use Rattle.semigroups.proofs.Booleans.{either}
 use Rattle.semigroups.proofs.Lists.{length_elements, elements_mem, length_snoc, member_mem, not_member, sorted_append}
-use Rattle.semigroups.proofs.NoRepeats.{length_inside, place_mem}
+use Rattle.semigroups.proofs.NoRepeats.{length_inside}
 use Rattle.light.specs.InnerFound.{adding, adding_all, Found}
-use Rattle.light.proofs.Indicators.{indicator_nil, unmarked, is_marked_law, indicator_set}
+use Rattle.light.proofs.Indicators.{indicator_nil, indicator_at, unmarked, is_marked_law, indicator_set}
 
 -- ---- one entry added
 
@@ -53,6 +54,10 @@ module _ (r : List ℕ) (x : ℕ) where
       go (inr e) = (x ∷ [], adding_new e)
 
 -- ---- the entries of a list added in turn
+
+pub adding_none : (r : List ℕ) → r ≡ adding_all r []
+unfolding adding_all
+adding_none r = refl
 
 pub adding_last : (r l : List ℕ) (x : ℕ) → adding_all r (l ++ x ∷ []) ≡ adding (adding_all r l) x
 unfolding adding_all
@@ -106,16 +111,13 @@ module _ {r found marks : List ℕ} {count : ℕ} (f : Found r found marks count
   pub found_again : Found (take count found) found marks count
   found_again = subst (λ (l : List ℕ). Found l found marks count) (sym found_list) f
 
-  pub found_room : count ≤ 120
-  found_room =
-      let e = f.counted in
-      omega (arith, length_inside r (elements 120) f.no_repeats (λ x m. elements_mem 120 x (f.inside x m)), length_elements 120)
-
-  pub found_at : (i : ℕ) → i < length r → get_or found i 0 ≡ get_or r i 0
-  found_at i h = ap (λ (l : List ℕ). get_or l i 0) f.listed ∙ get_or-append r (replicate (120 - length r) 0) 0 i h
-
-  pub found_element : (n : ℕ) → Inside n r → (i : ℕ) → i < length r → Element n (get_or found i 0)
-  found_element n inside i h = subst (Element n) (sym (found_at i h)) (inside (get_or r i 0) (place_mem 0 r i h))
+  -- An element has a mark if it is found.
+  pub found_holds : (x : ℕ) → x ≤ 120 → not (eqb (get_or marks x 0) 0) ≡ member x r
+  found_holds x h = ap (λ (v : ℕ). not (eqb v 0)) (ap (λ (l : List ℕ). get_or l x 0) f.marked ∙ indicator_at r x h) ∙ by (member x r)
+    where
+      by : (b : Bool) → not (eqb (cond b 1 0) 0) ≡ b
+      by true = refl
+      by false = refl
 
   module _ (x : ℕ) (h : Element 120 x) where
     -- An element with a mark is there already, so nothing changes.
@@ -157,14 +159,8 @@ module _ {r found marks : List ℕ} {count : ℕ} (f : Found r found marks count
             no_repeats = more_no_repeats;
           })
 
-pub found_none : Found (adding_all [] []) (replicate 120 0) (replicate 121 0) 0
-unfolding adding_all
-found_none = found_nil
-
 -- Entries are added in turn; this adds the next one.
-pub entry_added : (r l : List ℕ) (i x : ℕ) {found marks found' marks' : List ℕ} {count count' : ℕ} → i < length l → x ≡ get_or l i 0 → Found (adding_all r (take i l)) found marks count
-    → Found (adding (take count found) x) found' marks' count' → Found (adding_all r (take (i + 1) l)) found' marks' count'
-entry_added r l i x {found} {marks} {found'} {marks'} {count} {count'} h e f g =
-    subst (λ (a : List ℕ). Found a found' marks' count')
-    (ap (λ (a : List ℕ). adding a x) (found_list f) ∙ sym (adding_last r (take i l) x)
-    ∙ ap (adding_all r) (sym (ap (λ (k : ℕ). take k l) (add-one i) ∙ take-suc l i 0 h ∙ ap (λ (y : ℕ). take i l ++ y ∷ []) (sym e)))) g
+pub adding_next : (r l : List ℕ) (i x : ℕ) → i < length l → x ≡ get_or l i 0 → adding (adding_all r (take i l)) x ≡ adding_all r (take (i + 1) l)
+adding_next r l i x h e =
+    sym (adding_last r (take i l) x)
+    ∙ ap (adding_all r) (sym (ap (λ (k : ℕ). take k l) (add-one i) ∙ take-suc l i 0 h ∙ ap (λ (y : ℕ). take i l ++ y ∷ []) (sym e)))

@@ -1,21 +1,19 @@
 -- The generators that question 4 chooses for itself, and the answer of Light's associativity test with them. Of the elements that are not products of the
 -- list, the one that is rarest in the table joins the list, and of equally rare ones the smallest; a list that would be longer than n / 4 is given up.
 -- Assumes nothing.
-use Rattle.std.specs.Prelude.{◌≡◌, Bool, true, false, cond, ◌⊎◌, ℕ, ◌/◌, ◌≤◌, ◌<◌, take, get_or}
+use Rattle.std.specs.Prelude.{◌≡◌, Bool, true, false, cond, ◌⊎◌, ℕ, ◌/◌, ◌≤◌, ◌<◌, take, get_or, Option as Optional, None, Some}
 use mathlib.Core.List.{List, Memᴰ}
 use Rattle.semigroups.specs.Lists.{elements, all}
 use Rattle.semigroups.specs.Tables.{Product, Element, associates}
 use Rattle.semigroups.specs.Invariants.{frequency}
 use Rattle.semigroups.specs.InnerGenerated.{LeftProduct}
-use Rattle.light.specs.InnerFound.{Found}
 
 -- ---- products from left to right
 
--- The elements found are the products from left to right of entries of the list, each once, in a sequence that no definition fixes.
-pub record FoundProducts (s : Product) (l found marks : List ℕ) (count : ℕ) : Type 0 where
-  pub held : Found (take count found) found marks count
-  pub products_alone : (x : ℕ) → Memᴰ x (take count found) → LeftProduct s l x
-  pub all_products : (x : ℕ) → LeftProduct s l x → Memᴰ x (take count found)
+-- The elements found, r, are the products from left to right of entries of the list, in a sequence that no definition fixes.
+pub record FoundProducts (s : Product) (l r : List ℕ) : Type 0 where
+  pub products_alone : (x : ℕ) → Memᴰ x r → LeftProduct s l x
+  pub all_products : (x : ℕ) → LeftProduct s l x → Memᴰ x r
 
 -- ---- the choice
 
@@ -25,9 +23,10 @@ pub record Rarest (n : ℕ) (weight : ℕ → ℕ) (Free : ℕ → Type 0) (x : 
   pub free : Free x
   pub before_others : (y : ℕ) → Element n y → Free y → (weight x < weight y) ⊎ ((weight x ≡ weight y) × (x ≤ y))
 
--- x is that element; or x is 0, and no element has the property.
-abbrev pub RarestOrNone : ℕ → (ℕ → ℕ) → (ℕ → Type 0) → ℕ → Type 0
-RarestOrNone n weight Free x = Rarest n weight Free x ⊎ ((x ≡ 0) × ((y : ℕ) → Element n y → Free y → ⊥))
+-- The optional value is that element; or it is none, and no element has the property.
+abbrev pub RarestOrNone : ℕ → (ℕ → ℕ) → (ℕ → Type 0) → Optional ℕ → Type 0
+RarestOrNone n weight Free (Some x) = Rarest n weight Free x
+RarestOrNone n weight Free None = (y : ℕ) → Element n y → Free y → ⊥
 
 -- Each of the first `count` entries of the list is the rarest element that is not a product of the entries before it; zeros follow.
 pub record RarestFirst (n : ℕ) (s : Product) (list : List ℕ) (count : ℕ) : Type 0 where
@@ -41,6 +40,10 @@ pub record Choice (n : ℕ) (s : Product) (list : List ℕ) (count : ℕ) (compl
   pub rarest_first : RarestFirst n s list count
   pub enough : complete ≡ true → (x : ℕ) → Element n x → LeftProduct s (take count list) x
   pub given_up : complete ≡ false → (count ≡ n / 4) × (x : ℕ) × Element n x × (LeftProduct s (take count list) x → ⊥)
+
+-- Generators that are given up.
+abbrev pub GivenUp : ℕ → Product → Type 0
+GivenUp n s = (list : List ℕ) × (count : ℕ) × Choice n s list count false
 
 -- ---- the triples
 

@@ -12,23 +12,21 @@ use Rattle.semigroups.specs.Tables.{Product, Element, is_element, bad_cell, prod
 use Rattle.semigroups.specs.InnerTables.{IsList}
 use Rattle.semigroups.specs.Questions.{Question, ask, Refusal, first_no, tables_questions, check_refusal}
 use Rattle.semigroups.specs.InnerQuestions.{no, tables_refusal}
-use Rattle.semigroups.specs.Calls.{Answer, refused, gives}
+use Rattle.semigroups.specs.Calls.{refused, gives}
 use Rattle.semigroups.specs.Maps.{is_embedding}
-use Rattle.semigroups.specs.MapCheck.{Checked, holds, outside, equal_images, wrong_product, unless, first_outside, first_equal, first_wrong, check_map}
+use Rattle.semigroups.specs.MapCheck.{holds, outside, equal_images, wrong_product, unless, first_outside, first_equal, first_wrong, check_map}
 use Rattle.semigroups.proofs.Booleans.{not_of_true, not_of_false, untrue}
 use Rattle.semigroups.proofs.Maps.{is_embedding_law, embedding_is}
 use Rattle.semigroups.proofs.MapCheck.{holds_exactly}
 use Rattle.semigroups.proofs.Questions.{failed_before, passed_before}
 use Rattle.semigroups.proofs.NoRepeats.{mem_place}
 use Rattle.semigroups.proofs.Tables.{cells_in_range}
-use denote.Enum.Declared.{tag_of}
-use types.Run.{OneOf, miss}
-use native.Mathlib.Omega.{arith}
-use Rattle.maps.specs.declared.MapAnswer.{MapAnswer}
-use Rattle.maps.specs.declared.MapAnswer.TheVariants.{Refused, MapLength, Holds, Outside, EqualImages, WrongProduct}
+use Rattle.std.specs.Prelude.{Result, Ok, Err}
+use Rattle.std.specs.Result.{is_ok}
+use Rattle.maps.specs.declared.MapFault.{MapFault}
+use Rattle.maps.specs.declared.MapFault.TheVariants.{Outside, EqualImages, WrongProduct}
 use Rattle.maps.specs.Calls.{map_check}
-use Rattle.maps.specs.Answers.{map_answer_says}
-use Rattle.maps.specs.contracts.MapAnswer as answers
+use Rattle.maps.specs.Answers.{fault_says, examined}
 
 -- ---- the tests of pairs
 
@@ -129,18 +127,12 @@ module _ (m : ℕ) (source : List ℕ) (n : ℕ) (target f : List ℕ) where
 
 -- ---- an embedding or not
 
-module _ (m : ℕ) (s : Product) (n : ℕ) (t : Product) (f : List ℕ) (size : length f ≡ m) where
-  pub held_embeds : gives holds ≡ gives (check_map m s n t f) → true ≡ is_embedding m s n t f
-  held_embeds e = sym (embedding_is m s n t f ((holds_exactly m s n t f size).0 (let z : check_map m s n t f ≡ holds = cc in z)))
-
-  -- What is known if the check says anything but "holds".
-  pub other_fails : (v : MapAnswer) → OneOf (0 ∷ 1 ∷ 3 ∷ 4 ∷ 5 ∷ []) (tag_of answers.the_type v) → map_answer_says v ≡ gives (check_map m s n t f) → false ≡ is_embedding m s n t f
-  other_fails v h e = sym (untrue (is_embedding m s n t f) (λ b. not_held v h (e ∙ ap {B = Answer Checked} gives ((holds_exactly m s n t f size).1 (is_embedding_law m s n t f b)))))
-    where
-      not_held : (v : MapAnswer) → OneOf (0 ∷ 1 ∷ 3 ∷ 4 ∷ 5 ∷ []) (tag_of answers.the_type v) → map_answer_says v ≡ gives holds → ⊥
-      not_held (Refused side fault) h e = let z : ◌≡◌ {A = ℕ} 0 1 = cc in omega arith
-      not_held MapLength h e = let z : ◌≡◌ {A = ℕ} 0 1 = cc in omega arith
-      not_held Holds h e = absurd (miss (0 ∷ 1 ∷ 3 ∷ 4 ∷ 5 ∷ []) 2 tt h)
-      not_held (Outside i) h e = let z : ◌≡◌ {A = ℕ} 0 1 = cc in omega arith
-      not_held (EqualImages i j) h e = let z : ◌≡◌ {A = ℕ} 0 1 = cc in omega arith
-      not_held (WrongProduct i j) h e = let z : ◌≡◌ {A = ℕ} 0 1 = cc in omega arith
+-- A map is an embedding exactly where the check says that it holds.
+pub embeds_law : (m : ℕ) (s : Product) (n : ℕ) (t : Product) (f : List ℕ) → length f ≡ m → (r : Result Unit MapFault) → examined r ≡ check_map m s n t f → is_ok r ≡ is_embedding m s n t f
+embeds_law m s n t f size (Ok x) e = sym (embedding_is m s n t f ((holds_exactly m s n t f size).0 (sym e)))
+embeds_law m s n t f size (Err fault) e = sym (untrue (is_embedding m s n t f) (λ b. fails fault (e ∙ (holds_exactly m s n t f size).1 (is_embedding_law m s n t f b))))
+  where
+    fails : (fault : MapFault) → fault_says fault ≡ holds → ⊥
+    fails (Outside i) h = cc
+    fails (EqualImages i j) h = cc
+    fails (WrongProduct i j) h = cc

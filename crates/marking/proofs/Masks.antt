@@ -15,7 +15,7 @@ use Rattle.semigroups.specs.Scratch.{bit, scratch_size, marks, marked}
 use Rattle.semigroups.specs.Calls.{overwritten}
 use Rattle.semigroups.specs.InnerCalls.{scratch_after}
 use Rattle.semigroups.proofs.Lists.{length_range, get_d_range, get_d_map}
-use Rattle.semigroups.proofs.Writing.{written, written_none, written_all, length_written, write_next}
+use Rattle.semigroups.proofs.Writing.{written, written_none, written_all, write_next}
 use Rattle.semigroups.proofs.Packing.{bit_small}
 use Rattle.semigroups.proofs.Candidates.{byte_below, length_marks, are_marks, marks_exactly, marked_candidate}
 use Rattle.rows.specs.InnerRows as rows
@@ -114,12 +114,6 @@ module _ (size : ℕ) (pairs start : List ℕ) where
   mask_begin = record { inside = omega arith; so_far = sym (written_none (masked_bytes size pairs start) start) }
 
   module _ (room : size ≤ length start) {place : ℕ} {buffer : List ℕ} (a : Masking place buffer) where
-    pub mask_length : length buffer ≡ length start
-    mask_length =
-        let i = a.inside in
-        let l = length_masked size pairs start in
-        ap length a.so_far ∙ length_written (masked_bytes size pairs start) start place (omega arith) (omega arith)
-
     -- The byte at the place is not written yet.
     ahead : place < size → get_or buffer place 0 ≡ get_or start place 0
     unfolding written
@@ -146,34 +140,3 @@ module _ (size : ℕ) (pairs start : List ℕ) where
         let i = a.inside in
         let end : place ≡ length (masked_bytes size pairs start) = let l = length_masked size pairs start in omega arith in
         a.so_far ∙ written_all (masked_bytes size pairs start) start place end ∙ ap (λ (k : ℕ). masked_bytes size pairs start ++ drop k start) end
-
--- ---- whether anything is cleared
-
-module _ (size : ℕ) (mask buffer : List ℕ) where
-  abbrev stays : ℕ → Bool
-  stays b = eqb (bit_and (get_or buffer b 0) (get_or mask b 0)) (get_or buffer b 0)
-
-  -- Whether the mask keeps every bit from the place on.
-  abbrev pub Rest : ℕ → Bool
-  Rest place = all stays (range place (size - place))
-
-  pub clears_begin : clears_nothing size mask buffer ≡ Rest 0
-  unfolding clears_nothing
-  clears_begin = ap (λ (k : ℕ). all stays (range 0 k)) (let z : size ≡ size - 0 = omega arith in z)
-
-  module _ (place : ℕ) where
-    clears_step : place < size → Rest place ≡ (stays place && Rest (place + 1))
-    unfolding all range
-    clears_step h =
-        ap (λ (k : ℕ). all stays (range place k)) (let z : size - place ≡ suc (size - (place + 1)) = omega arith in z)
-        ∙ ap (λ (b : ℕ). stays place && all stays (range b (size - (place + 1)))) (let z : suc place ≡ place + 1 = omega arith in z)
-
-    pub clears_on : place < size → stays place ≡ true → Rest place ≡ Rest (place + 1)
-    clears_on h e = clears_step h ∙ ap (λ (b : Bool). b && Rest (place + 1)) e
-
-    pub clears_one : place < size → stays place ≡ false → Rest place ≡ false
-    clears_one h e = clears_step h ∙ ap (λ (b : Bool). b && Rest (place + 1)) e
-
-    pub clears_end : size ≤ place → Rest place ≡ true
-    unfolding all range
-    clears_end h = ap (λ (k : ℕ). all stays (range place k)) (let z : size - place ≡ 0 = omega arith in z)

@@ -31,10 +31,8 @@ fn keep_pairs(pairs: &[u8], size: usize, scratch: &mut [u8])
     requires { (size ≤ length pairs.now) × (size ≤ length scratch.old) }
     ensures scratch { scratch.new ≡ overwritten (masked_bytes size pairs.now scratch.old) scratch.old }
 {
-    let mut place: usize = 0;
-    while place < size {
-        scratch[place] = scratch[place] & pairs[place];
-        place += 1;
+    for place in 0..size {
+        scratch[place] &= pairs[place];
     }
 }
 
@@ -43,15 +41,7 @@ fn allows_all(pairs: &[u8], size: usize, scratch: &[u8]) -> bool
     requires { (size ≤ length pairs.now) × (size ≤ length scratch.now) }
     ensures answer { result ≡ clears_nothing size pairs.now scratch.now }
 {
-    let mut place: usize = 0;
-    while place < size {
-        let marks = scratch[place];
-        if marks & pairs[place] != marks {
-            return false;
-        }
-        place += 1;
-    }
-    true
+    (0..size).all(|place| scratch[place] & pairs[place] == scratch[place])
 }
 
 // Marks in scratch the candidates for embeddings that the pairs allow. Returns whether the pairs allow every candidate.

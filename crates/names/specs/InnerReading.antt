@@ -1,5 +1,5 @@
 -- The results of the functions that read and judge. They serve the proofs; no contract of an entry point cites them. Assumes nothing.
-use Rattle.std.specs.Prelude.{◌≡◌, cond, ℕ, ◌+◌, ◌-◌, ◌≤◌, leb, length, take, drop, set, replicate}
+use Rattle.std.specs.Prelude.{◌≡◌, cond, ℕ, ◌+◌, ◌-◌, ◌≤◌, leb, length, take, drop, set, replicate, Result, Ok, Err}
 use mathlib.Core.List.{List, flatten}
 use Rattle.std.proofs.Math.Option.{none, some}
 use Rattle.semigroups.specs.Tables.{largest_order}
@@ -9,9 +9,8 @@ use Rattle.sheets.specs.Grammar.{Row}
 use Rattle.sheets.specs.Readings.{rows_names}
 use Rattle.sheets.specs.Names.{names_text, names_at}
 use Rattle.sheets.specs.Questions.{rows_questions, names_questions}
+use Rattle.answers.specs.declared.No.{No}
 use Rattle.names.specs.declared.Value.{Value}
-use Rattle.names.specs.declared.Judged.{Judged}
-use Rattle.names.specs.declared.Judged.TheVariants.{Passed, Failed}
 
 -- ---- a field
 
@@ -29,9 +28,9 @@ extended v b = cond (leb 41 v.size) v (record { bytes = set v.bytes v.size b; si
 -- ---- the records of a sheet, the names in memory
 
 -- A result agrees with the records: with questions 42 and 41 about each, with the number of names, and with the number of their bytes.
-abbrev pub Judges : List Row → Judged → Type 0
-Judges rows (Passed count total) = (first_no (rows_questions 1 rows) ≡ none) × (count ≡ length rows) × (total ≡ length (flatten (rows_names rows)))
-Judges rows (Failed fault) = first_no (rows_questions 1 rows) ≡ some (no_refusal fault)
+abbrev pub Judges : List Row → Result (ℕ × ℕ) No → Type 0
+Judges rows (Ok found) = (first_no (rows_questions 1 rows) ≡ none) × (found.0 ≡ length rows) × (found.1 ≡ length (flatten (rows_names rows)))
+Judges rows (Err fault) = first_no (rows_questions 1 rows) ≡ some (no_refusal fault)
 
 -- The records pass, and the buffers have room for the names and for their lengths.
 pub record Fits (rows : List Row) (nameRoom lengthRoom : ℕ) : Type 0 where
@@ -39,10 +38,10 @@ pub record Fits (rows : List Row) (nameRoom lengthRoom : ℕ) : Type 0 where
   pub names : length (flatten (rows_names rows)) ≤ nameRoom
   pub lengths : length rows ≤ lengthRoom
 
--- A result agrees with the names: with question 41 about each, with the number of names, and with the length of their text.
-abbrev pub JudgesNames : List ℕ → List ℕ → Judged → Type 0
-JudgesNames bytes lengths (Passed count total) = (first_no (names_questions 1 bytes lengths) ≡ none) × (count ≡ length lengths) × (total ≡ length (names_text (names_at bytes lengths)))
-JudgesNames bytes lengths (Failed fault) = first_no (names_questions 1 bytes lengths) ≡ some (no_refusal fault)
+-- A result agrees with the names: with question 41 about each, and with the length of their text.
+abbrev pub JudgesNames : List ℕ → List ℕ → Result ℕ No → Type 0
+JudgesNames bytes lengths (Ok total) = (first_no (names_questions 1 bytes lengths) ≡ none) × (total ≡ length (names_text (names_at bytes lengths)))
+JudgesNames bytes lengths (Err fault) = first_no (names_questions 1 bytes lengths) ≡ some (no_refusal fault)
 
 -- There are at most 120 names, and each passes.
 pub record Nameable (bytes lengths : List ℕ) : Type 0 where

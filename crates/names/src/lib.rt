@@ -17,13 +17,13 @@ ghost use Rattle.sheets.specs.Calls.{load_names_answer, names_after, lengths_aft
 ghost use Rattle.sheets.specs.InnerCursor.{bare_value, quoted_value, quoted_size, value_at, size_at};
 ghost use Rattle.names.specs.InnerReading.{extended, HoldsValue, Judges, JudgesNames, Fits, Nameable};
 
-use scanning::Form;
+use tables::No;
 use tables::limits::ORDER;
-use tables::{No, Numbered};
 
 // ---- fields
 
-// The value of a field: its first 41 bytes, so that a value of more than 40 is noticed; and the place after the field.
+// The value of a field: its first 41 bytes, so that a value of more than 40 is noticed; and the place after the field. The bytes are a buffer and a size: they
+// come one by one, in fixed memory.
 #[derive(Clone, Copy)]
 struct Value {
     bytes: [u8; 41],
@@ -44,50 +44,29 @@ impl Value {
     }
 
     // Returns the value with one more byte, or as it is if it has 41 already. The place after the field does not change.
-    fn with(self, b: u8) -> Self
+    #[tactic(auto, unfolding(crate::specs::InnerReading::extended))]
+    fn with(mut self, b: u8) -> Self
         ensures value { result ≡ extended self b }
     {
-        let at = self.size;
-        if 41 <= at {
-            return self;
+        if self.size < 41 {
+            self.bytes[self.size] = b;
+            self.size += 1;
         }
-        let mut longer = self;
-        longer.bytes[at] = b;
-        longer.size = at + 1;
-        longer
+        self
     }
 
     // Returns the value with `end` as the place after its field.
     fn ending(self, end: usize) -> Self
         ensures value { result ≡ record { bytes = self.bytes; size = self.size; end = end } }
     {
-        let mut ended = self;
-        ended.end = end;
-        ended
+        Value { end, ..self }
     }
 
-    // Returns whether the value is the number k.
-    fn is_number(self, k: usize) -> bool
-        ensures answer { result ≡ is_number k (take self.size self.bytes) }
+    // Returns the bytes of the value.
+    fn held(&self) -> &[u8]
+        ensures value { result.now ≡ take self.now.size self.now.bytes }
     {
-        let bytes = self.bytes;
-        let size = self.size;
-        if 41 < size {
-            return false;
-        }
-        is_number(&bytes[..size], k)
-    }
-
-    // Returns whether the value is a name.
-    fn is_name(self) -> bool
-        ensures answer { result ≡ is_name (take self.size self.bytes) }
-    {
-        let bytes = self.bytes;
-        let size = self.size;
-        if 41 < size {
-            return false;
-        }
-        is_name(&bytes[..size])
+        &self.bytes[..self.size.min(41)]
     }
 }
 
@@ -98,23 +77,14 @@ fn read_bare(text: &[u8], at: usize) -> Value
     ensures end { result.end ≡ at + length (bare_value (drop at text.now)) }
 {
     let mut value = Value::empty();
-    let mut i = at;
-    while i < text.len() {
-        let b = text[i];
-        match b {
-            13 => {
-                return value.ending(i);
-            }
-            44 => {
-                return value.ending(i);
-            }
-            _ => {
-                value = value.with(b);
-                i += 1;
-            }
+    let field = &text[at..];
+    for (i, b) in field.iter().enumerate() {
+        if *b == 44 || *b == 13 {
+            return value.ending(at + i);
         }
+        value = value.with(*b);
     }
-    value.ending(i)
+    value.ending(text.len())
 }
 
 // Returns the value of the field whose opening quote mark stands just before `at`.
@@ -125,23 +95,16 @@ fn read_quoted(text: &[u8], at: usize) -> Value
 {
     let mut value = Value::empty();
     let mut i = at;
+    // A while: two quote marks are passed at once.
     while i < text.len() {
-        let b = text[i];
-        match b {
-            34 => {
-                if text.len() - i < 2 {
-                    return value.ending(i + 1);
-                }
-                if text[i + 1] != 34 {
-                    return value.ending(i + 1);
-                }
-                value = value.with(b);
-                i += 2;
-            }
-            _ => {
-                value = value.with(b);
-                i += 1;
-            }
+        if text[i] != 34 {
+            value = value.with(text[i]);
+            i += 1;
+        } else if i + 1 < text.len() && text[i + 1] == 34 {
+            value = value.with(34);
+            i += 2;
+        } else {
+            return value.ending(i + 1);
         }
     }
     value.ending(i)
@@ -153,13 +116,11 @@ fn read_field(text: &[u8], at: usize) -> Value
     ensures value { HoldsValue (value_at (drop at text.now)) result }
     ensures end { result.end ≡ at + size_at (drop at text.now) }
 {
-    if text.len() <= at {
-        return read_bare(text, at);
+    if at < text.len() && text[at] == 34 {
+        read_quoted(text, at + 1)
+    } else {
+        read_bare(text, at)
     }
-    if text[at] == 34 {
-        return read_quoted(text, at + 1);
-    }
-    read_bare(text, at)
 }
 
 // ---- names and numbers
@@ -168,30 +129,14 @@ fn read_field(text: &[u8], at: usize) -> Value
 fn is_number(bytes: &[u8], k: usize) -> bool
     ensures answer { result ≡ is_number k bytes.now }
 {
-    if ORDER < k {
+    if ORDER < k || bytes.is_empty() || 3 < bytes.len() || bytes[0] == 48 {
         return false;
     }
-    if bytes.len() < 1 {
-        return false;
-    }
-    if 3 < bytes.len() {
-        return false;
-    }
-    if bytes[0] == 48 {
-        return false;
-    }
-    let mut v: usize = 0;
-    let mut i: usize = 0;
-    while i < bytes.len() {
-        let b = bytes[i];
-        match b {
-            48..=57 => {
-                v = v * 10 + (b - 48) as usize;
-                i += 1;
-            }
-            _ => {
-                return false;
-            }
+    let mut v = 0;
+    for b in bytes {
+        match *b {
+            48..=57 => v = v * 10 + (*b - 48) as usize,
+            _ => return false,
         }
     }
     v == k
@@ -201,64 +146,38 @@ fn is_number(bytes: &[u8], k: usize) -> bool
 fn is_name(bytes: &[u8]) -> bool
     ensures answer { result ≡ is_name bytes.now }
 {
-    if bytes.len() < 1 {
+    if bytes.is_empty() || 40 < bytes.len() {
         return false;
     }
-    if 40 < bytes.len() {
-        return false;
-    }
-    let mut i: usize = 0;
-    while i < bytes.len() {
-        let b = bytes[i];
-        match b {
-            32..=126 => {
-                i += 1;
-            }
-            _ => {
-                return false;
-            }
-        }
-    }
-    true
+    bytes.iter().all(|b| scanning::is_printable(*b))
 }
 
 // ---- loading
 
-// The answer to the questions about the records or the names: how many names there are, and how many bytes they have (`judge_records`) or how long their text
-// is (`judge_names`); or the first question that fails.
-#[derive(Clone, Copy)]
-enum Judged {
-    Passed(usize, usize),
-    Failed(No),
-}
-
-// Asks questions 42 and 41 of each record. Returns the first that fails; or how many names there are, and how many bytes they have.
-fn judge_records(text: &[u8]) -> Judged
+// Asks questions 42 and 41 of each record. Returns how many names there are and how many bytes they have, or the first question that fails.
+fn judge_records(text: &[u8]) -> Result<(usize, usize), No>
     requires { IsSheet text.now }
     ensures answer { (p : IsSheet text.now) → Judges (sheet_rows p.sheet) result }
 {
-    let mut at: usize = 0;
-    let mut k: usize = 1;
-    let mut total: usize = 0;
-    let mut more = true;
-    while more {
+    let mut at = 0;
+    let mut count = 0;
+    let mut total = 0;
+    // A while: a record ends where its second field does.
+    while at < text.len() {
+        let k = count + 1;
         let number = read_field(text, at);
-        let comma = number.end;
-        if !number.is_number(k) {
-            return Judged::Failed(No::With(42, k));
+        if !is_number(number.held(), k) {
+            return Err(No::With(42, k));
         }
-        let name = read_field(text, comma + 1);
-        let end = name.end;
-        let size = name.size;
-        if !name.is_name() {
-            return Judged::Failed(No::With(41, k));
+        let name = read_field(text, number.end + 1);
+        if !is_name(name.held()) {
+            return Err(No::With(41, k));
         }
-        total += size;
-        k += 1;
-        at = end + 2;
-        more = at < text.len();
+        count = k;
+        total += name.size;
+        at = name.end + 2;
     }
-    Judged::Passed(k - 1, total)
+    Ok((count, total))
 }
 
 // Writes the names of the records, one after another, to the start of `names`, and their lengths to the start of `lengths`.
@@ -268,47 +187,38 @@ fn write_names(text: &[u8], names: &mut [u8], lengths: &mut [u8])
     ensures names { (p : IsSheet text.now) → names.new ≡ overwritten (flatten (rows_names (sheet_rows p.sheet))) names.old }
     ensures lengths { (p : IsSheet text.now) → lengths.new ≡ overwritten (map length (rows_names (sheet_rows p.sheet))) lengths.old }
 {
-    let mut at: usize = 0;
-    let mut start: usize = 0;
-    let mut k: usize = 0;
-    let mut more = true;
-    while more {
+    let mut at = 0;
+    let mut start = 0;
+    let mut k = 0;
+    // A while: a record ends where its second field does.
+    while at < text.len() {
         let number = read_field(text, at);
         let name = read_field(text, number.end + 1);
-        let end = name.end;
-        let size = name.size;
-        let bytes = name.bytes;
-        start = lines::put_bytes(names, start, &bytes[..size]);
-        lengths[k] = size as u8;
+        start = lines::put_bytes(names, start, name.held());
+        lengths[k] = name.size as u8;
         k += 1;
-        at = end + 2;
-        more = at < text.len();
+        at = name.end + 2;
     }
 }
 
 // Loads the names on the sheet `text`: writes them one after another to the start of `names` and their lengths to the start of `lengths`, and answers how
 // many there are; or answers the earliest question that fails, and writes nothing.
-pub fn load(text: &[u8], names: &mut [u8], lengths: &mut [u8]) -> Numbered
+pub fn load(text: &[u8], names: &mut [u8], lengths: &mut [u8]) -> Result<usize, No>
     ensures answer { (w : Reading text.now) → numbered_says result ≡ load_names_answer w names.old lengths.old }
     ensures names { (w : Reading text.now) → names.new ≡ names_after w names.old lengths.old }
     ensures lengths { (w : Reading text.now) → lengths.new ≡ lengths_after w names.old lengths.old }
 {
-    let form = scanning::scan(text);
-    if let Form::Offends(k) = form {
-        return Numbered::Refused(No::With(40, k));
+    if let Err(k) = scanning::scan(text) {
+        return Err(No::With(40, k));
     }
-    let judged = judge_records(text);
-    match judged {
-        Judged::Failed(fault) => Numbered::Refused(fault),
-        Judged::Passed(count, total) => {
-            if names.len() < total {
-                return Numbered::Refused(No::Bare(27));
-            }
-            if lengths.len() < count {
-                return Numbered::Refused(No::Bare(27));
+    match judge_records(text) {
+        Err(fault) => Err(fault),
+        Ok((count, total)) => {
+            if names.len() < total || lengths.len() < count {
+                return Err(No::Bare(27));
             }
             write_names(text, names, lengths);
-            Numbered::Number(count)
+            Ok(count)
         }
     }
 }
@@ -319,22 +229,7 @@ pub fn load(text: &[u8], names: &mut [u8], lengths: &mut [u8]) -> Numbered
 fn needs_quotes(name: &[u8]) -> bool
     ensures answer { result ≡ needs_quotes name.now }
 {
-    let mut i: usize = 0;
-    while i < name.len() {
-        let b = name[i];
-        match b {
-            34 => {
-                return true;
-            }
-            44 => {
-                return true;
-            }
-            _ => {
-                i += 1;
-            }
-        }
-    }
-    false
+    name.iter().any(|b| matches!(*b, 34 | 44))
 }
 
 // Returns the length of the text of a name, with its quote marks.
@@ -345,22 +240,7 @@ fn name_length(name: &[u8]) -> usize
     if !needs_quotes(name) {
         return name.len();
     }
-    let mut total: usize = 2;
-    let mut i: usize = 0;
-    while i < name.len() {
-        let b = name[i];
-        match b {
-            34 => {
-                total += 2;
-                i += 1;
-            }
-            _ => {
-                total += 1;
-                i += 1;
-            }
-        }
-    }
-    total
+    2 + name.len() + name.iter().filter(|b| **b == 34).count()
 }
 
 // Writes a name at `start`, with each quote mark doubled. Returns the place after it.
@@ -370,27 +250,19 @@ fn put_doubled(text: &mut [u8], start: usize, name: &[u8]) -> usize
     ensures text { text.new ≡ sets text.old start (doubled name.now) }
 {
     let mut at = start;
-    let mut i: usize = 0;
-    while i < name.len() {
-        let b = name[i];
-        match b {
-            34 => {
-                text[at] = 34;
-                text[at + 1] = 34;
-                at += 2;
-                i += 1;
-            }
-            _ => {
-                text[at] = b;
-                at += 1;
-                i += 1;
-            }
+    for b in name {
+        text[at] = *b;
+        at += 1;
+        if *b == 34 {
+            text[at] = 34;
+            at += 1;
         }
     }
     at
 }
 
 // Writes a name at `start`, between quote marks if it needs them. Returns the place after it.
+#[tactic(auto, using(sheets::proofs::Memory::unquoted, sheets::proofs::Memory::quoted_length))]
 fn put_name(text: &mut [u8], start: usize, name: &[u8]) -> usize
     requires { start + length (name_text name.now) ≤ length text.old }
     ensures answer { result ≡ start + length (name_text name.now) }
@@ -405,28 +277,26 @@ fn put_name(text: &mut [u8], start: usize, name: &[u8]) -> usize
     at + 1
 }
 
-// Asks question 41 of each name. Returns the first that fails; or how many names there are, and the length of their text.
-fn judge_names(names: &[u8], lengths: &[u8]) -> Judged
+// Asks question 41 of each name. Returns the length of the text of the names, or the first question that fails.
+fn judge_names(names: &[u8], lengths: &[u8]) -> Result<usize, No>
     requires { length lengths.now ≤ largest_order }
     ensures answer { JudgesNames names.now lengths.now result }
 {
-    let mut start: usize = 0;
-    let mut k: usize = 0;
-    let mut total: usize = 0;
-    while k < lengths.len() {
-        let size = lengths[k] as usize;
+    let mut start = 0;
+    let mut total = 0;
+    for (k, size) in lengths.iter().enumerate() {
+        let size = *size as usize;
         if names.len() - start < size {
-            return Judged::Failed(No::With(41, k + 1));
+            return Err(No::With(41, k + 1));
         }
-        let end = start + size;
-        if !is_name(&names[start..end]) {
-            return Judged::Failed(No::With(41, k + 1));
+        let name = &names[start..start + size];
+        if !is_name(name) {
+            return Err(No::With(41, k + 1));
         }
-        total += lines::digit_count(k + 1) + name_length(&names[start..end]) + 3;
-        start = end;
-        k += 1;
+        total += lines::digit_count(k + 1) + name_length(name) + 3;
+        start += size;
     }
-    Judged::Passed(k, total)
+    Ok(total)
 }
 
 // Writes the records of the names to the start of `text`.
@@ -435,41 +305,35 @@ fn put_names(names: &[u8], lengths: &[u8], text: &mut [u8])
     requires room { length (names_text (names_at names.now lengths.now)) ≤ length text.old }
     ensures text { text.new ≡ overwritten (names_text (names_at names.now lengths.now)) text.old }
 {
-    let mut start: usize = 0;
-    let mut k: usize = 0;
-    let mut at: usize = 0;
-    while k < lengths.len() {
-        let end = start + lengths[k] as usize;
+    let mut start = 0;
+    let mut at = 0;
+    for (k, size) in lengths.iter().enumerate() {
+        let end = start + *size as usize;
         at = lines::put_number(text, at, k + 1);
         text[at] = 44;
         at = put_name(text, at + 1, &names[start..end]);
         at = lines::put_break(text, at);
         start = end;
-        k += 1;
     }
 }
 
 // Saves names that stand one after another in `names` with these lengths: writes their sheet to the start of `text` and answers its length; or answers
 // the earliest question that fails, and writes nothing.
-pub fn save(names: &[u8], lengths: &[u8], text: &mut [u8]) -> Numbered
+pub fn save(names: &[u8], lengths: &[u8], text: &mut [u8]) -> Result<usize, No>
     ensures answer { numbered_says result ≡ save_names_answer names.now lengths.now text.old }
     ensures text { text.new ≡ sheet_after names.now lengths.now text.old }
 {
-    if lengths.len() < 1 {
-        return Numbered::Refused(No::Bare(42));
+    if lengths.is_empty() || ORDER < lengths.len() {
+        return Err(No::Bare(42));
     }
-    if ORDER < lengths.len() {
-        return Numbered::Refused(No::Bare(42));
-    }
-    let judged = judge_names(names, lengths);
-    match judged {
-        Judged::Failed(fault) => Numbered::Refused(fault),
-        Judged::Passed(_, total) => {
+    match judge_names(names, lengths) {
+        Err(fault) => Err(fault),
+        Ok(total) => {
             if text.len() < total {
-                return Numbered::Refused(No::Bare(28));
+                return Err(No::Bare(28));
             }
             put_names(names, lengths, text);
-            Numbered::Number(total)
+            Ok(total)
         }
     }
 }

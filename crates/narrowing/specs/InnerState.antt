@@ -1,12 +1,14 @@
 -- What the contracts of the search with rows say of its state, a partial map with rows. Assumes nothing.
-use Rattle.std.specs.Prelude.{◌≡◌, Bool, true, cond, List, ℕ, ◌-◌, ◌≤◌, ◌<◌, eqb, length, take, drop, replicate}
+use Rattle.std.specs.Prelude.{◌≡◌, Bool, true, cond, List, [], ℕ, ◌-◌, ◌≤◌, ◌<◌, eqb, length, take, drop, replicate}
 use Rattle.std.proofs.Math.Option.{Option}
 use Rattle.semigroups.specs.Lists.{at}
 use Rattle.semigroups.specs.Tables.{Product, Element}
-use Rattle.semigroups.specs.Scratch.{scratch_size, marked}
+use Rattle.semigroups.specs.Scratch.{marked}
 use Rattle.semigroups.specs.InnerMaps.{Embedding, Among}
 use Rattle.semigroups.specs.Trials.{passes}
-use Rattle.semigroups.specs.InnerSearch.{Placed}
+use Rattle.semigroups.specs.InnerSearch.{search, Placed}
+use Rattle.products.specs.Tables.{times_of}
+use Rattle.backtrack.specs.declared.asked.Search.{Search}
 use Rattle.backtrack.specs.InnerState.{bounded}
 use Rattle.colours.specs.InnerColours.{same_colour}
 use Rattle.rows.specs.InnerRows.{has, kept_rows}
@@ -20,8 +22,17 @@ unfoldable pub start_rows : ℕ → Product → ℕ → Product → (ℕ → ℕ
 start_rows m s n t candidate = let rows = kept_rows m n candidate full_rows in cond (eqb m n) (kept_rows n n (same_colour n s t) rows) rows
 
 -- What the search must find from a partial map: the earliest map asked for that begins with the list placed and rises along the relation, or none.
-abbrev pub due : Product → ℕ → Product → ℕ → List ℕ → List ℕ → (ℕ → ℕ → Bool) → Bool → Partial → Option (List ℕ)
-due s m t n scratch after relation tight p = earliest_rising m s n t (marked n scratch) (bounded tight after) relation (m - p.len) (placed_list p)
+abbrev pub due : Search → (ℕ → ℕ → Bool) → Bool → Partial → Option (List ℕ)
+due w relation tight p =
+    earliest_rising w.source.now.order (times_of w.source.now) w.target.now.order (times_of w.target.now) (marked w.target.now.order w.scratch.now) (bounded tight w.after.now) relation (w.source.now.order - p.len) (placed_list p)
+
+-- What the search must find among given candidates: the first map or, for true, the next one.
+abbrev pub wanted_among : Search → (ℕ → ℕ → Bool) → Bool → Option (List ℕ)
+wanted_among w candidate later = search (times_of w.source.now) (times_of w.target.now) candidate (bounded later w.after.now) w.target.now.order w.source.now.order []
+
+-- The same among the marked candidates.
+abbrev pub wanted : Search → Bool → Option (List ℕ)
+wanted w later = wanted_among w (marked w.target.now.order w.scratch.now) later
 
 -- The images placed are elements, and zeros follow them.
 pub record PlacedImages (n : ℕ) (image : List ℕ) (len : ℕ) : Type 0 where
@@ -32,16 +43,15 @@ pub record PlacedImages (n : ℕ) (image : List ℕ) (len : ℕ) : Type 0 where
 
 -- What holds whenever the search goes on from a partial map. The images placed rise along the relation, and the rows of the elements that it leads to from a
 -- placed one hold only elements above the image of that one.
-pub record Reached (s : Product) (m : ℕ) (t : Product) (n : ℕ) (scratch after : List ℕ) (relation : ℕ → ℕ → Bool) (tight : Bool) (p : Partial) : Type 0 where
-  pub placing : PlacedImages n p.image p.len
-  pub within : p.len ≤ m
-  pub marks : (i : ℕ) → Element p.len i → marked n scratch i (at p.image i) ≡ true
-  pub settled : Settled s t p.image p.len p.len p.rows
-  pub passed : p.ok ≡ true → Placed n (placed_list p) × (passes s t (placed_list p) ≡ true)
+pub record Reached (w : Search) (relation : ℕ → ℕ → Bool) (tight : Bool) (p : Partial) : Type 0 where
+  pub placing : PlacedImages w.target.now.order p.image p.len
+  pub within : p.len ≤ w.source.now.order
+  pub marks : (i : ℕ) → Element p.len i → marked w.target.now.order w.scratch.now i (at p.image i) ≡ true
+  pub settled : Settled (times_of w.source.now) (times_of w.target.now) p.image p.len p.len p.rows
+  pub passed : p.ok ≡ true → Placed w.target.now.order (placed_list p) × (passes (times_of w.source.now) (times_of w.target.now) (placed_list p) ≡ true)
   pub later : (i j : ℕ) → relation i j ≡ true → i < j
   pub rising : (i j : ℕ) → Element p.len i → Element p.len j → relation i j ≡ true → at p.image i < at p.image j
-  pub above : (i j y : ℕ) → Element p.len i → Element m j → Element n y → relation i j ≡ true → rows_in p j y ≡ true → at p.image i < y
-  pub covers : (f : List ℕ) → Embedding m s n t f → Among m (marked n scratch) f → rises m relation f ≡ true → Begins f p.image p.len → (p.ok ≡ true) × Among m (has p.rows) f
-  pub space : scratch_size m n ≤ length scratch
-  pub bound : length after ≡ m
-  pub same : tight ≡ true → take p.len after ≡ placed_list p
+  pub above : (i j y : ℕ) → Element p.len i → Element w.source.now.order j → Element w.target.now.order y → relation i j ≡ true → rows_in p j y ≡ true → at p.image i < y
+  pub covers : (f : List ℕ) → Embedding w.source.now.order (times_of w.source.now) w.target.now.order (times_of w.target.now) f → Among w.source.now.order (marked w.target.now.order w.scratch.now) f
+      → rises w.source.now.order relation f ≡ true → Begins f p.image p.len → (p.ok ≡ true) × Among w.source.now.order (has p.rows) f
+  pub same : tight ≡ true → take p.len w.after.now ≡ placed_list p

@@ -4,25 +4,27 @@
 #![tactic(auto)]
 
 ghost use Rattle.std.specs.Prelude.{◌≡◌, ◌&&◌, ◌+◌, ◌≤◌};
-ghost use Rattle.semigroups.specs.Tables.{product, Element, Filled};
+ghost use Rattle.semigroups.specs.Tables.{Element};
+ghost use Rattle.products.specs.Tables.{times_of};
 ghost use Rattle.rows.specs.InnerRows.{in_row, word, packed_row, kept_rows};
 ghost use Rattle.neighbours.specs.InnerNeighbours.{Neighbours, no_more, enough, has_as_many};
 
+use products::Table;
 use rows::{Row, WORDS};
 
-// Returns, for each pattern, how many of n elements form it with c.
-fn neighbours(cells: &[u8], n: usize, c: usize) -> [u8; 64]
-    requires { Filled n cells.now × Element n c }
-    ensures counts { Neighbours n (product n cells.now) c result }
+pub mod old;
+
+// Returns, for each pattern, how many elements of the table form it with c.
+#[tactic(auto, using(crate::proofs::Sending::pattern_below))]
+fn neighbours(table: &Table<'_>, c: usize) -> [u8; 64]
+    requires { Element table.now.order c }
+    ensures counts { Neighbours table.now.order (times_of table.now) c result }
 {
     let mut found = [0u8; 64];
-    let mut b: usize = 1;
-    while b <= n {
-        let cb = tables::times(cells, n, c, b);
-        let bc = tables::times(cells, n, b, c);
-        let k = propagation::pattern(c, b, cb, bc);
-        found[k] = found[k] + 1;
-        b += 1;
+    for b in 1..table.order + 1 {
+        let cb = table.times(c, b);
+        let bc = table.times(b, c);
+        found[propagation::pattern(c, b, cb, bc)] += 1;
     }
     found
 }
@@ -31,68 +33,51 @@ fn neighbours(cells: &[u8], n: usize, c: usize) -> [u8; 64]
 fn no_more<'a>(few: &'a [u8; 64], many: &'a [u8; 64]) -> bool
     ensures answer { result ≡ no_more few.now many.now }
 {
-    let mut k: usize = 1;
-    while k <= 64 {
-        if many[k - 1] < few[k - 1] {
-            return false;
-        }
-        k += 1;
-    }
-    true
+    (1..65).all(|k| few[k - 1] <= many[k - 1])
 }
 
 // Returns whether y is in the row and has at least as many neighbours of each pattern as `few` says.
-fn has_enough(target: &[u8], n: usize, few: &[u8; 64], row: Row, y: usize) -> bool
-    requires { Filled n target.now × Element n y }
-    ensures answer { result ≡ (in_row row y && enough n (product n target.now) few.now y) }
+fn has_enough(target: &Table<'_>, few: &[u8; 64], row: Row, y: usize) -> bool
+    requires { Element target.now.order y }
+    ensures answer { result ≡ (in_row row y && enough target.now.order (times_of target.now) few.now y) }
 {
-    if !rows::in_row(row, y) {
-        return false;
-    }
-    let many = neighbours(target, n, y);
-    no_more(few, &many)
+    row.has(y) && no_more(few, &neighbours(target, y))
 }
 
 // Returns the word of those of the `count` elements from `from` on that are in the row and have at least as many neighbours of each pattern as `few` says.
-fn enough_word(target: &[u8], n: usize, few: &[u8; 64], row: Row, from: usize, count: usize) -> u64
-    requires filled { Filled n target.now }
-    requires le_from { (1 ≤ from) × (from ≤ 61) × (count ≤ 60) × (1 ≤ count → from + count ≤ n + 1) }
-    ensures answer { result ≡ word (λ y. in_row row y && enough n (product n target.now) few.now y) from count }
+fn enough_word(target: &Table<'_>, few: &[u8; 64], row: Row, from: usize, count: usize) -> u64
+    requires le_from { (1 ≤ from) × (from ≤ 61) × (count ≤ 60) × (1 ≤ count → from + count ≤ target.now.order + 1) }
+    ensures answer { result ≡ word (λ y. in_row row y && enough target.now.order (times_of target.now) few.now y) from count }
 {
     let mut w: u64 = 0;
-    let mut k: usize = 0;
-    while k < count {
-        if has_enough(target, n, few, row, from + k) {
+    for k in 0..count {
+        if has_enough(target, few, row, from + k) {
             w += 1u64 << k;
         }
-        k += 1;
     }
     w
 }
 
-// Returns the row with only those of its elements from 1 to n that have at least as many neighbours of each pattern as `few` says.
-fn enough_row(target: &[u8], n: usize, few: &[u8; 64], row: Row) -> Row
-    requires { Filled n target.now }
-    ensures answer { result ≡ packed_row n (λ y. in_row row y && enough n (product n target.now) few.now y) }
+// Returns the row with only those of its elements that are elements of the table and have at least as many neighbours of each pattern as `few` says.
+#[tactic(auto, unfolding(rows::specs::InnerRows::packed_row))]
+fn enough_row(target: &Table<'_>, few: &[u8; 64], row: Row) -> Row
+    ensures answer { result ≡ packed_row target.now.order (λ y. in_row row y && enough target.now.order (times_of target.now) few.now y) }
 {
-    let low = rows::low_count(n);
+    let low = rows::low_count(target.order);
     Row {
-        lo: enough_word(target, n, few, row, 1, low),
-        hi: enough_word(target, n, few, row, 61, n - low),
+        lo: enough_word(target, few, row, 1, low),
+        hi: enough_word(target, few, row, 61, target.order - low),
     }
 }
 
-// Takes out of each of the first m rows the elements above n, and those that have fewer neighbours of some pattern than the element whose row it is; the rows
-// after these do not change. No embedding is lost.
-pub fn keep_neighbours(source: &[u8], m: usize, target: &[u8], n: usize, rows: &mut [u64; WORDS])
-    requires { Filled m source.now × Filled n target.now }
-    ensures rows { rows.new ≡ kept_rows m n (has_as_many m (product m source.now) n (product n target.now)) rows.old }
+// Takes out of the row of each source element the elements that are none of the target, and those that have fewer neighbours of some pattern than the source
+// element; the rows after these do not change. No embedding is lost.
+pub fn keep_neighbours(source: &Table<'_>, target: &Table<'_>, rows: &mut [u64; WORDS])
+    ensures rows { rows.new ≡ kept_rows source.now.order target.now.order (has_as_many source.now.order (times_of source.now) target.now.order (times_of target.now)) rows.old }
 {
-    let mut c: usize = 1;
-    while c <= m {
-        let few = neighbours(source, m, c);
-        let row = enough_row(target, n, &few, rows::row_of(&*rows, c));
+    for c in 1..source.order + 1 {
+        let few = neighbours(source, c);
+        let row = enough_row(target, &few, rows::row_of(&*rows, c));
         rows::mask(rows, c, row);
-        c += 1;
     }
 }

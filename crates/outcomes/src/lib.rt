@@ -8,7 +8,7 @@ ghost use Rattle.search.specs.Answers.{search_answer_says, limited_answer_says};
 ghost use Rattle.planning.specs.Answers.{degree_answer_says};
 ghost use Rattle.numbers.specs.Numbers.{answer_words, sought_values, limited_values, degree_values};
 
-use planning::DegreeAnswer;
+use answers::No;
 use search::{LimitedAnswer, SearchAnswer};
 use words::{refusal_words, words};
 
@@ -36,12 +36,12 @@ pub fn limited_words(said: LimitedAnswer) -> [u64; 16]
 }
 
 // Returns the sixteen numbers of an answer about the least degree.
-pub fn degree_words(said: DegreeAnswer) -> [u64; 16]
+pub fn degree_words(said: Result<Option<usize>, No>) -> [u64; 16]
     ensures answer { result ≡ answer_words degree_values (degree_answer_says said) }
 {
     match said {
-        DegreeAnswer::Degree(degree) => words(0, 0, &[degree]),
-        DegreeAnswer::Nothing => words(0, 0, &[0]),
-        DegreeAnswer::Refused(no) => refusal_words(no.refusal()),
+        Ok(Some(degree)) => words(0, 0, &[degree]),
+        Ok(None) => words(0, 0, &[0]),
+        Err(no) => refusal_words(no.refusal()),
     }
 }

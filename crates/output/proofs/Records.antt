@@ -3,6 +3,7 @@
 use mathlib.Core.Path.{◌≡◌, refl, ap, sym, ◌∙◌}
 use mathlib.Core.List.{List, [], ◌∷◌, ◌++◌, map, flat_map, append-nil}
 use Prim.Native.Nat.{ℕ, zero, suc, ◌+◌, ◌-◌, ◌*◌, ◌≤◌, ◌<◌}
+use native.Mathlib.Nat.{add-sub_cancel}
 use native.Mathlib.Numerals.{add-one}
 use native.Mathlib.Omega.{arith}
 use lib.ListN.{length, get_or, length-append}
@@ -84,16 +85,21 @@ module _ (m : ℕ) (f : List ℕ) where
   pub pairs_begun : (before : List ℕ) (start : ℕ) → Writing before start (rows_text (pair_records m f)) (pairs_left m f 1) before start
   pairs_begun before start = rw (← pairs_first m f) (write_first before start (rows_text (pair_records m f)))
 
-  pub pair_room : (i at room : ℕ) → i ≤ m → at + length (pairs_left m f i) ≤ room → at + length (line_text (numeral i ∷ numeral (get_or f (i - 1) 0) ∷ [])) ≤ room
+  -- The record at place i, which is that of element i + 1, comes first of those that are left.
+  pairs_here : (i : ℕ) → i < m → pairs_left m f (i + 1) ≡ line_text (numeral (i + 1) ∷ numeral (get_or f i 0) ∷ []) ++ pairs_left m f (i + 1 + 1)
   unfolding pair_record at
-  pair_room i at room h r = omega (arith, simp length-append at (ap length (pairs_step m f i h)))
+  pairs_here i h =
+      pairs_step m f (i + 1) (omega arith)
+      ∙ ap (λ (k : ℕ). line_text (numeral (i + 1) ∷ numeral (get_or f k 0) ∷ []) ++ pairs_left m f (i + 1 + 1)) (add-sub_cancel i 1)
 
-  pub pairs_more : {before out : List ℕ} {start place : ℕ} (i : ℕ) {later : List ℕ} {next : ℕ} → i ≤ m
-      → Writing before start (rows_text (pair_records m f)) (pairs_left m f i) out place
-      → later ≡ sets out place (line_text (numeral i ∷ numeral (get_or f (i - 1) 0) ∷ [])) → next ≡ place + length (line_text (numeral i ∷ numeral (get_or f (i - 1) 0) ∷ []))
-      → Writing before start (rows_text (pair_records m f)) (pairs_left m f (i + 1)) later next
-  unfolding pair_record at
-  pairs_more i h w placed next = written w (line_text (numeral i ∷ numeral (get_or f (i - 1) 0) ∷ [])) (pairs_left m f (i + 1)) (pairs_step m f i h) placed next
+  pub pair_room : (i at room : ℕ) → i < m → at + length (pairs_left m f (i + 1)) ≤ room → at + length (line_text (numeral (i + 1) ∷ numeral (get_or f i 0) ∷ [])) ≤ room
+  pair_room i at room h r = omega (arith, simp length-append at (ap length (pairs_here i h)))
+
+  pub pairs_more : {before out : List ℕ} {start place : ℕ} (i : ℕ) {later : List ℕ} {next : ℕ} → i < m
+      → Writing before start (rows_text (pair_records m f)) (pairs_left m f (i + 1)) out place
+      → later ≡ sets out place (line_text (numeral (i + 1) ∷ numeral (get_or f i 0) ∷ [])) → next ≡ place + length (line_text (numeral (i + 1) ∷ numeral (get_or f i 0) ∷ []))
+      → Writing before start (rows_text (pair_records m f)) (pairs_left m f (i + 1 + 1)) later next
+  pairs_more i h w placed next = written w (line_text (numeral (i + 1) ∷ numeral (get_or f i 0) ∷ [])) (pairs_left m f (i + 1 + 1)) (pairs_here i h) placed next
 
 -- ---- the whole text, from the start of a buffer on
 

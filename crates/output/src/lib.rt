@@ -16,7 +16,6 @@ ghost use Rattle.output.specs.InnerLength.{longest_output};
 use files::{failed_question, load_then_check};
 use kinds::Kind;
 use lines::{put_break, put_field, put_number, put_record};
-use tables::Numbered;
 use tables::limits::{CELLS, ORDER, OUTPUT, SCRATCH};
 
 // Writes the record of a word and two numbers to the start of `out`. Returns its length.
@@ -49,10 +48,8 @@ fn put_pairs(out: &mut [u8], start: usize, map: &[u8]) -> usize
     ensures out { out.new ≡ sets out.old start (rows_text (pair_records (length map.now) map.now)) }
 {
     let mut at = start;
-    let mut i: usize = 1;
-    while i <= map.len() {
-        at = put_pair(out, at, i, map[i - 1] as usize);
-        i += 1;
+    for (i, image) in map.iter().enumerate() {
+        at = put_pair(out, at, i + 1, *image as usize);
     }
     at
 }
@@ -100,12 +97,12 @@ pub fn recue(source: &[u8], target: &[u8], out: &mut [u8; OUTPUT]) -> usize
 {
     let mut source_cells = [0u8; CELLS];
     let first = load_then_check(source, &mut source_cells);
-    let Numbered::Number(m) = first else {
+    let Ok(m) = first else {
         return put_first(out, b"refused", 1, failed_question(first));
     };
     let mut target_cells = [0u8; CELLS];
     let second = load_then_check(target, &mut target_cells);
-    let Numbered::Number(n) = second else {
+    let Ok(n) = second else {
         return put_first(out, b"refused", 2, failed_question(second));
     };
     let source_size = m * m;

@@ -12,13 +12,13 @@ use native.Mathlib.Omega.{arith}
 use borrow.Author.Tests.{eq-eqb, ne_eqb}
 use lib.Dec.{eqb}
 use lib.ListN.{length, take, drop, get_or, set, replicate, length-map, length-set, length-drop, length-append}
-use lib.Seq.{ext_get_or, get_or-set_same, get_or-set_other, take-suc, take_at, take-take, get_or-take, get_or-drop, drop-drop, length-take-le}
+use lib.Seq.{ext_get_or, get_or-set_same, get_or-set_other, take-suc, take_at, get_or-drop, drop-drop, length-take-le}
 use Rattle.semigroups.specs.Lists.{range, elements, at, keep, member}
 use Rattle.semigroups.specs.InnerLists.{NoRepeats}
 use Rattle.semigroups.specs.Tables.{Product, product, Element, Accepted, grid}
 use Rattle.semigroups.specs.Questions.{Refusal, table_refusal}
 use Rattle.semigroups.specs.InnerQuestions.{no}
-use Rattle.semigroups.specs.Calls.{refused, gives, overwritten}
+use Rattle.semigroups.specs.Calls.{Answer, refused, gives, overwritten}
 use Rattle.semigroups.specs.InnerGenerated.{Inside}
 use Rattle.semigroups.specs.Generated.{set_of, generated}
 use Rattle.semigroups.specs.Subsemigroups.{number_in, renumbered, part_cells, subsemigroup_refusal}
@@ -26,9 +26,9 @@ use Rattle.semigroups.specs.SubsemigroupsLaws.{SubsemigroupPasses}
 use Rattle.semigroups.proofs.Booleans.{either, equal_or_not}
 use Rattle.semigroups.proofs.Lists.{length_range, get_d_range, get_d_map, length_elements, mem_elements, elements_mem, at_front, at_seam, length_snoc, member_mem, mem_member, not_member, unmember, mem_take, keep_agree}
 use Rattle.semigroups.proofs.NoRepeats.{length_inside, place_mem}
-use Rattle.semigroups.proofs.Tables.{length_grid, accepted_closed}
+use Rattle.semigroups.proofs.Tables.{length_grid, accepted, accepted_closed}
 use Rattle.semigroups.proofs.Generated.{generated_inside, generated_no_repeats, generated_closed, generated_set}
-use Rattle.semigroups.proofs.Subsemigroups.{at_mem, number_at, at_number, cells_short, elements_short, subsemigroup_passes}
+use Rattle.semigroups.proofs.Subsemigroups.{number_at, at_number, cells_short, elements_short, subsemigroup_passes}
 use Rattle.semigroups.proofs.Writing.{written, written_none, written_all, length_written, write_next}
 use Rattle.light.specs.InnerFound.{indicator}
 use Rattle.parts.specs.InnerParts.{marked_elements, numbering, ClosedPart}
@@ -187,62 +187,48 @@ module _ (e : List ℕ) (x : ℕ) (u : NoRepeats (e ++ x ∷ [])) where
 few : (n : ℕ) (e : List ℕ) → Inside n e → NoRepeats e → length e ≤ n
 few n e inside u = let b = length_inside e (elements n) u (λ x m. elements_mem n x (inside x m)) in omega (arith, length_elements n)
 
--- The loop over the first k entries, once i of them have their numbers.
-module _ (l : List ℕ) (k : ℕ) (room : k ≤ length l) (inside : Inside 120 (take k l)) where
-  pub entry_small : (i : ℕ) → i < k → get_or l i 0 ≤ 120
-  entry_small i h =
-      let b = inside (get_or (take k l) i 0) (place_mem 0 (take k l) i (omega (arith, length-take-le k l room))) in
-      omega (arith, get_or-take k l i 0 h)
+-- The loop over the elements, once i of them have their numbers.
+module _ (l : List ℕ) (inside : Inside 120 l) where
+  pub entry_small : (i : ℕ) → i < length l → get_or l i 0 ≤ 120
+  entry_small i h = (inside (get_or l i 0) (place_mem 0 l i h)).1
 
-  pub numbers_few : NoRepeats (take k l) → k ≤ 120
-  numbers_few u = let b = few 120 (take k l) inside u in omega (arith, length-take-le k l room)
+  pub numbers_few : NoRepeats l → length l ≤ 120
+  numbers_few u = few 120 l inside u
 
-  pub numbers_next : NoRepeats (take k l) → (i : ℕ) (numbers : List ℕ) → i < k → numbers ≡ numbering (take i l) → set numbers (get_or l i 0) (i + 1) ≡ numbering (take (i + 1) l)
+  pub numbers_next : NoRepeats l → (i : ℕ) (numbers : List ℕ) → i < length l → numbers ≡ numbering (take i l) → set numbers (get_or l i 0) (i + 1) ≡ numbering (take (i + 1) l)
   numbers_next u i numbers h e =
       let x = get_or l i 0 in
       let long = length-take-le i l (omega arith) in
       let longer : take (i + 1) l ≡ take i l ++ x ∷ [] = ap (λ (j : ℕ). take j l) (add-one i) ∙ take-suc l i 0 (omega arith) in
-      let apart : NoRepeats (take i l ++ x ∷ []) = subst (λ (m : List ℕ). NoRepeats m) (take-take (i + 1) k l (omega arith) ∙ longer) (no_repeats_take (i + 1) (take k l) u) in
+      let apart : NoRepeats (take i l ++ x ∷ []) = subst (λ (m : List ℕ). NoRepeats m) longer (no_repeats_take (i + 1) l u) in
       ap (λ (m : List ℕ). set m x (i + 1)) e ∙ ap (λ (j : ℕ). set (numbering (take i l)) x (j + 1)) (sym long) ∙ numbering_set (take i l) x apart (entry_small i h)
       ∙ ap numbering (sym longer)
 
 -- ---- the cells
 
-module _ (n : ℕ) (s : Product) (l : List ℕ) (k : ℕ) (room : k ≤ length l) (P : ClosedPart n s (take k l)) where
-  abbrev part : List ℕ
-  part = take k l
-
-  part_long : length part ≡ k
-  part_long = length-take-le k l room
-
-  pub entry_at : (i : ℕ) → Element k i → at part i ≡ get_or l (i - 1) 0
+module _ (n : ℕ) (s : Product) (l : List ℕ) (P : ClosedPart n s l) where
+  entry_at : (i : ℕ) → at l (i + 1) ≡ get_or l i 0
   unfolding at
-  entry_at i h = get_or-take k l (i - 1) 0 (omega arith)
+  entry_at i = ap (λ (k : ℕ). get_or l k 0) (add-sub_cancel i 1)
 
-  listed : (i : ℕ) → Element k i → Memᴰ (get_or l (i - 1) 0) part
-  listed i h = subst (λ (x : ℕ). Memᴰ x part) (entry_at i h) (at_mem part i (let e = part_long in let z : Element (length part) i = omega arith in z))
+  pub entry_element : (i : ℕ) → i < length l → Element n (get_or l i 0)
+  entry_element i h = P.inside (get_or l i 0) (place_mem 0 l i h)
 
-  pub entry_element : (i : ℕ) → Element k i → Element n (get_or l (i - 1) 0)
-  entry_element i h = P.inside (get_or l (i - 1) 0) (listed i h)
-
-  -- What the code looks up for row i, column j is the cell of the part.
-  pub cell_number : (i j z : ℕ) (numbers : List ℕ) → n ≤ 120 → Element k i → Element k j → z ≡ s (get_or l (i - 1) 0) (get_or l (j - 1) 0) → numbers ≡ numbering part → get_or numbers z 0 ≡ renumbered s part i j
+  -- What the code looks up for row i, column j, both counted from 0, is the cell of the part.
+  pub cell_number : (i j z : ℕ) (numbers : List ℕ) → n ≤ 120 → i < length l → j < length l → z ≡ s (get_or l i 0) (get_or l j 0) → numbers ≡ numbering l → get_or numbers z 0 ≡ renumbered s l (i + 1) (j + 1)
   unfolding renumbered
   cell_number i j z numbers small hi hj e q =
-      let m : Memᴰ z part = subst (λ (x : ℕ). Memᴰ x part) (sym e) (P.closed (get_or l (i - 1) 0) (get_or l (j - 1) 0) (listed i hi) (listed j hj)) in
+      let m : Memᴰ z l = subst (λ (x : ℕ). Memᴰ x l) (sym e) (P.closed (get_or l i 0) (get_or l j 0) (place_mem 0 l i hi) (place_mem 0 l j hj)) in
       let h = P.inside z m in
-      ap (λ (m : List ℕ). get_or m z 0) q ∙ numbering_mem part z (omega arith) m
-      ∙ ap (number_in part) (e ∙ ap₂ s (sym (entry_at i hi)) (sym (entry_at j hj)))
+      ap (λ (m : List ℕ). get_or m z 0) q ∙ numbering_mem l z (omega arith) m
+      ∙ ap (number_in l) (e ∙ ap₂ s (sym (entry_at i)) (sym (entry_at j)))
 
-  pub part_few : k ≤ n
-  part_few = let e = part_long in let b = few n part P.inside P.no_repeats in omega arith
+  pub part_few : length l ≤ n
+  part_few = few n l P.inside P.no_repeats
 
-  pub part_written : (b : List ℕ) → grid k k (renumbered s part) ++ drop (k * k) b ≡ overwritten (part_cells s part) b
+  pub part_written : (b : List ℕ) → grid (length l) (length l) (renumbered s l) ++ drop (length l * length l) b ≡ overwritten (part_cells s l) b
   unfolding part_cells
-  part_written b =
-      let e = part_long in
-      ap (λ (m : ℕ). grid m m (renumbered s part) ++ drop (m * m) b) (sym e)
-      ∙ ap (λ (m : ℕ). grid (length part) (length part) (renumbered s part) ++ drop m b) (sym (length_grid (length part) (length part) (renumbered s part)))
+  part_written b = ap (λ (m : ℕ). grid (length l) (length l) (renumbered s l) ++ drop m b) (sym (length_grid (length l) (length l) (renumbered s l)))
 
 -- What an accepted table's list generates is such a part.
 module _ (n : ℕ) (cells l : List ℕ) (a : Accepted n cells) where
@@ -259,13 +245,22 @@ module _ (n : ℕ) (cells l : List ℕ) (a : Accepted n cells) where
 
 -- ---- what each way out of the questions says, of the answer and of both buffers
 
+-- The call with buffers p and q answers a, and leaves the buffers p' and q'.
+abbrev pub Says : (n : ℕ) (cells l p q : List ℕ) (a : Answer ℕ) (p' q' : List ℕ) → Type 0
+Says n cells l p q a p' q' =
+    record {
+      answer : a ≡ subsemigroup_says n cells l (length p) (length q);
+      part : p' ≡ part_after n cells l p (length q);
+      elements : q' ≡ elements_after n cells l (length p) q;
+    }
+
 module _ (n : ℕ) (cells l part listing : List ℕ) where
   abbrev Refused : Refusal → Type 0
-  Refused r = (refused r ≡ subsemigroup_says n cells l (length part) (length listing)) × ((part ≡ part_after n cells l part (length listing)) × (listing ≡ elements_after n cells l (length part) listing))
+  Refused r = Says n cells l part listing (refused r) part listing
 
   pub kept : (r : Refusal) → subsemigroup_refusal n cells l (length part) (length listing) ≡ some r → Refused r
   unfolding subsemigroup_says part_after elements_after
-  kept r e = (rw e, (rw e, rw e))
+  kept r e = record { answer = rw e; part = rw e; elements = rw e }
 
   -- What is known if the table's four questions and 60 have passed, where k is the part's order.
   module _ (t : table_refusal n cells ≡ none) (one : 1 ≤ length l) (inside : Inside n l) (k : ℕ) (e : k ≡ length (generated n (product n cells) l)) where
@@ -276,13 +271,28 @@ module _ (n : ℕ) (cells l part listing : List ℕ) where
     short_elements c h = kept (no 62 []) (elements_short n cells l (length part) (length listing) t one inside (subst (λ (m : ℕ). m * m ≤ length part) e c) (omega arith))
 
 pub subsemigroup_keeps : SubsemigroupKeeps
-subsemigroup_keeps n cells l part listing r e = let k = kept n cells l part listing r e in (sym k.1.0, sym k.1.1)
+subsemigroup_keeps n cells l part listing r e = let k = kept n cells l part listing r e in (sym k.part, sym k.elements)
 
 -- Every question has passed; k is the part's order, and `marks` marks its elements.
 pub record Ready (n : ℕ) (cells l part listing : List ℕ) (k : ℕ) (marks : List ℕ) : Type 0 where
   pub passes : SubsemigroupPasses n cells l (length part) (length listing)
   pub order : k ≡ length (generated n (product n cells) l)
   pub marked : marks ≡ indicator (generated n (product n cells) l)
+
+pub ready : {n : ℕ} {cells l part listing : List ℕ} {k : ℕ} {marks : List ℕ} → none ≡ table_refusal n cells → 1 ≤ length l → Inside n l → k * k ≤ length part → k ≤ length listing → marks ≡ indicator (generated n (product n cells) l)
+    → k ≡ length (generated n (product n cells) l) → Ready n cells l part listing k marks
+ready {part} {listing} t one inside cells_room elements_room marked order =
+    record {
+      passes = record {
+        table = accepted _ _ (sym t);
+        one = one;
+        inside = inside;
+        cells_room = subst (λ (k : ℕ). k * k ≤ length part) order cells_room;
+        elements_room = subst (λ (k : ℕ). k ≤ length listing) order elements_room;
+      };
+      order = order;
+      marked = marked;
+    }
 
 -- The marked elements are written, and then their table.
 module _ {n : ℕ} {cells l part listing : List ℕ} {k : ℕ} {marks : List ℕ} (p : Ready n cells l part listing k marks) where
@@ -311,9 +321,8 @@ module _ {n : ℕ} {cells l part listing : List ℕ} {k : ℕ} {marks : List ℕ
     pub after_part : ClosedPart n (product n cells) (take k after)
     after_part = subst (ClosedPart n (product n cells)) (sym taken_after) (generated_part n cells l p.passes.table)
 
-    pub given : {cells' : List ℕ} → cells' ≡ overwritten (part_cells (product n cells) (take k after)) part
-        → (gives k ≡ subsemigroup_says n cells l (length part) (length listing)) × ((cells' ≡ part_after n cells l part (length listing)) × (after ≡ elements_after n cells l (length part) listing))
+    pub given : {cells' : List ℕ} → cells' ≡ overwritten (part_cells (product n cells) (take k after)) part → Says n cells l part listing (gives k) cells' after
     unfolding subsemigroup_says part_after elements_after
     given {cells'} q =
         let whole : cells' ≡ overwritten (part_cells (product n cells) these) part = q ∙ ap (λ (m : List ℕ). overwritten (part_cells (product n cells) m) part) taken_after in
-        (rw (none_failed, p.order), (rw none_failed whole, rw none_failed listed_after))
+        record { answer = rw (none_failed, p.order); part = rw none_failed whole; elements = rw none_failed listed_after }

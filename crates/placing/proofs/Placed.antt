@@ -1,12 +1,10 @@
 -- What holds of a map holds when it is handed on with one more image. Assumes nothing.
 use mathlib.Core.Path.{◌≡◌}
-use mathlib.Core.Bool.{true}
 use mathlib.Core.List.{List}
 use Prim.Native.Nat.{ℕ, ◌+◌, ◌-◌}
 use native.Mathlib.Omega.{arith}
 use lib.ListN.{take}
 use Rattle.semigroups.specs.Tables.{Product}
-use Rattle.semigroups.specs.Trials.{passes}
 use Rattle.constraints.specs.InnerTracking.{Tracks}
 use Rattle.placing.specs.declared.Partial.{Partial}
 use Rattle.placing.specs.InnerPlaced.{prefix}
@@ -15,7 +13,3 @@ use Rattle.placing.specs.InnerPlaced.{prefix}
 pub handed_on : (s t : Product) (p q : Partial) → q.len ≡ p.len + 1 → take p.len q.image ≡ prefix p → (forced owner : List ℕ) → Tracks s t (prefix p) p.len 0 forced owner
     → Tracks s t (take (q.len - 1) q.image) (q.len - 1) 0 forced owner
 handed_on s t p q el ep forced owner W = let e : q.len - 1 ≡ p.len = omega arith in rw (e, ep) W
-
--- What was placed before x still passes.
-pub handed_passes : (s t : Product) (p q : Partial) → q.len ≡ p.len + 1 → take p.len q.image ≡ prefix p → passes s t (prefix p) ≡ true → passes s t (take (q.len - 1) q.image) ≡ true
-handed_passes s t p q el ep e = let k : q.len - 1 ≡ p.len = omega arith in rw (k, ep) e

@@ -3,29 +3,25 @@
 
 #![tactic(auto)]
 
-ghost use Rattle.std.specs.Prelude.{◌≡◌, true, false, [], ◌∷◌, ◌++◌, ℕ, ◌+◌, ◌-◌, ◌≤◌, ◌<◌, take, set};
+ghost use Rattle.std.specs.Prelude.{◌≡◌, true, false, [], ◌∷◌, ◌++◌, ℕ, ◌+◌, ◌-◌, ◌≤◌, ◌<◌, take, set, MatchOption, IfSome};
 ghost use Rattle.semigroups.specs.Lists.{member};
-ghost use Rattle.semigroups.specs.Tables.{largest_order, product, Element, Filled};
+ghost use Rattle.semigroups.specs.Tables.{largest_order, Element};
 ghost use Rattle.semigroups.specs.Trials.{passes};
+ghost use Rattle.products.specs.Tables.{times_of};
 ghost use Rattle.constraints.specs.InnerTracking.{Placing, Tracks};
 ghost use Rattle.placing.specs.InnerPlaced.{prefix};
 
+use constraints::{Attempt, Required};
+use products::Table;
 use products::limits::{ORDER, PLACES};
 
-// The map placed so far. The image of element i is image[i - 1]; used[y] is 1 where y is an image. The constraints, `forced` and `owner`, are no part of it:
-// each call of the search lends its own to the calls inside it, so that they are copied once and not with every map that is placed, tested and passed on.
+// The map placed so far. The image of element i is image[i - 1]; used[y] is 1 where y is an image. What the pairs placed require is no part of it: each call of
+// the search lends its own to the calls inside it, so that it is copied once and not with every map that is placed, tested and passed on.
 #[derive(Clone, Copy)]
 pub struct Partial {
     pub image: [u8; ORDER],
     pub used: [u8; PLACES],
     pub len: usize,
-}
-
-// The result of a test: whether the list placed passes, and the map, handed back.
-#[derive(Clone, Copy)]
-pub struct Tested {
-    pub ok: bool,
-    pub partial: Partial,
 }
 
 impl Partial {
@@ -42,68 +38,73 @@ impl Partial {
     }
 
     // Returns the map with x as the image of the next element.
-    fn place(self, n: usize, x: usize) -> Self
-        requires placing_2 { Placing n self.image self.used self.len }
-        requires element { Element n x × (n ≤ largest_order) × (self.len < largest_order) × (member x (prefix self) ≡ false) }
+    fn place(mut self, n: usize, x: usize) -> Self
+        requires placing { Placing n self.image self.used self.len }
+        requires element { Element n x × (n ≤ largest_order) }
+        requires room { self.len < largest_order }
+        requires fresh { member x (prefix self) ≡ false }
         ensures placing { Placing n result.image result.used result.len }
-        ensures more { (prefix result ≡ prefix self ++ x ∷ []) × (take self.len result.image ≡ prefix self) × (result.len ≡ self.len + 1) }
+        ensures longer { prefix result ≡ prefix self ++ x ∷ [] }
+        ensures before { take self.len result.image ≡ prefix self }
+        ensures one_more { result.len ≡ self.len + 1 }
         ensures image { result.image ≡ set self.image self.len x }
     {
-        let at = self.len;
-        let mut p = self;
-        p.image[at] = x as u8;
-        p.used[x] = 1;
-        p.len = at + 1;
-        p
+        self.image[self.len] = x as u8;
+        self.used[x] = 1;
+        self.len += 1;
+        self
     }
 
-    // Tests the newest element. Returns whether the list placed passes, and the map as it was. The list must pass without that element, and the constraints are
-    // those of the list without it.
-    fn test(
-        self,
-        source: &[u8],
-        m: usize,
-        target: &[u8],
-        n: usize,
-        forced: &[u8; PLACES],
-        owner: &[u8; PLACES],
-    ) -> Tested
-        requires filled { Filled m source.now × Filled n target.now }
-        requires placing { Placing n self.image self.used self.len × Element m self.len }
-        requires tracks { Tracks (product m source.now) (product n target.now) (take (self.len - 1) self.image) (self.len - 1) 0 forced.now owner.now × (passes (product m source.now) (product n target.now) (take (self.len - 1) self.image) ≡ true) }
-        ensures answer { result.ok ≡ passes (product m source.now) (product n target.now) (prefix self) }
-        ensures same { result.partial ≡ self }
+    // Tests the newest element. Returns the map as it was if the list placed passes, else none. The list must pass without that element, and what is required
+    // is that of the list without it.
+    fn test(self, source: &Table<'_>, target: &Table<'_>, required: &Required) -> Option<Self>
+        requires placing { Placing target.now.order self.image self.used self.len }
+        requires some { Element source.now.order self.len }
+        requires tracks { Tracks (times_of source.now) (times_of target.now) (take (self.len - 1) self.image) (self.len - 1) 0 required.now.forced required.now.owner }
+        requires passed { passes (times_of source.now) (times_of target.now) (take (self.len - 1) self.image) ≡ true }
+        ensures answer { MatchOption result (passes (times_of source.now) (times_of target.now) (prefix self) ≡ false) (λ q. passes (times_of source.now) (times_of target.now) (prefix self) ≡ true) }
+        ensures same { IfSome result (λ q. q ≡ self) }
     {
         let before = self.len - 1;
         let x = self.image[before] as usize;
         let image = &self.image;
         let used = &self.used;
-        let ok = constraints::passes_with(
-            source, m, target, n, image, used, forced, owner, before, x,
-        );
-        Tested { ok, partial: self }
+        let newest = Attempt {
+            source,
+            target,
+            image,
+            used,
+            len: before,
+            x,
+        };
+        if !required.passes_with(&newest) {
+            return None;
+        }
+        Some(self)
     }
 
-    // Places x as the image of the next element and tests it. Returns whether the list with x passes, and the map with x placed. The constraints are those of
+    // Places x as the image of the next element and tests it. Returns the map with x placed if the list with x passes, else none. What is required is that of
     // the list without x.
     pub fn tried(
         self,
-        source: &[u8],
-        m: usize,
-        target: &[u8],
-        n: usize,
-        forced: &[u8; PLACES],
-        owner: &[u8; PLACES],
+        source: &Table<'_>,
+        target: &Table<'_>,
+        required: &Required,
         x: usize,
-    ) -> Tested
-        requires filled { Filled m source.now × Filled n target.now }
-        requires placing_2 { Placing n self.image self.used self.len × Tracks (product m source.now) (product n target.now) (prefix self) self.len 0 forced.now owner.now × (passes (product m source.now) (product n target.now) (prefix self) ≡ true) }
-        requires element { Element n x × (self.len < m) × (member x (prefix self) ≡ false) }
-        ensures answer { result.ok ≡ passes (product m source.now) (product n target.now) (prefix self ++ x ∷ []) }
-        ensures placing { Placing n result.partial.image result.partial.used result.partial.len }
-        ensures more { (prefix result.partial ≡ prefix self ++ x ∷ []) × (take self.len result.partial.image ≡ prefix self) × (result.partial.len ≡ self.len + 1) }
-        ensures image { result.partial.image ≡ set self.image self.len x }
+    ) -> Option<Self>
+        requires placing { Placing target.now.order self.image self.used self.len }
+        requires tracks { Tracks (times_of source.now) (times_of target.now) (prefix self) self.len 0 required.now.forced required.now.owner }
+        requires passed { passes (times_of source.now) (times_of target.now) (prefix self) ≡ true }
+        requires element { Element target.now.order x }
+        requires room { self.len < source.now.order }
+        requires fresh { member x (prefix self) ≡ false }
+        ensures answer { MatchOption result (passes (times_of source.now) (times_of target.now) (prefix self ++ x ∷ []) ≡ false) (λ q. passes (times_of source.now) (times_of target.now) (prefix self ++ x ∷ []) ≡ true) }
+        ensures placing { IfSome result (λ q. Placing target.now.order q.image q.used q.len) }
+        ensures longer { IfSome result (λ q. prefix q ≡ prefix self ++ x ∷ []) }
+        ensures before { IfSome result (λ q. take self.len q.image ≡ prefix self) }
+        ensures one_more { IfSome result (λ q. q.len ≡ self.len + 1) }
+        ensures image { IfSome result (λ q. q.image ≡ set self.image self.len x) }
     {
-        self.place(n, x).test(source, m, target, n, forced, owner)
+        self.place(target.order, x).test(source, target, required)
     }
 }

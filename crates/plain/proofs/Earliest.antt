@@ -1,21 +1,14 @@
--- The test of a kind, and the earliest map of a kind as the first list that passes a test. Assumes nothing.
-use mathlib.Core.Path.{◌≡◌, refl}
-use mathlib.Core.Bool.{Bool, true, false, ◌&&◌, ◌||◌, not}
+-- The earliest map of a kind as the first list that passes a test. Assumes nothing.
+use mathlib.Core.Path.{◌≡◌}
+use mathlib.Core.Bool.{Bool, ◌&&◌}
 use mathlib.Core.List.{List}
 use Prim.Native.Nat.{ℕ}
-use lib.Dec.{eqb}
-use Rattle.semigroups.specs.InnerSearch.{plain_kind}
 use Rattle.semigroups.specs.Lists.{find, earlier, lists}
 use Rattle.semigroups.specs.Tables.{Product}
-use Rattle.semigroups.specs.Maps.{Kind, is_embedding, is_isomorphism, is_map, maps, next, earliest}
+use Rattle.semigroups.specs.Maps.{Kind, is_map, maps, next, earliest}
 use Rattle.semigroups.proofs.Lists.{find_keep}
 
 module _ (m : ℕ) (s : Product) (n : ℕ) (t : Product) where
-  pub kind_test : (isomorphisms : Bool) (f : List ℕ) → ((not isomorphisms || eqb m n) && is_embedding m s n t f) ≡ is_map (plain_kind isomorphisms) m s n t f
-  unfolding is_isomorphism
-  kind_test true f = refl
-  kind_test false f = refl
-
   module _ (kind : Kind) (b : List ℕ) where
     -- Whether f is a map of the kind that is later than b.
     abbrev pub later : List ℕ → Bool

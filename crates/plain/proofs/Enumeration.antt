@@ -1,21 +1,27 @@
 -- Lists by their numbers: the entries of list number k less one are the digits of k in base n; a search through the numbers finds the first list that
 -- passes. Assumes nothing.
-use mathlib.Core.Path.{◌≡◌, refl, sym, ap, ap₂, ◌∙◌, subst}
-use mathlib.Core.Bool.{Bool, true, false, cond}
+use mathlib.Core.Path.{◌≡◌, refl, sym, ap, ap₂, ◌∙◌}
+use mathlib.Core.Bool.{Bool, true, false, ◌&&◌, cond}
 use mathlib.Core.List.{List, [], ◌∷◌}
+use mathlib.Core.Option
 use mathlib.Core.Option.{Option, none, some}
-use Prim.Native.Nat.{ℕ, zero, suc, ◌+◌, ◌-◌, ◌*◌, ◌/◌, ◌%◌, ◌^◌, ◌≤◌, ◌<◌}
-use native.Mathlib.Nat.{pow-le-pow_left, pow-le-pow_right, pow-suc}
+use Prim.Native.Nat.{ℕ, zero, suc, ◌+◌, ◌-◌, ◌/◌, ◌%◌, ◌^◌, ◌≤◌, ◌<◌}
+use native.Mathlib.Nat.{pow-le-pow_left, pow-le-pow_right}
 use native.Mathlib.Omega.{arith}
 use lib.ListN.{length, get_or, take, drop, set, length-set, drop_of_length-le}
 use lib.Seq.{take_all, drop-cons, drop-set-lt, get_or-set_same}
-use borrow.Author.Tests.{ne_eqb}
-use lib.Dec.{ltb}
-use Rattle.semigroups.specs.Lists.{at, find, earlier, lists}
+use borrow.Author.Tests.{eqb-true, ltb-true}
+use Rattle.std.specs.Prelude.{Option as Optional, None, Some, MatchOption, nat_lt, nat_eq}
+use Rattle.std.specs.List.{list_all, range_with_len, find as first}
+use Rattle.std.specs.declared.cmp.Ordering.TheVariants.{Less, Equal, Greater}
+use Rattle.std.specs.Ordering.{nat_cmp, is_lt, is_some_and, partial_ordering_then}
+use Rattle.std.specs.Cmp.Lexicographic.{slice_partial_cmp}
+use Rattle.semigroups.specs.Lists.{at, all, find, earlier, lists}
+use Rattle.semigroups.specs.Results.{optional}
 use Rattle.semigroups.specs.Tables.{Element}
 use Rattle.semigroups.specs.InnerTables.{IsList}
 use Rattle.semigroups.proofs.NoRepeats.{place_mem, place_unique}
-use Rattle.semigroups.proofs.ListOrder.{earlier_tail, lists_increasing, increasing_no_repeats, mem_lists, length_lists}
+use Rattle.semigroups.proofs.ListOrder.{lists_increasing, increasing_no_repeats, mem_lists, length_lists}
 use Rattle.semigroups.proofs.Tables.{list_at}
 use Rattle.semigroups.proofs.Digits.{digits, list_place, drop_digit, last_digit}
 use Rattle.plain.specs.InnerEnumeration.{numbered}
@@ -28,9 +34,6 @@ power_small m n hm hn =
     let b : 120 ^ m ≤ 120 ^ 9 = pow-le-pow_right (let z : 1 ≤ 120 = omega arith in z) hm in
     let c : 120 ^ 9 ≡ 5159780352000000000 = refl in
     omega arith
-
-pub power_next : (n k : ℕ) → n ^ k * n ≡ n ^ (k + 1)
-power_next n k = sym (ap (λ (q : ℕ). n ^ q) (let z : k + 1 ≡ suc k = omega arith in z) ∙ pow-suc n k)
 
 -- ---- a list and its number
 
@@ -51,6 +54,12 @@ module _ (m n k : ℕ) (h : k < n ^ m) where
 
 -- ---- a search through the numbers
 
+ahead : (m n k : ℕ) → k < n ^ m → drop k (lists m n) ≡ numbered m n k ∷ drop (k + 1) (lists m n)
+unfolding numbered
+ahead m n k h =
+    drop-cons (lists m n) k [] (omega (arith, length_lists m n))
+    ∙ ap (λ (q : ℕ). get_or (lists m n) k [] ∷ drop q (lists m n)) (let z : suc k ≡ k + 1 = omega arith in z)
+
 module _ (p : List ℕ → Bool) (m n : ℕ) where
   -- What is found from number k on.
   unfoldable pub remaining : ℕ → Option (List ℕ)
@@ -61,19 +70,13 @@ module _ (p : List ℕ → Bool) (m n : ℕ) where
   search_begin = refl
 
   module _ (k : ℕ) (h : k < n ^ m) where
-    ahead : drop k (lists m n) ≡ numbered m n k ∷ drop (k + 1) (lists m n)
-    unfolding numbered
-    ahead =
-        drop-cons (lists m n) k [] (omega (arith, length_lists m n))
-        ∙ ap (λ (q : ℕ). get_or (lists m n) k [] ∷ drop q (lists m n)) (let z : suc k ≡ k + 1 = omega arith in z)
-
     pub search_skip : p (numbered m n k) ≡ false → remaining k ≡ remaining (k + 1)
     unfolding remaining find
-    search_skip e = ap (find p) ahead ∙ ap (λ (b : Bool). cond b (some (numbered m n k)) (find p (drop (k + 1) (lists m n)))) e
+    search_skip e = ap (find p) (ahead m n k h) ∙ ap (λ (b : Bool). cond b (some (numbered m n k)) (find p (drop (k + 1) (lists m n)))) e
 
     pub search_hit : p (numbered m n k) ≡ true → remaining k ≡ some (numbered m n k)
     unfolding remaining find
-    search_hit e = ap (find p) ahead ∙ ap (λ (b : Bool). cond b (some (numbered m n k)) (find p (drop (k + 1) (lists m n)))) e
+    search_hit e = ap (find p) (ahead m n k h) ∙ ap (λ (b : Bool). cond b (some (numbered m n k)) (find p (drop (k + 1) (lists m n)))) e
 
   past : (l : List (List ℕ)) (k : ℕ) → length l ≤ k → find p (drop k l) ≡ none
   unfolding find
@@ -85,6 +88,42 @@ module _ (p : List ℕ → Bool) (m n : ℕ) where
   pub search_end : (k : ℕ) → n ^ m ≤ k → remaining k ≡ none
   unfolding remaining
   search_end k h = past (lists m n) k (omega (arith, length_lists m n))
+
+-- ---- calls of `all` and `find` through the numbers
+
+module _ (p : List ℕ → Bool) (m n : ℕ) where
+  pub all_numbers : (d k : ℕ) → k + d ≡ n ^ m → list_all (λ j. p (numbered m n j)) (range_with_len k d) ≡ all p (drop k (lists m n))
+  unfolding all
+  all_numbers zero k e = sym (ap (all p) (drop_of_length-le (lists m n) (let z : length (lists m n) ≤ k = omega (arith, length_lists m n) in z)))
+  all_numbers (suc d) k e =
+      ap (λ (b : Bool). p (numbered m n k) && b) (all_numbers d (k + 1) (omega arith)) ∙ sym (ap (all p) (ahead m n k (omega arith)))
+
+  numbers_from : (d k : ℕ) → k + d ≡ n ^ m → Option.map (numbered m n) (optional (first (λ j. p (numbered m n j)) (range_with_len k d))) ≡ find p (drop k (lists m n))
+  unfolding find
+  numbers_from zero k e = sym (ap (find p) (drop_of_length-le (lists m n) (let z : length (lists m n) ≤ k = omega (arith, length_lists m n) in z)))
+  numbers_from (suc d) k e = by (p (numbered m n k)) (numbers_from d (k + 1) (omega arith)) ∙ sym (ap (find p) (ahead m n k (omega arith)))
+    where
+      by : (b : Bool)
+          → Option.map (numbered m n) (optional (first (λ j. p (numbered m n j)) (range_with_len (k + 1) d))) ≡ find p (drop (k + 1) (lists m n))
+          → Option.map (numbered m n) (optional (cond b (Some k) (first (λ j. p (numbered m n j)) (range_with_len (k + 1) d)))) ≡ cond b (some (numbered m n k)) (find p (drop (k + 1) (lists m n)))
+      by true h = refl
+      by false h = h
+
+  pub find_numbers : (total : ℕ) → total ≡ n ^ m → Option.map (numbered m n) (optional (first (λ j. p (numbered m n j)) (range_with_len 0 total))) ≡ find p (lists m n)
+  find_numbers total e = numbers_from total 0 (omega arith)
+
+-- A number that is found is one of those that were looked at.
+found_at : (p : ℕ → Bool) (d k x : ℕ) → first p (range_with_len k d) ≡ Some x → x < k + d
+found_at p zero k x e = cc
+found_at p (suc d) k x e = by (p k) (λ h. let z : x < k + 1 + d = found_at p d (k + 1) x h in let w : x < k + suc d = omega arith in w) e
+  where
+    by : (b : Bool) → (first p (range_with_len (k + 1) d) ≡ Some x → x < k + suc d) → cond b (Some k) (first p (range_with_len (k + 1) d)) ≡ Some x → x < k + suc d
+    by true h q = let same : k ≡ x = cc in omega arith
+    by false h q = h q
+
+pub found_below : (p : ℕ → Bool) (d : ℕ) (r : Optional ℕ) → r ≡ first p (range_with_len 0 d) → MatchOption r (Unit {0}) (λ k. k < d)
+found_below p d None e = tt
+found_below p d (Some x) e = let b = found_at p d 0 x (sym e) in omega arith
 
 -- ---- a list written from its last entry to its first
 
@@ -110,9 +149,6 @@ module _ (m n k : ℕ) (h : k < n ^ m) where
       }
 
   module _ (list : List ℕ) (rest i : ℕ) (w : Written n f list rest i) where
-    pub write_length : length list ≡ m
-    write_length = w.size ∙ (numbered_list m n k h).size
-
     pub write_end : i ≡ 0 → list ≡ f
     write_end e = sym (ap (λ (q : ℕ). drop q list) e) ∙ w.done ∙ ap (λ (q : ℕ). drop q f) e
 
@@ -148,36 +184,24 @@ module _ (m n k : ℕ) (h : k < n ^ m) where
                 ∙ sym (drop-cons f (i - 1) 0 (omega arith));
           }
 
--- ---- list order, entry by entry
+-- ---- list order
 
-module _ (a b : List ℕ) (size : length a ≡ length b) where
-  pub order_end : (i : ℕ) → length a ≤ i → earlier (drop i a) (drop i b) ≡ false
-  unfolding earlier
-  order_end i h = ap (λ (l : List ℕ). earlier l (drop i b)) (drop_of_length-le a h)
-
-  module _ (i : ℕ) (h : i < length a) where
-    heads : earlier (drop i a) (drop i b) ≡ earlier (get_or a i 0 ∷ drop (suc i) a) (get_or b i 0 ∷ drop (suc i) b)
-    heads = ap₂ earlier (drop-cons a i 0 h) (drop-cons b i 0 (let z : i < length b = omega arith in z))
-
-    pub order_next : get_or a i 0 ≡ get_or b i 0 → earlier (drop i a) (drop i b) ≡ earlier (drop (i + 1) a) (drop (i + 1) b)
-    order_next e =
-        heads ∙ ap (λ (x : ℕ). earlier (x ∷ drop (suc i) a) (get_or b i 0 ∷ drop (suc i) b)) e ∙ earlier_tail (get_or b i 0) (drop (suc i) a) (drop (suc i) b)
-        ∙ ap (λ (q : ℕ). earlier (drop q a) (drop q b)) (let z : suc i ≡ i + 1 = omega arith in z)
-
-    pub order_decided : (get_or a i 0 ≡ get_or b i 0 → ⊥) → earlier (drop i a) (drop i b) ≡ ltb (get_or a i 0) (get_or b i 0)
-    unfolding earlier
-    order_decided e = heads ∙ ap (λ (q : Bool). cond q (earlier (drop (suc i) a) (drop (suc i) b)) (ltb (get_or a i 0) (get_or b i 0))) (ne_eqb _ _ e)
+-- Rust's order of lists of one length is list order.
+pub order_is : (a b : List ℕ) → length a ≡ length b → is_some_and is_lt (slice_partial_cmp (λ x y. Some (nat_cmp x y)) a b) ≡ earlier a b
+unfolding earlier
+order_is [] [] e = refl
+order_is [] (y ∷ b) e = absurd (let z : ⊥ = omega arith in z)
+order_is (x ∷ a) [] e = absurd (let z : ⊥ = omega arith in z)
+order_is (x ∷ a) (y ∷ b) e = by (order_is a b (omega arith)) (nat_lt x y) (nat_eq x y) refl refl
+  where
+    by : is_some_and is_lt (slice_partial_cmp (λ x y. Some (nat_cmp x y)) a b) ≡ earlier a b → (l q : Bool) → nat_lt x y ≡ l → nat_eq x y ≡ q
+        → is_some_and is_lt (partial_ordering_then (Some (cond l Less (cond q Equal Greater))) (slice_partial_cmp (λ x y. Some (nat_cmp x y)) a b)) ≡ cond q (earlier a b) l
+    by rest true true h k = absurd (let u = ltb-true _ _ h in let v = eqb-true _ _ k in let z : ⊥ = omega arith in z)
+    by rest true false h k = refl
+    by rest false true h k = rest
+    by rest false false h k = refl
 
 -- ---- entries
 
 pub entry_element : (m n : ℕ) (l : List ℕ) → IsList m n l → (k : ℕ) → k < m → Element n (get_or l k 0)
 entry_element m n l h k below = h.entries (get_or l k 0) (place_mem 0 l k (let s = h.size in let z : k < length l = omega arith in z))
-
--- ---- a buffer of m bytes to which list number k is written
-
-module _ (m n k size : ℕ) (list : List ℕ) (same : size ≡ m) (written : list ≡ numbered size n k) where
-  pub drawn : list ≡ numbered m n k
-  drawn = written ∙ ap (λ (q : ℕ). numbered q n k) same
-
-  pub drawn_list : k < n ^ m → IsList m n list
-  drawn_list h = subst (IsList m n) (sym drawn) (numbered_list m n k h)

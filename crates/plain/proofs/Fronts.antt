@@ -13,9 +13,6 @@ module _ (size room : ℕ) (h : size ≤ room) (l : List ℕ) (e : length l ≡ 
   front_taken : length (take size l) ≡ size
   front_taken = length-take-le size l (omega arith)
 
-  pub front_long : size ≡ length (take size l)
-  front_long = sym front_taken
-
   -- The front of the array has the length that its number of lists is taken for.
   pub front_number : (n k : ℕ) → k < n ^ size → k < n ^ length (take size l)
   front_number n k q = rw front_taken q

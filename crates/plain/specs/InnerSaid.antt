@@ -1,4 +1,5 @@
--- The answer to the questions about a table, as numbers (RULES 7). Assumes nothing.
+-- The answer to the questions about a table, with the "no" as numbers (RULES 7). Assumes nothing.
+use Rattle.std.specs.Prelude.{Result, Ok, Err}
 use Rattle.std.proofs.Math.Option.{Option, none, some}
 use Rattle.semigroups.specs.Lists.{at}
 use Rattle.semigroups.specs.Questions.{Refusal}
@@ -8,7 +9,7 @@ use Rattle.plain.specs.declared.Said.{Said}
 abbrev pub refusal_said : Refusal → Said
 refusal_said r = record { number = r.number; first = at r.values 1; second = at r.values 2; third = at r.values 3 }
 
--- The numbers of a refusal; 0 if no question fails.
-abbrev pub said_of : Option Refusal → Said
-said_of none = record { number = 0; first = 0; second = 0; third = 0 }
-said_of (some r) = refusal_said r
+-- The numbers of a refusal, if a question fails.
+abbrev pub said_of : Option Refusal → Result (Unit {0}) Said
+said_of none = Ok tt
+said_of (some r) = Err (refusal_said r)

@@ -1,2 +1,3 @@
 pub mod InnerEnumeration
 pub mod InnerSaid
+pub mod InnerTables

@@ -2,44 +2,34 @@
 
 #![tactic(auto)]
 
-ghost use Rattle.std.specs.Prelude.{◌≡◌, ◌&&◌, ◌++◌, ◌^◌, ◌≤◌, ◌<◌, length, drop, replicate};
+pub mod table;
+
+ghost use Rattle.std.specs.Prelude.{◌≡◌, ◌&&◌, ◌++◌, ◌^◌, ◌≤◌, ◌<◌, length, drop, replicate, MatchOption};
 ghost use Rattle.std.proofs.Math.Option;
-ghost use Rattle.std.proofs.Math.Option.{get_or};
-ghost use Rattle.semigroups.specs.InnerSearch.{plain_kind};
-ghost use Rattle.semigroups.specs.Lists.{at, earlier, is_some};
-ghost use Rattle.semigroups.specs.Tables.{Element, Filled, product, associates, bad_cell, bad_triple};
+ghost use Rattle.semigroups.specs.Lists.{at, earlier};
+ghost use Rattle.semigroups.specs.Results.{optional};
+ghost use Rattle.semigroups.specs.Tables.{Element, bad_cell, bad_triple};
 ghost use Rattle.semigroups.specs.InnerTables.{IsList};
 ghost use Rattle.semigroups.specs.InnerQuestions.{no};
 ghost use Rattle.semigroups.specs.Questions.{table_refusal};
 ghost use Rattle.semigroups.specs.Maps.{is_embedding, is_map, maps, next, earliest};
 ghost use Rattle.plain.specs.InnerEnumeration.{numbered, keeps};
 ghost use Rattle.plain.specs.InnerSaid.{said_of};
+ghost use Rattle.plain.specs.InnerTables.{product_of, kind_of};
 
-// Returns the product i·j: rows and columns count from 1.
-fn product(cells: &[u8], n: usize, i: usize, j: usize) -> usize
-    requires fact_1 { Filled n cells.now }
-    requires fact_2 { Element n i }
-    requires fact_3 { Element n j }
-    ensures answer { result ≡ product n cells.now i j }
-    ensures element { Element n result }
-{
-    cells[i * n - n + j - 1] as usize
-}
+use crate::table::Table;
 
 // ---- all lists
 
+// Three functions below ask alike of n and k, each for a length of its own: a struct of the two would say no less.
+
 // Returns how many lists of m entries from 1 to n there are.
+#[tactic(auto, using(crate::proofs::Enumeration::power_small))]
 pub fn number_of_lists(m: usize, n: usize) -> usize
     requires { (m ≤ 9) × (n ≤ 120) }
     ensures answer { result ≡ n ^ m }
 {
-    let mut total: usize = 1;
-    let mut k: usize = 0;
-    while k < m {
-        total *= n;
-        k += 1;
-    }
-    total
+    n.pow(m as u32)
 }
 
 // Fills `list` with list number k, counted from 0, of all lists of its length with entries from 1 to n.
@@ -49,19 +39,29 @@ fn write_list(list: &mut [u8], n: usize, k: usize)
     ensures list { list.new ≡ numbered (length list.old) n k }
 {
     let mut rest = k;
-    let mut i = list.len();
-    while 0 < i {
-        i -= 1;
+    for i in (0..list.len()).rev() {
         list[i] = (rest % n + 1) as u8;
-        rest = rest / n;
+        rest /= n;
     }
+}
+
+// Returns list number k of all lists of M entries from 1 to n.
+fn list_of<const M: usize>(n: usize, k: usize) -> [u8; M]
+    requires element { Element 120 n }
+    requires k_bound { k < n ^ M }
+    ensures list { result ≡ numbered M n k }
+    ensures elements { IsList M n result }
+{
+    let mut list = [0u8; M];
+    write_list(&mut list, n, k);
+    list
 }
 
 // Returns list number k of all lists of m entries from 1 to n, at the start of an array; the bytes after it are 0.
 pub fn list_number(m: usize, n: usize, k: usize) -> [u8; 9]
-    requires fact_1 { m ≤ 9 }
-    requires fact_2 { Element 120 n }
-    requires fact_3 { k < n ^ m }
+    requires small { m ≤ 9 }
+    requires element { Element 120 n }
+    requires k_bound { k < n ^ m }
     ensures list { result ≡ numbered m n k ++ drop m (replicate 9 0) }
 {
     let mut list = [0u8; 9];
@@ -74,22 +74,13 @@ fn earlier(a: &[u8], b: &[u8]) -> bool
     requires { length a.now ≡ length b.now }
     ensures answer { result ≡ earlier a.now b.now }
 {
-    let mut i: usize = 0;
-    while i < a.len() {
-        let x = a[i];
-        let y = b[i];
-        if x != y {
-            return x < y;
-        }
-        i += 1;
-    }
-    false
+    a < b
 }
 
 // ---- tables
 
-// The answer to the questions about a table: the number of the failed question, or 0, and the cell or the triple.
-#[derive(Clone, Copy)]
+// The "no" to a question about a table: the number of the question, and the cell or the triple that fails; 0 where the "no" carries less.
+#[derive(Clone, Copy, PartialEq, Eq)]
 pub struct Said {
     pub number: usize,
     pub first: usize,
@@ -97,7 +88,7 @@ pub struct Said {
     pub third: usize,
 }
 
-// Returns the answer with this number, which is 0 if no question fails, and at most one value.
+// Returns the "no" with this number and at most one value.
 pub fn failed(number: usize, value: usize) -> Said
     ensures answer { result ≡ record { number = number; first = value; second = 0; third = 0 } }
 {
@@ -109,184 +100,161 @@ pub fn failed(number: usize, value: usize) -> Said
     }
 }
 
-// Returns the first cell that is not 1 to n, counted from 1, or 0 if there is none.
-fn wrong_cell(cells: &[u8], n: usize) -> usize
-    ensures answer { result ≡ get_or (bad_cell n cells.now) 0 }
+// Returns the first cell that is not 1 to n, counted from 1, if there is one.
+fn wrong_cell(cells: &[u8], n: usize) -> Option<usize>
+    ensures answer { optional result ≡ bad_cell n cells.now }
 {
-    let mut k: usize = 1;
-    while k <= cells.len() {
-        let cell = cells[k - 1] as usize;
-        if cell < 1 {
-            return k;
-        }
-        if n < cell {
-            return k;
-        }
-        k += 1;
-    }
-    0
+    (1..cells.len() + 1).find(|k| {
+        let cell = cells[*k - 1] as usize;
+        cell < 1 || n < cell
+    })
 }
 
-// Returns whether a triple of elements associates.
-fn associates(cells: &[u8], n: usize, triple: &[u8; 3]) -> bool
-    requires fact_1 { Filled n cells.now }
-    requires fact_2 { IsList 3 n triple.now }
-    ensures answer { result ≡ associates (product n cells.now) (at triple.now 1) (at triple.now 2) (at triple.now 3) }
+// Asks question 4 of a table: goes through the triples in list order, and returns the "no" with the first that fails, if one does.
+fn judge_triples(table: &Table) -> Result<(), Said>
+    ensures answer { result ≡ said_of (Option.map (λ l. no 4 l) (bad_triple table.now.order (product_of table.now))) }
 {
-    let i = triple[0] as usize;
-    let j = triple[1] as usize;
-    let k = triple[2] as usize;
-    let ij = product(cells, n, i, j);
-    let jk = product(cells, n, j, k);
-    product(cells, n, ij, k) == product(cells, n, i, jk)
-}
-
-// Asks question 4 of a table: goes through the triples in list order, and returns 4 with the first that fails, or 0 if none does.
-fn judge_triples(cells: &[u8], n: usize) -> Said
-    requires { Filled n cells.now }
-    ensures answer { result ≡ said_of (Option.map (λ l. no 4 l) (bad_triple n (product n cells.now))) }
-{
-    let total = number_of_lists(3, n);
-    let mut triple = [1u8; 3];
-    let mut k: usize = 0;
-    while k < total {
-        write_list(&mut triple, n, k);
-        if !associates(cells, n, &triple) {
-            return Said {
+    for k in 0..number_of_lists(3, table.order) {
+        let triple = list_of::<3>(table.order, k);
+        if !table.associates(&triple) {
+            return Err(Said {
                 number: 4,
                 first: triple[0] as usize,
                 second: triple[1] as usize,
                 third: triple[2] as usize,
-            };
+            });
         }
-        k += 1;
     }
-    failed(0, 0)
+    Ok(())
 }
 
-// Asks the four questions about a table, and returns the first that fails, with its values, or 0 if none does.
-pub fn judge(cells: &[u8], n: usize) -> Said
+// Asks the four questions about a table, and returns the "no" of the first that fails, if one does.
+pub fn judge(cells: &[u8], n: usize) -> Result<(), Said>
     ensures answer { result ≡ said_of (table_refusal n cells.now) }
 {
-    if n < 1 {
-        return failed(1, 0);
-    }
-    if 120 < n {
-        return failed(1, 0);
+    if n < 1 || 120 < n {
+        return Err(failed(1, 0));
     }
     if cells.len() != n * n {
-        return failed(2, 0);
+        return Err(failed(2, 0));
     }
-    let place = wrong_cell(cells, n);
-    if place != 0 {
-        return failed(3, place);
+    if let Some(place) = wrong_cell(cells, n) {
+        return Err(failed(3, place));
     }
-    judge_triples(cells, n)
+    judge_triples(&Table { cells, order: n })
 }
 
 // ---- maps
 
-// Returns the image of element i.
-fn image(map: &[u8], i: usize) -> usize
-    requires { Element (length map.now) i }
-    ensures answer { result ≡ at map.now i }
-{
-    map[i - 1] as usize
+// The kinds of maps that this search looks for.
+#[derive(Clone, Copy)]
+pub enum Kind {
+    Embeddings,
+    Isomorphisms,
 }
 
-// Returns whether the image of the product of the two elements is the product of their images and, if the two differ, their images differ too.
-fn keeps(source: &[u8], m: usize, target: &[u8], n: usize, map: &[u8], pair: &[u8; 2]) -> bool
-    requires fact_1 { Filled m source.now }
-    requires fact_2 { Filled n target.now }
-    requires fact_3 { IsList m n map.now }
-    requires fact_4 { IsList 2 m pair.now }
-    ensures answer { result ≡ keeps (product m source.now) (product n target.now) map.now pair.now }
-{
-    let i = pair[0] as usize;
-    let j = pair[1] as usize;
-    let x = image(map, i);
-    let y = image(map, j);
-    let ij = product(source, m, i, j);
-    let kept = image(map, ij) == product(target, n, x, y);
-    ((i == j) | (x != y)) & kept
+// A list of elements of the target, one for each element of the source.
+#[derive(Clone, Copy)]
+struct Map<'a> {
+    source: Table<'a>,
+    target: Table<'a>,
+    images: &'a [u8],
+    ghost list: { IsList source.order target.order images.now },
 }
 
-// Returns whether a list of m elements of the target is an embedding.
-fn is_embedding(source: &[u8], m: usize, target: &[u8], n: usize, map: &[u8]) -> bool
-    requires fact_1 { Filled m source.now }
-    requires fact_2 { Filled n target.now }
-    requires fact_3 { IsList m n map.now }
-    ensures answer { result ≡ is_embedding m (product m source.now) n (product n target.now) map.now }
-{
-    let total = number_of_lists(2, m);
-    let mut pair = [1u8; 2];
-    let mut k: usize = 0;
-    while k < total {
-        write_list(&mut pair, m, k);
-        if !keeps(source, m, target, n, map, &pair) {
-            return false;
-        }
-        k += 1;
+impl Map<'_> {
+    // Returns the image of element i.
+    fn image(&self, i: usize) -> usize
+        requires { Element self.now.source.order i }
+        ensures answer { result ≡ at self.now.images.now i }
+        ensures element { Element self.now.target.order result }
+    {
+        self.images[i - 1] as usize
     }
-    true
-}
 
-// Returns whether a list of m elements of the target is an embedding, or with `isomorphisms` an isomorphism.
-fn is_map(isomorphisms: bool, source: &[u8], m: usize, target: &[u8], n: usize, map: &[u8]) -> bool
-    requires fact_1 { Filled m source.now }
-    requires fact_2 { Filled n target.now }
-    requires fact_3 { IsList m n map.now }
-    ensures answer { result ≡ is_map (plain_kind isomorphisms) m (product m source.now) n (product n target.now) map.now }
-{
-    (!isomorphisms | (m == n)) & is_embedding(source, m, target, n, map)
-}
-
-// Returns whether list number k is a map of the kind that is later than the list `after`.
-fn is_later_map(
-    isomorphisms: bool,
-    source: &[u8],
-    m: usize,
-    target: &[u8],
-    n: usize,
-    after: &[u8],
-    k: usize,
-) -> bool
-    requires fact_1 { Filled m source.now }
-    requires fact_2 { Filled n target.now }
-    requires fact_3 { m ≤ 9 }
-    requires fact_4 { length after.now ≡ m }
-    requires fact_5 { k < n ^ m }
-    ensures answer { result ≡ (is_map (plain_kind isomorphisms) m (product m source.now) n (product n target.now) (numbered m n k) && earlier after.now (numbered m n k)) }
-{
-    let list = list_number(m, n, k);
-    is_map(isomorphisms, source, m, target, n, &list[..m]) & earlier(after, &list[..m])
-}
-
-// Writes the earliest map of the kind that is later than the list `after` to `map`, and returns true; or returns false, and `map` keeps its bytes.
-pub fn next_map(
-    isomorphisms: bool,
-    source: &[u8],
-    m: usize,
-    target: &[u8],
-    n: usize,
-    after: &[u8],
-    map: &mut [u8],
-) -> bool
-    requires filled_1 { Filled m source.now }
-    requires filled_2 { Filled n target.now }
-    requires filled_3 { m ≤ 9 }
-    requires after_len { (length after.now ≡ m) × (length map.old ≡ m) }
-    ensures found { result ≡ is_some (earliest (next after.now) (maps (plain_kind isomorphisms) m (product m source.now) n (product n target.now))) }
-    ensures map { map.new ≡ get_or (earliest (next after.now) (maps (plain_kind isomorphisms) m (product m source.now) n (product n target.now))) map.old }
-{
-    let total = number_of_lists(m, n);
-    let mut k: usize = 0;
-    while k < total {
-        if is_later_map(isomorphisms, source, m, target, n, after, k) {
-            write_list(map, n, k);
-            return true;
-        }
-        k += 1;
+    // Returns whether the image of the product of the two elements is the product of their images and, if the two differ, their images differ too.
+    #[tactic(auto, unfolding(crate::specs::InnerEnumeration::keeps, semigroups::specs::Lists::at))]
+    fn keeps(&self, pair: &[u8; 2]) -> bool
+        requires pair { IsList 2 self.now.source.order pair.now }
+        ensures answer { result ≡ keeps (product_of self.now.source) (product_of self.now.target) self.now.images.now pair.now }
+    {
+        let i = pair[0] as usize;
+        let j = pair[1] as usize;
+        let x = self.image(i);
+        let y = self.image(j);
+        let ij = self.source.product(i, j);
+        let kept = self.image(ij) == self.target.product(x, y);
+        ((i == j) | (x != y)) & kept
     }
-    false
+
+    // Returns whether the list is an embedding.
+    fn is_embedding(&self) -> bool
+        ensures answer { result ≡ is_embedding self.now.source.order (product_of self.now.source) self.now.target.order (product_of self.now.target) self.now.images.now }
+    {
+        let m = self.source.order;
+        (0..number_of_lists(2, m)).all(|k| self.keeps(&list_of::<2>(m, k)))
+    }
+
+    // Returns whether the list is a map of the kind.
+    #[tactic(auto, unfolding(semigroups::specs::Maps::is_isomorphism))]
+    fn is_map(&self, kind: Kind) -> bool
+        ensures answer { result ≡ is_map (kind_of kind) self.now.source.order (product_of self.now.source) self.now.target.order (product_of self.now.target) self.now.images.now }
+    {
+        match kind {
+            Kind::Embeddings => self.is_embedding(),
+            Kind::Isomorphisms => self.source.order == self.target.order && self.is_embedding(),
+        }
+    }
+}
+
+// What is searched for: a map of the kind from the source to the target that is later than the list `after`.
+#[derive(Clone, Copy)]
+struct Search<'a> {
+    kind: Kind,
+    source: Table<'a>,
+    target: Table<'a>,
+    after: &'a [u8],
+    ghost small: { source.order ≤ 9 },
+    ghost after_len: { length after.now ≡ source.order },
+}
+
+impl Search<'_> {
+    // Returns whether list number k is such a map.
+    fn is_later_map(&self, k: usize) -> bool
+        requires k_bound { k < self.now.target.order ^ self.now.source.order }
+        ensures answer { result ≡ (is_map (kind_of self.now.kind) self.now.source.order (product_of self.now.source) self.now.target.order (product_of self.now.target) (numbered self.now.source.order self.now.target.order k) && earlier self.now.after.now (numbered self.now.source.order self.now.target.order k)) }
+    {
+        let m = self.source.order;
+        let list = list_number(m, self.target.order, k);
+        let map = Map {
+            source: self.source,
+            target: self.target,
+            images: &list[..m],
+        };
+        map.is_map(self.kind) && earlier(self.after, map.images)
+    }
+
+    // Returns the number of the earliest such map, if there is one.
+    fn next_number(&self) -> Option<usize>
+        ensures answer { Option.map (numbered self.now.source.order self.now.target.order) (optional result) ≡ earliest (next self.now.after.now) (maps (kind_of self.now.kind) self.now.source.order (product_of self.now.source) self.now.target.order (product_of self.now.target)) }
+        ensures below { MatchOption result (Unit {0}) (λ k. k < self.now.target.order ^ self.now.source.order) }
+    {
+        (0..number_of_lists(self.source.order, self.target.order)).find(|k| self.is_later_map(*k))
+    }
+}
+
+// Returns the earliest map of the kind that is later than the list `after`, if there is one, at the start of an array; the bytes after it are 0.
+pub fn next_map(kind: Kind, source: &Table, target: &Table, after: &[u8]) -> Option<[u8; 9]>
+    requires small { source.now.order ≤ 9 }
+    requires after_len { length after.now ≡ source.now.order }
+    ensures answer { optional result ≡ Option.map (λ f. f ++ drop source.now.order (replicate 9 0)) (earliest (next after.now) (maps (kind_of kind) source.now.order (product_of source.now) target.now.order (product_of target.now))) }
+{
+    let search = Search {
+        kind,
+        source: *source,
+        target: *target,
+        after,
+    };
+    let k = search.next_number()?;
+    Some(list_number(source.order, target.order, k))
 }

@@ -1,9 +1,9 @@
 -- The number of a transformation, less one, has the images of its points, less one, as its digits: division by the degree drops the last point, and the
 -- remainder is its image. The landing positions of each element are written in this way. Assumes nothing.
-use mathlib.Core.Path.{◌≡◌, sym, ap, ◌∙◌}
+use mathlib.Core.Path.{◌≡◌, sym, ap, ◌∙◌, subst}
 use mathlib.Core.List.{List, [], ◌++◌}
 use Prim.Native.Nat.{ℕ, ◌+◌, ◌-◌, ◌*◌, ◌/◌, ◌%◌, ◌≤◌, ◌<◌}
-use native.Mathlib.Nat.{mul-le-mul_left}
+use native.Mathlib.Nat.{mul-le-mul_left, add-sub_cancel}
 use native.Mathlib.Omega.{arith}
 use lib.ListN.{length, take, drop, get_or}
 use lib.Seq.{take-length}
@@ -78,23 +78,24 @@ module _ (d k : ℕ) (h : Element (transformation_order d) k) where
 pub room_enough : (m d size : ℕ) → Element 3 d → m * 3 ≤ size → m * d ≤ size
 room_enough m d size h room = let b : m * d ≤ m * 3 = mul-le-mul_left m h.1 in omega arith
 
-pub place_small : (m d place : ℕ) → m ≤ 120 → Element 3 d → place < m * d → place < 360
-place_small m d place small h inside = let b = room_enough m d (m * 3) h (omega arith) in omega arith
-
+-- Rows and elements are counted from 0 and 1.
 module _ (m d : ℕ) (f : List ℕ) (F : IsList m (transformation_order d) f) where
-  pub image_number : (i : ℕ) → Element m i → Element (transformation_order d) (get_or f (i - 1) 0)
+  image_at : (i : ℕ) → at f (i + 1) ≡ get_or f i 0
   unfolding at
-  image_number i h = list_at m (transformation_order d) f F i h
+  image_at i = ap (λ (k : ℕ). get_or f k 0) (add-sub_cancel i 1)
 
-  module _ (i x r : ℕ) (hi : Element m i) (hx : Element d x) (e : r ≡ at (transformation d (get_or f (i - 1) 0)) x) where
+  pub image_number : (i : ℕ) → i < m → Element (transformation_order d) (get_or f i 0)
+  image_number i h = subst (Element (transformation_order d)) (image_at i) (list_at m (transformation_order d) f F (i + 1) (omega arith))
+
+  module _ (i x r : ℕ) (hi : i < m) (hx : Element d x) (e : r ≡ at (transformation d (get_or f i 0)) x) where
     pub image_small : Element 3 d → r ≤ 3
     image_small h =
-        let b = list_at d d (transformation d (get_or f (i - 1) 0)) (transformation_list d (get_or f (i - 1) 0) (image_number i hi)) x hx in
+        let b = list_at d d (transformation d (get_or f i 0)) (transformation_list d (get_or f i 0) (image_number i hi)) x hx in
         omega arith
 
-    pub image_position : r ≡ position d f i x
-    unfolding position at
-    image_position = e
+    pub image_position : r ≡ position d f (i + 1) x
+    unfolding position
+    image_position = e ∙ ap (λ (k : ℕ). at (transformation d k) x) (sym (image_at i))
 
 pub landings_written : (m d : ℕ) (f before : List ℕ) → grid m d (position d f) ++ drop (m * d) before ≡ overwritten (landings m d f) before
 unfolding landings

@@ -52,14 +52,15 @@ module _ (m : ℕ) (cells : List ℕ) (size : ℕ) where
 
 module _ (m : ℕ) (cells before : List ℕ) where
   abbrev Said : Answer (Option ℕ) → List ℕ → Type 0
-  Said says left = (says ≡ degree_says m cells (length before)) × (left ≡ positions_after m cells before)
+  Said says left = record { answer : says ≡ degree_says m cells (length before); positions : left ≡ positions_after m cells before }
 
   kept : (r : Refusal) → degree_refusal m cells (length before) ≡ some r → Said (refused r) before
   unfolding degree_says positions_after
-  kept r e = (
-    ap (λ (q : Option Refusal). given_unless q (least_degree m (product m cells))) (sym e),
-    ap (λ (q : Option Refusal). written_unless q (fit_positions m (least_fit m (product m cells))) before) (sym e),
-  )
+  kept r e =
+      record {
+        answer = ap (λ (q : Option Refusal). given_unless q (least_degree m (product m cells))) (sym e);
+        positions = ap (λ (q : Option Refusal). written_unless q (fit_positions m (least_fit m (product m cells))) before) (sym e);
+      }
 
   pub table_kept : (r : Refusal) → table_refusal m cells ≡ some r → Said (refused r) before
   table_kept r e = kept r (table_refused m cells (length before) r e)
@@ -73,10 +74,11 @@ module _ (m : ℕ) (cells before : List ℕ) where
           → Said says left
       unfolding degree_says positions_after
       answered says left said written =
-          let e = none_refused m cells (length before) t enough in (
-            said ∙ ap (λ (q : Option Refusal). given_unless q (least_degree m (product m cells))) (sym e),
-            written ∙ ap (λ (q : Option Refusal). written_unless q (fit_positions m (least_fit m (product m cells))) before) (sym e),
-          )
+          let e = none_refused m cells (length before) t enough in
+          record {
+            answer = said ∙ ap (λ (q : Option Refusal). given_unless q (least_degree m (product m cells))) (sym e);
+            positions = written ∙ ap (λ (q : Option Refusal). written_unless q (fit_positions m (least_fit m (product m cells))) before) (sym e);
+          }
 
       -- A table of more than 27 elements fits at none of the degrees.
       pub too_many : 27 < m → Said (gives none) before

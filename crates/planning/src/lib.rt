@@ -9,7 +9,8 @@ ghost use Rattle.std.proofs.Math.Option.{none, some, get_or};
 ghost use Rattle.semigroups.specs.Lists.{at};
 ghost use Rattle.semigroups.specs.Tables.{largest_order, product, Element, Accepted};
 ghost use Rattle.semigroups.specs.InnerTables.{IsList};
-ghost use Rattle.semigroups.specs.Calls.{gives, overwritten};
+ghost use Rattle.semigroups.specs.Calls.{overwritten};
+ghost use Rattle.semigroups.specs.Results.{optional};
 ghost use Rattle.semigroups.specs.Transformations.{transformation_order, transformation};
 ghost use Rattle.planning.specs.Degrees.{first_at, least_fit, least_degree, landings, fit_positions};
 ghost use Rattle.planning.specs.InnerDegrees.{least_embedding};
@@ -17,45 +18,36 @@ ghost use Rattle.planning.specs.Answers.{degree_answer_says};
 ghost use Rattle.planning.specs.Calls.{degree_says, positions_after};
 
 use kinds::Kind;
-use tables::{No, Numbered, Verdict};
+use tables::No;
 
 // ---- landing positions
 
 // Returns where transformation number k of `degree` points takes point x. The digits of k - 1 in base `degree` are the images of the points, each less one.
 fn landing(degree: usize, k: usize, x: usize) -> usize
-    requires fact_1 { Element 3 degree }
-    requires fact_2 { Element (transformation_order degree) k }
-    requires fact_3 { Element degree x }
+    requires degree { Element 3 degree }
+    requires number { Element (transformation_order degree) k }
+    requires point { Element degree x }
     ensures answer { result ≡ at (transformation degree k) x }
 {
     let mut rest = k - 1;
-    let mut point = degree;
-    while x < point {
+    for _point in x..degree {
         rest /= degree;
-        point -= 1;
     }
     rest % degree + 1
 }
 
-// Writes to the start of `positions`, for each of m elements in turn, the landing positions of its image; later bytes are untouched.
-fn write_positions(image: &[u8], m: usize, degree: usize, positions: &mut [u8])
-    requires fact_1 { m ≤ largest_order }
-    requires fact_2 { Element 3 degree }
-    requires fact_3 { IsList m (transformation_order degree) image.now }
-    requires fact_4 { m * 3 ≤ length positions.old }
-    ensures positions { positions.new ≡ overwritten (landings m degree image.now) positions.old }
+// Writes to the start of `positions`, for each element in turn, the landing positions of its image; later bytes are untouched.
+fn write_positions(image: &[u8], degree: usize, positions: &mut [u8])
+    requires few { length image.now ≤ largest_order }
+    requires degree { Element 3 degree }
+    requires image { IsList (length image.now) (transformation_order degree) image.now }
+    requires room { length image.now * 3 ≤ length positions.old }
+    ensures positions { positions.new ≡ overwritten (landings (length image.now) degree image.now) positions.old }
 {
-    let mut place: usize = 0;
-    let mut i: usize = 1;
-    while i <= m {
-        let k = image[i - 1] as usize;
-        let mut x: usize = 1;
-        while x <= degree {
-            positions[place] = landing(degree, k, x) as u8;
-            place += 1;
-            x += 1;
+    for (i, k) in image.iter().enumerate() {
+        for x in 1..degree + 1 {
+            positions[i * degree + (x - 1)] = landing(degree, *k as usize, x) as u8;
         }
-        i += 1;
     }
 }
 
@@ -64,16 +56,16 @@ fn write_positions(image: &[u8], m: usize, degree: usize, positions: &mut [u8])
 // Returns whether the table of all transformations of `degree` points holds an embedding. The first one is written to `image`, which keeps its bytes if there
 // is none. The tables are accepted and the buffers have the right length, so no question is asked.
 fn fits(cells: &[u8], m: usize, degree: usize, image: &mut [u8]) -> bool
-    requires fact_1 { Accepted m cells.now }
-    requires fact_2 { m ≤ 27 }
-    requires fact_3 { Element 3 degree }
-    requires fact_4 { length image.old ≡ m }
+    requires accepted { Accepted m cells.now }
+    requires few { m ≤ 27 }
+    requires degree { Element 3 degree }
+    requires image { length image.old ≡ m }
     ensures first { cond result (some image.new) none ≡ first_at m (product m cells.now) degree }
     ensures image { image.new ≡ get_or (first_at m (product m cells.now) degree) image.old }
 {
     let mut target = [0u8; 729];
     let filled = transformations::fill(degree, &mut target);
-    let Numbered::Number(n) = filled else {
+    let Ok(n) = filled else {
         return false;
     };
     let size = n * n;
@@ -90,54 +82,39 @@ fn fits(cells: &[u8], m: usize, degree: usize, image: &mut [u8]) -> bool
     )
 }
 
-// What a call for the least degree answers.
-#[derive(Clone, Copy)]
-pub enum DegreeAnswer {
-    // The degree; the landing positions are written.
-    Degree(usize),
-    // None of the degrees 1 to 3.
-    Nothing,
-    Refused(No),
-}
-
 // Tries the degrees from 1 upward. At the first that fits it writes the first embedding to `image` and its positions to `positions`, and returns the degree;
-// if none fits, it returns `Nothing`, and no byte changes.
-fn place(cells: &[u8], m: usize, image: &mut [u8], positions: &mut [u8]) -> DegreeAnswer
-    requires fact_1 { Accepted m cells.now }
-    requires fact_2 { m ≤ 27 }
-    requires fact_3 { length image.old ≡ m }
-    requires fact_4 { m * 3 ≤ length positions.old }
-    ensures answer { degree_answer_says result ≡ gives (least_degree m (product m cells.now)) }
+// if none fits, no byte changes.
+fn place(cells: &[u8], m: usize, image: &mut [u8], positions: &mut [u8]) -> Option<usize>
+    requires accepted { Accepted m cells.now }
+    requires few { m ≤ 27 }
+    requires image { length image.old ≡ m }
+    requires room { m * 3 ≤ length positions.old }
+    ensures answer { optional result ≡ least_degree m (product m cells.now) }
     ensures image { image.new ≡ get_or (least_embedding m (product m cells.now)) image.old }
     ensures positions { positions.new ≡ overwritten (fit_positions m (least_fit m (product m cells.now))) positions.old }
 {
-    let mut degree: usize = 1;
-    while degree <= 3 {
+    for degree in 1..4 {
         if fits(cells, m, degree, image) {
-            write_positions(image, m, degree, positions);
-            return DegreeAnswer::Degree(degree);
+            write_positions(image, degree, positions);
+            return Some(degree);
         }
-        degree += 1;
     }
-    DegreeAnswer::Nothing
+    None
 }
 
 // Answers the least degree from 1 to 3 whose table of all transformations holds an embedding of the table; or none of these; or the earliest question that
 // fails. The landing positions of each element in turn under the first embedding are written to the start of `positions`.
-pub fn least_degree(cells: &[u8], m: usize, positions: &mut [u8]) -> DegreeAnswer
+pub fn least_degree(cells: &[u8], m: usize, positions: &mut [u8]) -> Result<Option<usize>, No>
     ensures answer { degree_answer_says result ≡ degree_says m cells.now (length positions.old) }
     ensures positions { positions.new ≡ positions_after m cells.now positions.old }
 {
-    let table = tables::check(cells, m);
-    if let Verdict::Refused(fault) = table {
-        return DegreeAnswer::Refused(fault.no());
-    }
+    tables::check(cells, m)?;
     if positions.len() < m * 3 {
-        return DegreeAnswer::Refused(No::Bare(80));
+        return Err(No::Bare(80));
     }
     if 27 < m {
-        return DegreeAnswer::Nothing;
+        return Ok(None);
     }
     let mut image = [0u8; 27];
-    place(cells, m, &mut image[..m], positions)
+    Ok(place(cells, m, &mut image[..m], positions))
 }

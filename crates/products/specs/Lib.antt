@@ -1,2 +1,3 @@
 pub mod InnerCounting
 pub mod InnerPerElement
+pub mod Tables

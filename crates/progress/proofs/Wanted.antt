@@ -13,7 +13,7 @@ use Rattle.progress.specs.Classes.{most_files}
 use Rattle.progress.specs.Progress.{wanted_in, wanted}
 use Rattle.progress.specs.Held.{note_from, notes_from, notes_in, phase_of, progress_of}
 use Rattle.progress.specs.declared.Task.{Task}
-use Rattle.progress.specs.declared.Task.TheVariants.{Read, Compare, Stop}
+use Rattle.progress.specs.declared.Task.TheVariants.{Read}
 use Rattle.progress.specs.declared.Classifier.{Classifier}
 
 module _ (orders numbers : List ℕ) (c : ℕ) where
@@ -36,9 +36,3 @@ module _ (s : Classifier) (cells : List ℕ) where
 
   pub wanted_full : s.task ≡ Read → 50 ≤ s.count → 0 ≡ wanted (progress_of s cells)
   wanted_full e h = reading_at false e (le-ltb s.count most_files h)
-
-  pub wanted_again : {n j : ℕ} → s.task ≡ Compare n j → j ≡ wanted (progress_of s cells)
-  wanted_again e = sym (wanted_at e)
-
-  pub wanted_none : s.task ≡ Stop → 0 ≡ wanted (progress_of s cells)
-  wanted_none e = sym (wanted_at e)

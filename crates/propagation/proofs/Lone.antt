@@ -116,15 +116,14 @@ module _ (m : ℕ) (s : Product) (n : ℕ) (t : Product) (rows₀ : List ℕ) wh
     untouched : rows ≡ rows₀ → ((c x : ℕ) → Element m c → (at used c ≡ 0 → ⊥) → Element n x → row_of rows₀ c ≡ single_row x → ⊥) → Effect rows used
     all_kept : SomeLone → ((c : ℕ) → Element m c → (y : ℕ) × Element n y × (has rows c y ≡ true)) → Effect rows used
 
-  -- What holds while rows are used, where l is the next to be used, or 0.
-  pub record Propagating (rows used : List ℕ) (l : ℕ) : Type 0 where
+  -- What holds while rows are used.
+  pub record Propagating (rows used : List ℕ) : Type 0 where
     pub long : length used ≡ 120
     pub keeps : (f : List ℕ) → Embedding m s n t f → Among m (has rows₀) f → Among m (has rows) f
     pub shrinks : Shrinks rows₀ rows
     pub done : (c : ℕ) → Element m c → (at used c ≡ 0 → ⊥) → Used rows c
     pub effect : Effect rows used
     pub steps : PropagatedBy m s n t rows₀ used rows
-    pub next : NextLone rows used m l
 
 module _ (m : ℕ) (s : Product) (n : ℕ) (t : Product) (closed : Closed m s) (lm : m ≤ 120) where
   narrows_still : (old : ℕ → ℕ → Bool) (rows newRows : List ℕ) → Shrinks rows newRows → (l x : ℕ) → Narrows m s n t l x old (has rows) → Narrows m s n t l x old (has newRows)
@@ -156,9 +155,9 @@ module _ (m : ℕ) (s : Product) (n : ℕ) (t : Product) (closed : Closed m s) (
           narrows = λ h. narrows_wider rows₀ rows before l w.image hl (has newRows) (N w.image h w.row);
         }
 
-    pub propagating_start : (l : ℕ) → NextLone rows₀ (replicate 120 0) m l → Propagating m s n t rows₀ rows₀ (replicate 120 0) l
+    pub propagating_start : Propagating m s n t rows₀ rows₀ (replicate 120 0)
     unfolding at
-    propagating_start l next =
+    propagating_start =
         record {
           long = length-replicate {A = ℕ} 120 0;
           keeps = λ f F h. h;
@@ -166,23 +165,23 @@ module _ (m : ℕ) (s : Product) (n : ℕ) (t : Product) (closed : Closed m s) (
           done = λ c hc ne. absurd (ne (get_or-replicate {A = ℕ} 120 (c - 1) 0 0 (omega arith)));
           effect = untouched refl (λ c x hc ne hx e. ne (get_or-replicate {A = ℕ} 120 (c - 1) 0 0 (omega arith)));
           steps = begun;
-          next = next;
         }
 
-    module _ (rows used : List ℕ) (l : ℕ) (P : Propagating m s n t rows₀ rows used l) where
-      module _ (more : l ≡ 0 → ⊥) where
+    module _ (rows used : List ℕ) (P : Propagating m s n t rows₀ rows used) where
+      -- Row l is the next to be used.
+      module _ (l : ℕ) (more : 1 ≤ l) (next : NextLone rows used m l) where
         pub next_element : Element m l
-        next_element = let h = P.next.most in omega arith
+        next_element = (more, next.most)
 
         pub fewer : unused m used ≡ unused m (set used (l - 1) 1) + 1
-        fewer = let h = next_element in let e = P.long in one_fewer used l 1 h.0 (omega arith) (omega arith) m h (P.next.waits h.0).0
+        fewer = let h = next_element in let e = P.long in one_fewer used l 1 h.0 (omega arith) (omega arith) m h (next.waits h.0).0
 
         -- Row l holds one of n elements alone, or it does not.
         held : ((x : ℕ) × Element n x × (row_of rows l ≡ single_row x)) ⊎ ((x : ℕ) → Element n x → row_of rows l ≡ single_row x → ⊥)
         held = go (at_most_or_above w.image n)
           where
             w : Lone rows l
-            w = (P.next.waits next_element.0).1
+            w = (next.waits next_element.0).1
 
             go : (w.image ≤ n) ⊎ (n < w.image) → ((x : ℕ) × Element n x × (row_of rows l ≡ single_row x)) ⊎ ((x : ℕ) → Element n x → row_of rows l ≡ single_row x → ⊥)
             go (inl h) = inl (w.image, (w.element.0, h), w.row)
@@ -230,72 +229,73 @@ module _ (m : ℕ) (s : Product) (n : ℕ) (t : Product) (closed : Closed m s) (
                   emptied = λ _. (l, h.0, hl, h.1, only_still rows newRows less l h.0 (omega arith) (subst (RowInside (row_of rows l)) h.2 (inside_self (row_of rows l))), failed_with_room m s n t l h.0 w.0 newRows w.2);
                   otherwise = λ none. absurd (none some.place some.image some.within some.element some.row);
                   all = λ e. absurd (false≢true e);
-                  until = λ _. (used, rows, l, next_element, P.steps, P.next, told);
+                  until = λ _. (used, rows, l, next_element, P.steps, next, told);
                 }
 
-        pub propagating_more : (newRows : List ℕ) (then : ℕ) → KeepsOrFails m s n t (has rows) true (has newRows) → Shrinks rows newRows
+        pub propagating_more : (newRows : List ℕ) → KeepsOrFails m s n t (has rows) true (has newRows) → Shrinks rows newRows
             → ((x : ℕ) → Element n x → row_of rows l ≡ single_row x → Narrows m s n t l x (has rows) (has newRows)) → KeptOrEmptiedFrom m s n t l rows true newRows
-            → NextLone newRows (set used (l - 1) 1) m then → Propagating m s n t rows₀ newRows (set used (l - 1) 1) then
-        propagating_more newRows then kept less N told next =
+            → Propagating m s n t rows₀ newRows (set used (l - 1) 1)
+        propagating_more newRows kept less N told =
             record {
               long = length-set used (l - 1) 1 ∙ P.long;
               keeps = λ f F h. (kept f F (P.keeps f F h)).1;
               shrinks = shrinks_more rows newRows rows₀ P.shrinks less;
               done = λ c hc ne. go c hc ne (equal_or_not c l);
               effect = effect_more newRows told;
-              steps = further used rows newRows l P.steps next_element.0 P.next told;
-              next = next;
+              steps = further used rows newRows l P.steps more next told;
             }
           where
             go : (c : ℕ) → Element m c → (at (set used (l - 1) 1) c ≡ 0 → ⊥) → (c ≡ l) ⊎ (c ≡ l → ⊥) → UsedNow newRows c
             go c hc ne (inl q) =
                 let h = next_element in
-                subst (UsedNow newRows) (sym q) (used_now rows newRows P.shrinks less l h (P.next.waits h.0).1 N)
+                subst (UsedNow newRows) (sym q) (used_now rows newRows P.shrinks less l h (next.waits h.0).1 N)
             go c hc ne (inr apart) =
                 let h = next_element in
                 let e = P.long in
                 used_still rows newRows less c hc (P.done c hc (λ z. ne (marked_other used l 1 h.0 (omega arith) (omega arith) c hc.0 apart ∙ z)))
 
-      -- No row is left to be used: each that holds one element alone has narrowed the others.
-      pub all_narrowed : l ≡ 0 → n ≤ 120 → (c x : ℕ) → Element m c → Element n x → row_of rows c ≡ single_row x → Narrows m s n t c x (has rows₀) (has rows)
-      all_narrowed none ln c x hc hx e = go (equal_or_not (at used c) 0)
-        where
-          inside : Element 120 x
-          inside = omega arith
+      -- No row is left to be used.
+      module _ (none : NextLone rows used m 0) (ln : n ≤ 120) where
+        -- Each row that holds one element alone has narrowed the others.
+        pub all_narrowed : (c x : ℕ) → Element m c → Element n x → row_of rows c ≡ single_row x → Narrows m s n t c x (has rows₀) (has rows)
+        all_narrowed c x hc hx e = go (equal_or_not (at used c) 0)
+          where
+            inside : Element 120 x
+            inside = omega arith
 
-          go : (at used c ≡ 0) ⊎ (at used c ≡ 0 → ⊥) → Narrows m s n t c x (has rows₀) (has rows)
-          go (inl z) = absurd (P.next.before c hc (λ h. absurd (let w : ⊥ = omega arith in w)) z (record { image = x; element = inside; row = e }))
-          go (inr ne) =
-              let u = P.done c hc ne in
-              let size : ones (row_of rows c).lo + ones (row_of rows c).hi ≡ 1 = ap (λ (r : Row). ones r.lo + ones r.hi) e ∙ single_size x inside in
-              let same : u.image ≡ x = single_unique u.image x u.element inside (sym (inside_single u.image u.element (row_of rows c) u.only (omega arith)) ∙ e) in
-              subst (λ (v : ℕ). Narrows m s n t c v (has rows₀) (has rows)) same (u.narrows (subst (Element n) (sym same) hx))
+            go : (at used c ≡ 0) ⊎ (at used c ≡ 0 → ⊥) → Narrows m s n t c x (has rows₀) (has rows)
+            go (inl z) = absurd (none.before c hc (λ h. absurd (let w : ⊥ = omega arith in w)) z (record { image = x; element = inside; row = e }))
+            go (inr ne) =
+                let u = P.done c hc ne in
+                let size : ones (row_of rows c).lo + ones (row_of rows c).hi ≡ 1 = ap (λ (r : Row). ones r.lo + ones r.hi) e ∙ single_size x inside in
+                let same : u.image ≡ x = single_unique u.image x u.element inside (sym (inside_single u.image u.element (row_of rows c) u.only (omega arith)) ∙ e) in
+                subst (λ (v : ℕ). Narrows m s n t c v (has rows₀) (has rows)) same (u.narrows (subst (Element n) (sym same) hx))
 
-      -- No row is left to be used: each row keeps an element, if some row held one of n elements alone.
-      pub told_yes : l ≡ 0 → n ≤ 120 → KeptOrEmptiedByAll m s n t rows₀ true rows
-      told_yes none ln = go P.effect
-        where
-          used_all : (u : List ℕ) × PropagatedBy m s n t rows₀ u rows × NextLone rows u m 0
-          used_all = (used, P.steps, subst (NextLone rows used m) none P.next)
+        -- Each row keeps an element, if some row held one of n elements alone.
+        pub told_yes : KeptOrEmptiedByAll m s n t rows₀ true rows
+        told_yes = go P.effect
+          where
+            used_all : (u : List ℕ) × PropagatedBy m s n t rows₀ u rows × NextLone rows u m 0
+            used_all = (used, P.steps, none)
 
-          go : Effect m s n t rows₀ rows used → KeptOrEmptiedByAll m s n t rows₀ true rows
-          go (all_kept some each) =
-              record {
-                kept = λ _ c x hc hx e. each;
-                emptied = λ e. absurd (false≢true (sym e));
-                otherwise = λ never. absurd (never some.place some.image some.within some.element some.row);
-                all = λ _. used_all;
-                until = λ e. absurd (false≢true (sym e));
-              }
-          go (untouched same before) =
-              record {
-                kept = λ _ c x hc hx e. absurd (alone c x hc hx e (equal_or_not (at used c) 0));
-                emptied = λ e. absurd (false≢true (sym e));
-                otherwise = λ _. (refl, same);
-                all = λ _. used_all;
-                until = λ e. absurd (false≢true (sym e));
-              }
-            where
-              alone : (c x : ℕ) → Element m c → Element n x → row_of rows₀ c ≡ single_row x → (at used c ≡ 0) ⊎ (at used c ≡ 0 → ⊥) → ⊥
-              alone c x hc hx e (inl z) = P.next.before c hc (λ h. absurd (let w : ⊥ = omega arith in w)) z (record { image = x; element = omega arith; row = ap (λ (u : List ℕ). row_of u c) same ∙ e })
-              alone c x hc hx e (inr ne) = before c x hc ne hx e
+            go : Effect m s n t rows₀ rows used → KeptOrEmptiedByAll m s n t rows₀ true rows
+            go (all_kept some each) =
+                record {
+                  kept = λ _ c x hc hx e. each;
+                  emptied = λ e. absurd (false≢true (sym e));
+                  otherwise = λ never. absurd (never some.place some.image some.within some.element some.row);
+                  all = λ _. used_all;
+                  until = λ e. absurd (false≢true (sym e));
+                }
+            go (untouched same before) =
+                record {
+                  kept = λ _ c x hc hx e. absurd (alone c x hc hx e (equal_or_not (at used c) 0));
+                  emptied = λ e. absurd (false≢true (sym e));
+                  otherwise = λ _. (refl, same);
+                  all = λ _. used_all;
+                  until = λ e. absurd (false≢true (sym e));
+                }
+              where
+                alone : (c x : ℕ) → Element m c → Element n x → row_of rows₀ c ≡ single_row x → (at used c ≡ 0) ⊎ (at used c ≡ 0 → ⊥) → ⊥
+                alone c x hc hx e (inl z) = none.before c hc (λ h. absurd (let w : ⊥ = omega arith in w)) z (record { image = x; element = omega arith; row = ap (λ (u : List ℕ). row_of u c) same ∙ e })
+                alone c x hc hx e (inr ne) = before c x hc ne hx e

@@ -15,6 +15,9 @@ use Rattle.semigroups.specs.Tables.{Product, Element}
 use Rattle.semigroups.specs.TablesLaws.{Closed}
 use Rattle.semigroups.specs.InnerMaps.{Embedding, Among}
 use Rattle.semigroups.proofs.Booleans.{both, and_left, and_right, untrue, clash, equal_or_not}
+use Rattle.semigroups.proofs.Tables.{product_element}
+use Rattle.products.specs.declared.Table.{Table}
+use Rattle.products.specs.Tables.{times_of}
 use Rattle.rows.specs.declared.Row.{Row}
 use Rattle.rows.specs.InnerRows.{has_bit, in_row, is_empty, same_row, is_inside, row_of, has, word, packed_row, masked, Only, Shrinks, Forced}
 use Rattle.rows.proofs.Words.{word_same, word_jump}
@@ -61,20 +64,11 @@ some_in_row n p e = go (equal_or_not (word p 1 (min n 60)) 0)
         let less = r.1 in
         (61 + r.0, (omega arith, omega arith), r.2)
 
--- ---- the test of one element
+-- ---- tables
 
-module _ (t : Product) (x looks : ℕ) (left right : Row) (y : ℕ) where
-  pub left_fails : in_row left (t x y) ≡ false → false ≡ stays t x looks left right y
-  unfolding stays
-  left_fails e = rw e
-
-  pub right_fails : in_row left (t x y) ≡ true → in_row right (t y x) ≡ false → false ≡ stays t x looks left right y
-  unfolding stays
-  right_fails e f = rw (e, f)
-
-  pub looks_decide : in_row left (t x y) ≡ true → in_row right (t y x) ≡ true → eqb (pattern x y (t x y) (t y x)) looks ≡ stays t x looks left right y
-  unfolding stays
-  looks_decide e f = rw (e, f)
+-- The products of a table's elements are elements.
+pub table_closed : (t : Table) → Closed t.order (times_of t)
+table_closed t = product_element t.order t.cells.now t.filled.size t.filled.in_range
 
 -- ---- what is left of a row
 

@@ -1,5 +1,5 @@
 -- Rows that hold one element alone, and what narrowing by them must not lose. Assumes nothing.
-use Rattle.std.specs.Prelude.{◌≡◌, Bool, true, false, ◌⊎◌, List, ℕ, ◌+◌, ◌-◌, ◌≤◌, ◌<◌, set, replicate}
+use Rattle.std.specs.Prelude.{◌≡◌, Bool, true, false, ◌⊎◌, Option, None, Some, List, ℕ, ◌+◌, ◌-◌, ◌≤◌, ◌<◌, set, replicate}
 use Rattle.semigroups.specs.Lists.{at}
 use Rattle.semigroups.specs.Tables.{Product, Element}
 use Rattle.semigroups.specs.InnerMaps.{Embedding, Among}
@@ -59,6 +59,11 @@ pub record NextLone (rows used : List ℕ) (m r : ℕ) : Type 0 where
   pub most : r ≤ m
   pub waits : 1 ≤ r → (at used r ≡ 0) × Lone rows r
   pub before : (c : ℕ) → Element m c → (1 ≤ r → c < r) → at used c ≡ 0 → Lone rows c → ⊥
+
+-- The answer is that number, or none in place of 0.
+abbrev pub NextIs : List ℕ → List ℕ → ℕ → Option ℕ → Type 0
+NextIs rows used m None = NextLone rows used m 0
+NextIs rows used m (Some c) = (1 ≤ c) × NextLone rows used m c
 
 -- The rows after narrowing by rows that hold one element alone: each time by the first such row that is not used yet; `used` marks those that were used.
 pub data PropagatedBy (m : ℕ) (s : Product) (n : ℕ) (t : Product) (rows : List ℕ) : List ℕ → List ℕ → Type 0 where

@@ -1,13 +1,10 @@
 -- What the faults of a search mean (RULES 7): for each refusal the number, the side and the values. Assumes nothing.
 use Rattle.std.specs.Prelude.{[]}
-use Rattle.std.proofs.Math.Option.{Option, none, some}
 use Rattle.semigroups.specs.Questions.{Refusal}
 use Rattle.semigroups.specs.InnerQuestions.{no, naming}
 use Rattle.answers.specs.Answers.{fault_refusal, side_number}
 use Rattle.questions.specs.declared.SearchFault.{SearchFault}
 use Rattle.questions.specs.declared.SearchFault.TheVariants.{Table, MapLength, ScratchLength, PairsLength}
-use Rattle.questions.specs.declared.Questions.{Questions}
-use Rattle.questions.specs.declared.Questions.TheVariants as questions
 
 -- The refusal of each fault. Questions 1 to 4 name their side and carry the cell or the triple; 5, 6 and 70 name no side and carry nothing.
 abbrev pub search_fault_refusal : SearchFault → Refusal
@@ -15,8 +12,3 @@ search_fault_refusal (Table side fault) = naming (side_number side) (fault_refus
 search_fault_refusal MapLength = no 5 []
 search_fault_refusal ScratchLength = no 6 []
 search_fault_refusal PairsLength = no 70 []
-
--- The refusal, if the questions did not pass.
-abbrev pub questions_refusal : Questions → Option Refusal
-questions_refusal questions.Passed = none
-questions_refusal (questions.Failed fault) = some (search_fault_refusal fault)

@@ -2,13 +2,14 @@
 
 #![tactic(auto)]
 
-ghost use Rattle.std.specs.Prelude.{◌≡◌};
+ghost use Rattle.std.specs.Prelude.{◌≡◌, IfOk};
 ghost use Rattle.semigroups.specs.Questions.{search_refusal};
-ghost use Rattle.answers.specs.Answers.{refusal_numbers};
-ghost use Rattle.questions.specs.Answers.{search_fault_refusal, questions_refusal};
+ghost use Rattle.semigroups.specs.Results.{refusal_in};
+ghost use Rattle.answers.specs.Answers.{side_refusal, refusal_numbers};
+ghost use Rattle.questions.specs.Answers.{search_fault_refusal};
 ghost use Rattle.calls.specs.Among.{among_refusal};
 
-use tables::{Fault, PairVerdict, Refusal, Side};
+use tables::{Fault, Pair, Refusal, Side, SideFault};
 
 // The earliest failed question: one of the four about a table, with the side of that table; 5; 6; or 70, which only a search among given pairs asks.
 #[derive(Clone, Copy)]
@@ -17,6 +18,15 @@ pub enum SearchFault {
     MapLength,
     ScratchLength,
     PairsLength,
+}
+
+// A fault of one of the tables.
+impl From<SideFault> for SearchFault {
+    ghost from_gives = { λ refused r. search_fault_refusal r ≡ side_refusal refused };
+
+    fn from(refused: SideFault) -> Self {
+        SearchFault::Table(refused.side, refused.fault)
+    }
 }
 
 impl SearchFault {
@@ -33,56 +43,48 @@ impl SearchFault {
     }
 }
 
-// Whether every question passed, or the earliest that failed.
-#[derive(Clone, Copy)]
-pub enum Questions {
-    Passed,
-    Failed(SearchFault),
-}
-
 // Asks the questions about the two tables, then those about the map buffer, of length `images`, and about the scratch buffer, of length `marks`. Returns the
-// first that fails, or that all passed.
-pub fn ask(
-    source: &[u8],
+// first that fails, or the tables as ones that passed their questions.
+pub fn ask<'a>(
+    source: &'a [u8],
     m: usize,
-    target: &[u8],
+    target: &'a [u8],
     n: usize,
     images: usize,
     marks: usize,
-) -> Questions
-    ensures answer { questions_refusal result ≡ search_refusal m source.now n target.now images marks }
+) -> Result<Pair<'a>, SearchFault>
+    ensures answer { refusal_in search_fault_refusal result ≡ search_refusal m source.now n target.now images marks }
+    ensures source { IfOk result (λ pair. (pair.source.table.order ≡ m) × (pair.source.table.cells.now ≡ source.now)) }
+    ensures target { IfOk result (λ pair. (pair.target.table.order ≡ n) × (pair.target.table.cells.now ≡ target.now)) }
 {
-    let verdict = tables::check_pair(source, m, target, n);
-    if let PairVerdict::Refused(side, fault) = verdict {
-        return Questions::Failed(SearchFault::Table(side, fault));
-    }
+    let pair = tables::accept_pair(source, m, target, n)?;
     if images != m {
-        return Questions::Failed(SearchFault::MapLength);
+        return Err(SearchFault::MapLength);
     }
     if marks < candidates::scratch_size(m, n) {
-        return Questions::Failed(SearchFault::ScratchLength);
+        return Err(SearchFault::ScratchLength);
     }
-    Questions::Passed
+    Ok(pair)
 }
 
-// Asks the questions of a search, then the one about the pairs buffer, of length `room`. Returns the first that fails, or that all passed.
-pub fn ask_among(
-    source: &[u8],
+// Asks the questions of a search, then the one about the pairs buffer, of length `room`. Returns the first that fails, or the tables as ones that passed their
+// questions.
+pub fn ask_among<'a>(
+    source: &'a [u8],
     m: usize,
-    target: &[u8],
+    target: &'a [u8],
     n: usize,
     images: usize,
     marks: usize,
     room: usize,
-) -> Questions
-    ensures answer { questions_refusal result ≡ among_refusal m source.now n target.now images marks room }
+) -> Result<Pair<'a>, SearchFault>
+    ensures answer { refusal_in search_fault_refusal result ≡ among_refusal m source.now n target.now images marks room }
+    ensures source { IfOk result (λ pair. (pair.source.table.order ≡ m) × (pair.source.table.cells.now ≡ source.now)) }
+    ensures target { IfOk result (λ pair. (pair.target.table.order ≡ n) × (pair.target.table.cells.now ≡ target.now)) }
 {
-    let asked = ask(source, m, target, n, images, marks);
-    if let Questions::Failed(fault) = asked {
-        return Questions::Failed(fault);
-    }
+    let pair = ask(source, m, target, n, images, marks)?;
     if room < candidates::scratch_size(m, n) {
-        return Questions::Failed(SearchFault::PairsLength);
+        return Err(SearchFault::PairsLength);
     }
-    Questions::Passed
+    Ok(pair)
 }

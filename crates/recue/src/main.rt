@@ -14,10 +14,9 @@ fn main(rt: HostRuntime) {
     let mut source = [0u8; FILE];
     let mut target = [0u8; FILE];
     let mut out = [0u8; OUTPUT];
-    let first = read_opened(fs::open(&rt, "source.csv"), &mut source);
-    let second = read_opened(fs::open(&rt, "target.csv"), &mut target);
-    let source_length = first.length;
-    let target_length = second.length;
+    // A file that cannot be opened counts as empty.
+    let source_length = read_opened(fs::open(&rt, "source.csv"), &mut source).unwrap_or(0);
+    let target_length = read_opened(fs::open(&rt, "target.csv"), &mut target).unwrap_or(0);
     let written = output::recue(&source[..source_length], &target[..target_length], &mut out);
     io::write_all(STDOUT, &out[..written]);
 }

@@ -5,13 +5,13 @@ use mathlib.Core.Bool.{Bool, true, false, not, cond}
 use mathlib.Core.Logic.{⊎_elim}
 use mathlib.Core.List.Memᴰ
 use mathlib.Core.List.{List, [], ◌∷◌, ◌++◌, append-nil, Memᴰ}
-use Prim.Native.Nat.{ℕ, ◌+◌, ◌-◌, ◌*◌, ◌≤◌, ◌<◌}
+use Prim.Native.Nat.{ℕ, ◌+◌, ◌-◌, ◌*◌, ◌≤◌}
 use native.Mathlib.Nat.{add_comm}
 use native.Mathlib.Numerals.{add-one}
 use native.Mathlib.Omega.{arith}
 use borrow.Author.Tests.{eq-eqb, ne_eqb}
 use lib.Dec.{eqb}
-use lib.ListN.{length, take, drop, get_or, replicate, length-append}
+use lib.ListN.{length, take, drop, get_or}
 use lib.Seq.{take_at, take_all}
 use Rattle.semigroups.specs.Lists.{range, elements, keep, sum, count, member}
 use Rattle.semigroups.specs.InnerLists.{NoRepeats}
@@ -32,7 +32,7 @@ use Rattle.semigroups.proofs.Copies.{count_zero}
 use Rattle.products.specs.InnerPerElement.{per_element}
 use Rattle.products.proofs.PerElement.{per_element_at}
 use Rattle.light.specs.InnerFound.{adding, adding_all, Found}
-use Rattle.light.proofs.Found.{adding_new, mem_all, all_keeps, all_holds, found_nil, found_kept, found_added, found_list}
+use Rattle.light.proofs.Found.{adding_new, mem_all, all_keeps, all_holds, found_kept, found_added}
 use Rattle.parts.specs.InnerParts.{ClosedPart}
 use Rattle.renaming.specs.InnerRenaming.{non_products, products_last, renamed_cells}
 
@@ -66,9 +66,9 @@ module _ (cells : List ℕ) where
   abbrev missing : ℕ → Bool
   missing x = not (member x cells)
 
-  pub none_passed : Found (non_products 0 cells) (replicate 120 0) (replicate 121 0) 0
+  pub none_passed : [] ≡ non_products 0 cells
   unfolding non_products elements range keep
-  none_passed = found_nil
+  none_passed = refl
 
   one_passed : (x : ℕ) (b : Bool) → missing (x + 1) ≡ b → non_products (x + 1) cells ≡ non_products x cells ++ cond b ((x + 1) ∷ []) []
   unfolding non_products elements
@@ -117,7 +117,7 @@ module _ (n : ℕ) (cells : List ℕ) (F : Filled n cells) where
   listed_all x h =
       ⊎_elim (λ e. all_holds (non_products n cells) cells x (member_mem x cells e)) (λ e. all_keeps (non_products n cells) cells x (missing_kept cells n x h e)) (either (member x cells))
 
-  length_listed : length list ≡ n
+  pub length_listed : length list ≡ n
   length_listed = same_length list (elements n) listed_once (elements_no_repeats n) (λ x k. elements_mem n x (listed_inside x k)) (λ x k. listed_all x (mem_elements n x k)) ∙ length_elements n
 
   listed_closed : (x y : ℕ) → Memᴰ x list → Memᴰ y list → Memᴰ (s x y) list
@@ -125,59 +125,42 @@ module _ (n : ℕ) (cells : List ℕ) (F : Filled n cells) where
 
   -- ---- the elements found
 
-  -- The next element is x + 1, and `counts` says how often each occurs.
-  module _ (counts : List ℕ) (is : counts ≡ per_element n (frequency n s)) (x : ℕ) (h : x < n) {found marks : List ℕ} {number : ℕ} (f : Found (non_products x cells) found marks number) where
-    occurs : get_or counts (x + 1 - 1) 0 ≡ count (λ y. eqb y (x + 1)) cells
-    occurs = ap (λ (l : List ℕ). get_or l (x + 1 - 1) 0) is ∙ per_element_at n (frequency n s) (x + 1) (omega arith) ∙ frequency_cells n cells F.size (x + 1)
+  -- The next element is x, and `counts` says how often each occurs.
+  module _ (counts : List ℕ) (is : counts ≡ per_element n (frequency n s)) (x : ℕ) (h : Element n x) where
+    occurs : get_or counts (x - 1) 0 ≡ count (λ y. eqb y x) cells
+    occurs = ap (λ (l : List ℕ). get_or l (x - 1) 0) is ∙ per_element_at n (frequency n s) x h ∙ frequency_cells n cells F.size x
+
+    next : (b : Bool) → missing cells x ≡ b → non_products x cells ≡ non_products (x - 1) cells ++ cond b (x ∷ []) []
+    next b e =
+        let up : x - 1 + 1 ≡ x = omega arith in
+        subst (λ (k : ℕ). non_products k cells ≡ non_products (x - 1) cells ++ cond b (k ∷ []) []) up (one_passed cells (x - 1) b (ap (missing cells) up ∙ e))
 
     -- If it occurs, nothing is added.
-    pub product_passed : (get_or counts (x + 1 - 1) 0 ≡ 0 → ⊥) → Found (non_products (x + 1) cells) found marks number
+    pub product_passed : (get_or counts (x - 1) 0 ≡ 0 → ⊥) → non_products (x - 1) cells ≡ non_products x cells
     product_passed e =
-        let there : member (x + 1) cells ≡ true =
-        unfalse (member (x + 1) cells) (λ q. e (occurs ∙ count_zero (λ y. eqb y (x + 1)) cells (λ y k. ne_eqb y (x + 1) (λ z. not_member (x + 1) cells q (Memᴰ.cast (sym z) k))))) in
-        subst (λ (l : List ℕ). Found l found marks number)
-        (sym (one_passed cells x false (not_of_true (member (x + 1) cells) there) ∙ append-nil (non_products x cells))) f
+        let there : member x cells ≡ true =
+        unfalse (member x cells) (λ q. e (occurs ∙ count_zero (λ y. eqb y x) cells (λ y k. ne_eqb y x (λ z. not_member x cells q (Memᴰ.cast (sym z) k))))) in
+        sym (next false (not_of_true (member x cells) there) ∙ append-nil (non_products (x - 1) cells))
 
     -- If it occurs nowhere, it is added.
-    pub non_product_added : get_or counts (x + 1 - 1) 0 ≡ 0 → {found' marks' : List ℕ} {number' : ℕ} → Found (adding (take number found) (x + 1)) found' marks' number' → Found (non_products (x + 1) cells) found' marks' number'
-    non_product_added e {found'} {marks'} {number'} g =
-        let nowhere : member (x + 1) cells ≡ false = unmember (x + 1) cells (λ k. let z = occurs_once (x + 1) cells k in let o = occurs in omega arith) in
-        let new : member (x + 1) (non_products x cells) ≡ false = unmember (x + 1) (non_products x cells) (λ k. let r = non_product cells x (x + 1) k in omega arith) in
-        subst (λ (l : List ℕ). Found l found' marks' number')
-        (ap (λ (l : List ℕ). adding l (x + 1)) (found_list f) ∙ adding_new (non_products x cells) (x + 1) new
-        ∙ sym (one_passed cells x true (not_of_false (member (x + 1) cells) nowhere))) g
+    pub non_product_added : get_or counts (x - 1) 0 ≡ 0 → adding (non_products (x - 1) cells) x ≡ non_products x cells
+    non_product_added e =
+        let nowhere : member x cells ≡ false = unmember x cells (λ k. let z = occurs_once x cells k in let o = occurs in omega arith) in
+        let new : member x (non_products (x - 1) cells) ≡ false = unmember x (non_products (x - 1) cells) (λ k. let r = non_product cells (x - 1) x k in omega arith) in
+        adding_new (non_products (x - 1) cells) x new ∙ sym (next true (not_of_false (member x cells) nowhere))
 
   -- Once all elements are passed, no cell is added yet.
-  pub elements_passed : (x : ℕ) {found marks : List ℕ} {number : ℕ} → x ≤ n → n ≤ x → Found (non_products x cells) found marks number → Found (adding_all (non_products n cells) (take 0 cells)) found marks number
+  pub elements_passed : (x : ℕ) → x ≡ n → non_products x cells ≡ adding_all (non_products n cells) []
   unfolding adding_all
-  elements_passed x {found} {marks} {number} low high f = subst (λ (k : ℕ). Found (non_products k cells) found marks number) (let z : x ≡ n = omega arith in z) f
-
-  pub cell_element : (i : ℕ) → i < length cells → Element 120 (get_or cells i 0)
-  cell_element i h = wide (get_or cells i 0) (F.in_range i h)
+  elements_passed x e = ap (λ (k : ℕ). non_products k cells) e
 
   -- Once all cells are added, the list is complete.
-  pub cells_added : (i : ℕ) {found marks : List ℕ} {number : ℕ} → length cells ≤ i → Found (adding_all (non_products n cells) (take i cells)) found marks number → found ≡ list ++ replicate (120 - n) 0
+  pub cells_added : (i : ℕ) → length cells ≤ i → adding_all (non_products n cells) (take i cells) ≡ list
   unfolding products_last
-  cells_added i {found} {marks} {number} h f =
-      (subst (λ (l : List ℕ). Found (adding_all (non_products n cells) l) found marks number) (take_all i cells h) f).listed
-      ∙ ap (λ (k : ℕ). adding_all (non_products n cells) cells ++ replicate (120 - k) 0) length_listed
+  cells_added i h = ap (adding_all (non_products n cells)) (take_all i cells h)
 
-  -- ---- what is written
-
-  -- What is known of the array of the elements.
-  module _ (a : List ℕ) (is : a ≡ list ++ replicate (120 - n) 0) where
-    listed_taken : take n a ≡ list
-    listed_taken = ap (take n) is ∙ take_at list (replicate (120 - n) 0) n length_listed
-
-    pub listed_long : n ≤ length a
-    listed_long = omega (arith, ap length is, length-append list (replicate {A = ℕ} (120 - n) 0), length_listed)
-
-    pub listed_part : ClosedPart n s (take n a)
-    listed_part = subst (ClosedPart n s) (sym listed_taken) (record { inside = listed_inside; no_repeats = listed_once; closed = listed_closed })
-
-    pub renamed_written : (b : List ℕ) → overwritten (part_cells s (take n a)) b ≡ overwritten (renamed_cells n cells) b
-    unfolding renamed_cells
-    renamed_written b = ap (λ (l : List ℕ). overwritten (part_cells s l) b) listed_taken
+  pub listed_part : ClosedPart n s list
+  listed_part = record { inside = listed_inside; no_repeats = listed_once; closed = listed_closed }
 
   -- ---- the renamed table
 

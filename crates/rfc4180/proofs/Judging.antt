@@ -117,6 +117,12 @@ module _ (n : ℕ) (t : List ℕ) where
 
 -- ---- a turn, and the end
 
+regroup : (a b e x : Bool) → (a && (b && (e && x))) ≡ ((a && e) && (b && x))
+regroup false b e x = refl
+regroup true true e x = refl
+regroup true false true x = refl
+regroup true false false x = refl
+
 module _ {t : List ℕ} {n at row column : ℕ} {square more : Bool} (k : Judging t n at row column square more) where
   module _ (h : more ≡ false) where
     judge_done : (fields_refusal (fields_of t) ≡ none) × (is_square n (rows t) ≡ (square && eqb row n))
@@ -129,14 +135,14 @@ module _ {t : List ℕ} {n at row column : ℕ} {square more : Bool} (k : Judgin
         )
 
     -- At the end some record has too many or too few fields; or there are too few or too many records; or the text is a square.
-    pub end_uneven : not square ≡ true → some (no 26 []) ≡ grid_refusal n t
-    end_uneven e = says_uneven n t judge_done.0 (judge_done.1 ∙ rw (not-true square e))
+    pub end_uneven : square ≡ false → some (no 26 []) ≡ grid_refusal n t
+    end_uneven e = says_uneven n t judge_done.0 (judge_done.1 ∙ rw e)
 
     pub end_many : (row ≡ n → ⊥) → some (no 26 []) ≡ grid_refusal n t
     end_many e = says_uneven n t judge_done.0 (judge_done.1 ∙ simp (ne_eqb row n e, and-false))
 
-    pub end_square : not square ≡ false → row ≡ n → none ≡ grid_refusal n t
-    end_square e f = says_passed n t judge_done.0 (judge_done.1 ∙ rw (not-false square e) (eq-eqb row n f))
+    pub end_square : square ≡ true → row ≡ n → none ≡ grid_refusal n t
+    end_square e f = says_passed n t judge_done.0 (judge_done.1 ∙ rw e (eq-eqb row n f))
 
   module _ (h : more ≡ true) where
     pub here : Turn t at k.rest
@@ -196,8 +202,5 @@ module _ {t : List ℕ} {n at row column : ℕ} {square more : Bool} (k : Judgin
                 same (row + suc (length here.later)) (all (λ r. eqb (length r) n) here.later) ∙ rw (m, even_zero)
             go (g ∷ gs) e = impossible (cc)
 
-        pub judge_break : column + 1 ≡ n → Judging t n (next_field t at) (row + 1) 0 square (field_follows t at)
-        judge_break e = at_break square (λ m x. simp (eq-eqb (column + 1) n e))
-
-        pub judge_uneven : (column + 1 ≡ n → ⊥) → Judging t n (next_field t at) (row + 1) 0 false (field_follows t at)
-        judge_uneven e = at_break false (λ m x. simp (ne_eqb (column + 1) n e, and-false))
+        pub judge_record : Judging t n (next_field t at) (row + 1) 0 (square && eqb (column + 1) n) (field_follows t at)
+        judge_record = at_break (square && eqb (column + 1) n) (λ m x. regroup square (eqb m n) (eqb (column + 1) n) x)

@@ -4,7 +4,6 @@ pub mod Few
 pub mod Rows
 pub mod Room
 pub mod Small
-pub mod Counted
 pub mod Raising
 pub mod Lowering
 pub mod Turns

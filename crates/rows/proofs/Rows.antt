@@ -15,7 +15,7 @@ use lib.Pow.{shl_exact, pow_pos}
 use lib.Seq.{get_or-set_other, set-get_or, set_comm}
 use Rattle.semigroups.specs.Lists.{at}
 use Rattle.semigroups.specs.Tables.{Element}
-use Rattle.semigroups.proofs.Booleans.{and_left, and_right, at_most_or_above, equal_or_not}
+use Rattle.semigroups.proofs.Booleans.{both, clash, and_left, and_right, at_most_or_above, equal_or_not}
 use Rattle.rows.specs.declared.Row.{Row}
 use Rattle.rows.specs.InnerRows.{has_bit, in_row, is_empty, same_row, is_inside, row_of, has, word, packed_row, masked_word, masked, single_row, lowest_element, Alone, RowInside, Only, Shrinks, Forced}
 use Rattle.rows.proofs.Words.{word_same, bit_of_word, bit_past, single_word, other_word}
@@ -26,10 +26,6 @@ abbrev pub row : ℕ → ℕ → Row
 row a b = record { lo = a; hi = b }
 
 -- ---- the two words of a row
-
--- The place, counted from 0, at which the code has the high word of row c.
-pub high_place : (c : ℕ) → 119 + c ≡ 120 + c - 1
-high_place c = omega arith
 
 module _ (row : Row) (y : ℕ) where
   pub row_low : y ≤ 60 → has_bit row.lo (y - 1) ≡ in_row row y
@@ -63,10 +59,14 @@ all_packed_row n p y hy =
     ∙ sym (ap (λ (b : Bool). b && p y) (lt-leb y n h)))
     (at_most_or_above y n)
 
--- Rows that pass the test are equal.
+-- Rows are equal exactly if their words are.
 pub same_row_law : (a b : Row) → same_row a b ≡ true → a ≡ b
 unfolding same_row
 same_row_law a b e = ap₂ {C = Row} row (eqb-true a.lo b.lo (and_left (eqb a.lo b.lo) (eqb a.hi b.hi) e)) (eqb-true a.hi b.hi (and_right (eqb a.lo b.lo) (eqb a.hi b.hi) e))
+
+row_itself : (a b : Row) → a ≡ b → same_row a b ≡ true
+unfolding same_row
+row_itself a b e = both (eqb a.lo b.lo) (eqb a.hi b.hi) (eq-eqb a.lo b.lo (ap (λ (r : Row). r.lo) e)) (eq-eqb a.hi b.hi (ap (λ (r : Row). r.hi) e))
 
 -- An empty row has no element.
 pub none_in_empty : (row : Row) (y : ℕ) → is_empty row ≡ true → in_row row y ≡ false
@@ -167,6 +167,14 @@ module _ (row : Row) where
 
   pub is_alone : Element 120 (lowest_element row) → row ≡ single_row (lowest_element row) → Alone row (lowest_element row)
   is_alone h e = record { most = h.1; found = only_lowest; holds = λ l. e }
+
+  -- The row is compared with the row of its lowest element.
+  module _ (v : ℕ) (one : Row) (e : v ≡ lowest_element row) (s : one ≡ single_row v) where
+    pub lone_found : 1 ≤ v → v ≤ 120 → (eqb row.lo one.lo && eqb row.hi one.hi) ≡ true → (1 ≤ v) × Alone row v
+    lone_found l h q = (l, subst (Alone row) (sym e) (is_alone (omega arith) (same_row_law row one (unfold same_row in q) ∙ s ∙ ap single_row e)))
+
+    pub lone_differs : (eqb row.lo one.lo && eqb row.hi one.hi) ≡ false → Alone row 0
+    lone_differs q = not_alone (λ h d. clash (row_itself row one (d ∙ ap single_row (sym e) ∙ sym s)) (unfold same_row in q))
 
 -- ---- a row masked
 

@@ -12,7 +12,7 @@ ghost use Rattle.rfc4180.specs.Tables.{row_fields, table_text};
 ghost use Rattle.rfc4180.specs.Calls.{save_answer, text_after};
 ghost use Rattle.answers.specs.Answers.{numbered_says};
 
-use tables::{No, Numbered, Verdict};
+use tables::No;
 
 // Returns the length of the text of a table: each cell is followed by a comma or a CR, each row by an LF.
 fn text_length(cells: &[u8], n: usize) -> usize
@@ -20,10 +20,8 @@ fn text_length(cells: &[u8], n: usize) -> usize
     ensures answer { result ≡ length (table_text n cells.now) }
 {
     let mut total = n;
-    let mut place: usize = 0;
-    while place < cells.len() {
-        total += lines::digit_count(cells[place] as usize) + 1;
-        place += 1;
+    for cell in cells {
+        total += lines::digit_count(usize::from(*cell)) + 1;
     }
     total
 }
@@ -37,10 +35,8 @@ fn put_row(cells: &[u8], n: usize, i: usize, text: &mut [u8], start: usize) -> u
     ensures text { text.new ≡ sets text.old start (line_text (row_fields n cells.now i)) }
 {
     let mut at = lines::put_number(text, start, tables::times(cells, n, i, 1));
-    let mut j: usize = 2;
-    while j <= n {
+    for j in 2..n + 1 {
         at = lines::put_field(text, at, tables::times(cells, n, i, j));
-        j += 1;
     }
     lines::put_break(text, at)
 }
@@ -52,27 +48,22 @@ fn put_rows(cells: &[u8], n: usize, text: &mut [u8]) -> usize
     ensures answer { result ≡ length (table_text n cells.now) }
     ensures text { text.new ≡ overwritten (table_text n cells.now) text.old }
 {
-    let mut at: usize = 0;
-    let mut i: usize = 1;
-    while i <= n {
+    let mut at = 0;
+    for i in 1..n + 1 {
         at = put_row(cells, n, i, text, at);
-        i += 1;
     }
     at
 }
 
 // Saves the table of this order with these cells: writes its text to the start of `text` and answers its length; or answers the earliest
 // question that fails, and writes nothing.
-pub fn save(cells: &[u8], order: usize, text: &mut [u8]) -> Numbered
+pub fn save(cells: &[u8], order: usize, text: &mut [u8]) -> Result<usize, No>
     ensures answer { numbered_says result ≡ save_answer order cells.now text.old }
     ensures text { text.new ≡ text_after order cells.now text.old }
 {
-    let verdict = tables::check_cells(cells, order);
-    if let Verdict::Refused(f) = verdict {
-        return Numbered::Refused(f.no());
-    }
+    tables::check_cells(cells, order)?;
     if text.len() < text_length(cells, order) {
-        return Numbered::Refused(No::Bare(28));
+        return Err(No::Bare(28));
     }
-    Numbered::Number(put_rows(cells, order, text))
+    Ok(put_rows(cells, order, text))
 }

@@ -1,13 +1,11 @@
 -- What the values of the automaton stand for. No contract of an entry point cites this. Assumes nothing.
 use Rattle.std.proofs.Math.Option.{Option, none, some}
-use Rattle.std.specs.Prelude.{ℕ}
+use Rattle.std.specs.Prelude.{ℕ, Result, Ok, Err}
 use Rattle.sheets.specs.InnerAutomaton as automaton
 use Rattle.scanning.specs.declared.Part.{Part}
 use Rattle.scanning.specs.declared.Part.TheVariants.{Number, Name}
 use Rattle.scanning.specs.declared.State.{State}
 use Rattle.scanning.specs.declared.State.TheVariants.{Opening, Bare, Quoted, Shut, Cr, Line, Dead}
-use Rattle.scanning.specs.declared.Form.{Form}
-use Rattle.scanning.specs.declared.Form.TheVariants.{Sheet, Offends}
 
 -- The field of a record that a value of the code stands for.
 abbrev pub part_of : Part → automaton.Column
@@ -25,6 +23,6 @@ state_of Line = automaton.line
 state_of Dead = automaton.dead
 
 -- The offending place of a text, or none.
-abbrev pub form_place : Form → Option ℕ
-form_place Sheet = none
-form_place (Offends k) = some k
+abbrev pub form_place : {A : Type 0} → Result A ℕ → Option ℕ
+form_place (Ok x) = none
+form_place (Err k) = some k

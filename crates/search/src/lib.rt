@@ -17,8 +17,8 @@ ghost use Rattle.calls.specs.Calls.{lend, called, call};
 ghost use Rattle.calls.specs.Limited.{limited_call};
 ghost use Rattle.calls.specs.Among.{call_among};
 
-use kinds::{Kind, Limit};
-use questions::{Questions, SearchFault};
+use kinds::Kind;
+use questions::SearchFault;
 
 // What a search answers.
 #[derive(Clone, Copy)]
@@ -52,7 +52,7 @@ pub fn search(
     ensures call { called (search_answer_says result) map.new scratch.new ≡ call (kind_of kind) (bounded next map.old) (lend source.now m target.now n map.old scratch.old) }
 {
     let asked = questions::ask(source, m, target, n, map.len(), scratch.len());
-    if let Questions::Failed(fault) = asked {
+    if let Err(fault) = asked {
         return SearchAnswer::Refused(fault);
     }
     if kinds::find(kind, next, source, m, target, n, map, scratch) {
@@ -106,25 +106,15 @@ pub fn first_within(
     ensures call { called (limited_answer_says result) map.new scratch.new ≡ limited_call (kind_of kind) limit (lend source.now m target.now n map.old scratch.old) }
 {
     let asked = questions::ask(source, m, target, n, map.len(), scratch.len());
-    if let Questions::Failed(fault) = asked {
+    if let Err(fault) = asked {
         return LimitedAnswer::Refused(fault);
     }
-    let result = kinds::search_kind(
-        kind,
-        false,
-        Limit::Trials(limit),
-        source,
-        m,
-        target,
-        n,
-        map,
-        scratch,
-    );
-    if result.stopped {
+    let result = kinds::search_kind(kind, false, Some(limit), source, m, target, n, map, scratch);
+    let Ok(ended) = result else {
         return LimitedAnswer::Stopped;
-    }
-    let trials = limit - result.left;
-    if result.ok {
+    };
+    let trials = limit - ended.left;
+    if ended.map.is_some() {
         return LimitedAnswer::Found(trials);
     }
     LimitedAnswer::Nothing(trials)
@@ -147,7 +137,7 @@ fn search_among(
     ensures call { called (search_answer_says result) map.new scratch.new ≡ call_among (bounded next map.old) pairs.now (lend source.now m target.now n map.old scratch.old) }
 {
     let asked = questions::ask_among(source, m, target, n, map.len(), scratch.len(), pairs.len());
-    if let Questions::Failed(fault) = asked {
+    if let Err(fault) = asked {
         return SearchAnswer::Refused(fault);
     }
     if !kinds::find_among(next, source, m, target, n, pairs, map, scratch) {

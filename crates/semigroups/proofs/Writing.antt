@@ -64,6 +64,26 @@ module _ (m n : ℕ) (f : ℕ → ℕ → ℕ) where
     pub at_place : place ≡ (i - 1) * n + (j - 1)
     pub so_far : buffer ≡ written (grid m n f) r place
 
+  -- The place is the one that the row, or the row and the column, give.
+  pub row_placed : (b : List ℕ) (i place : ℕ) (buffer : List ℕ) → AtRow b i place buffer → AtRow b i ((i - 1) * n) buffer
+  row_placed b i place buffer a =
+      record {
+        row_from_one = a.row_from_one;
+        row_to_end = a.row_to_end;
+        at_place = refl;
+        so_far = a.so_far ∙ ap (written (grid m n f) b) a.at_place;
+      }
+
+  pub cell_placed : (r : List ℕ) (i j place : ℕ) (buffer : List ℕ) → AtCell r i j place buffer → AtCell r i j ((i - 1) * n + (j - 1)) buffer
+  cell_placed r i j place buffer a =
+      record {
+        row = a.row;
+        column_from_one = a.column_from_one;
+        column_to_end = a.column_to_end;
+        at_place = refl;
+        so_far = a.so_far ∙ ap (written (grid m n f) r) a.at_place;
+      }
+
   -- ---- cells
 
   module _ (r : List ℕ) (i j place : ℕ) (buffer : List ℕ) (a : AtCell r i j place buffer) where

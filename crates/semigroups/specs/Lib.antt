@@ -3,6 +3,7 @@ pub mod Tables
 pub mod Scratch
 pub mod Questions
 pub mod Calls
+pub mod Results
 pub mod Invariants
 pub mod Maps
 pub mod MapCheck

@@ -15,6 +15,5 @@ pub mod Loading
 pub mod Memory
 pub mod RoundTrips
 pub mod Requests
-pub mod Steps
 pub mod Saves
 pub mod Examples

@@ -1,7 +1,7 @@
 -- Names in memory, one after another: judging them and writing their text, byte by byte and name by name. What is left to read decides.
 -- Assumes nothing.
 use mathlib.Core.Path.{◌≡◌, refl, ap, sym, ◌∙◌}
-use mathlib.Core.Bool.{Bool, true, false, ◌||◌, cond}
+use mathlib.Core.Bool.{Bool, true, false, cond}
 use mathlib.Core.List.{List, [], ◌∷◌, ◌++◌, flat_map}
 use mathlib.Core.Option.{none, some}
 use Prim.Native.Nat.{ℕ, suc, ◌+◌, ◌-◌, ◌*◌, ◌≤◌, ◌<◌}
@@ -26,14 +26,6 @@ use Rattle.sheets.proofs.Cursor.{from_here, from_end}
 -- ---- the text of a name
 
 module _ (b : ℕ) (u : List ℕ) where
-  pub quotes_here : (eqb b 44 || eqb b 34) ≡ true → needs_quotes (b ∷ u) ≡ true
-  unfolding needs_quotes
-  quotes_here e = rw e
-
-  pub quotes_later : (eqb b 44 || eqb b 34) ≡ false → needs_quotes (b ∷ u) ≡ needs_quotes u
-  unfolding needs_quotes
-  quotes_later e = rw e
-
   pub doubled_quote : b ≡ 34 → doubled (b ∷ u) ≡ 34 ∷ 34 ∷ doubled u
   unfolding doubled flat_map
   doubled_quote e = rw e refl
@@ -41,10 +33,6 @@ module _ (b : ℕ) (u : List ℕ) where
   pub doubled_other : eqb b 34 ≡ false → doubled (b ∷ u) ≡ b ∷ doubled u
   unfolding doubled flat_map
   doubled_other e = rw e
-
-pub no_quotes : needs_quotes [] ≡ false
-unfolding needs_quotes
-no_quotes = refl
 
 pub nothing_doubled : doubled [] ≡ []
 unfolding doubled flat_map
@@ -229,15 +217,6 @@ module _ (s : List ℕ) (i : ℕ) (h : i < length s) where
   here_is : drop i s ≡ get_or s i 0 ∷ drop (i + 1) s
   here_is = from_here s i h
 
-  pub quote_found : get_or s i 0 ≡ 34 → needs_quotes (drop i s) ≡ true
-  quote_found e = ap needs_quotes here_is ∙ quotes_here (get_or s i 0) (drop (i + 1) s) (rw e refl)
-
-  pub comma_found : get_or s i 0 ≡ 44 → needs_quotes (drop i s) ≡ true
-  comma_found e = ap needs_quotes here_is ∙ quotes_here (get_or s i 0) (drop (i + 1) s) (rw e refl)
-
-  pub quotes_further : (get_or s i 0 ≡ 34 → ⊥) → (get_or s i 0 ≡ 44 → ⊥) → needs_quotes (drop i s) ≡ needs_quotes (drop (i + 1) s)
-  quotes_further n m = ap needs_quotes here_is ∙ quotes_later (get_or s i 0) (drop (i + 1) s) (rw (ne_eqb (get_or s i 0) 44 m, ne_eqb (get_or s i 0) 34 n) refl)
-
   pub doubled_pair : get_or s i 0 ≡ 34 → doubled (drop i s) ≡ 34 ∷ 34 ∷ doubled (drop (i + 1) s)
   doubled_pair e = ap doubled here_is ∙ doubled_quote (get_or s i 0) (drop (i + 1) s) e
 
@@ -245,9 +224,6 @@ module _ (s : List ℕ) (i : ℕ) (h : i < length s) where
   doubled_single n = ap doubled here_is ∙ doubled_other (get_or s i 0) (drop (i + 1) s) (ne_eqb (get_or s i 0) 34 n)
 
 module _ (s : List ℕ) (i : ℕ) (h : length s ≤ i) where
-  pub quotes_end : needs_quotes (drop i s) ≡ false
-  quotes_end = ap needs_quotes (from_end s i h) ∙ no_quotes
-
   pub doubled_end : doubled (drop i s) ≡ []
   doubled_end = ap doubled (from_end s i h) ∙ nothing_doubled
 

@@ -182,28 +182,6 @@ name_empty s h = sym (untrue (is_name s) (λ e. let u = (name_is s e).some_byte 
 pub name_long : (s : List ℕ) → 40 < length s → false ≡ is_name s
 name_long s h = sym (untrue (is_name s) (λ e. let u = (name_is s e).short in omega arith))
 
--- The bytes before place i are printable, so those that are left decide.
-abbrev pub Printing : List ℕ → ℕ → Type 0
-Printing s i = (i ≤ length s) × (all is_printable s ≡ all is_printable (drop i s))
-
-module _ (s : List ℕ) (i : ℕ) (p : Printing s i) (h : i < length s) where
-  printed : all is_printable s ≡ all is_printable (get_or s i 0 ∷ drop (i + 1) s)
-  printed = p.1 ∙ ap (all is_printable) (rw add-one (drop-cons s i 0 h))
-
-  pub print_next : true ≡ is_printable (get_or s i 0) → Printing s (i + 1)
-  unfolding all
-  print_next e = (omega arith, printed ∙ rw (sym e) refl)
-
-  pub print_other : false ≡ is_printable (get_or s i 0) → false ≡ is_name s
-  unfolding all is_name
-  print_other e = sym (untrue (is_name s) (λ g. clash (and_right (is_element 40 (length s)) (all is_printable s) g) (printed ∙ rw (sym e) refl)))
-
-pub print_done : (s : List ℕ) (i : ℕ) → Printing s i → length s ≤ i → 1 ≤ length s → length s ≤ 40 → true ≡ is_name s
-unfolding all is_name
-print_done s i p h l u =
-    let e : drop i s ≡ [] = empty (drop i s) (let d = length-drop i s in omega arith) in
-    sym (both (is_element 40 (length s)) (all is_printable s) (element_is 40 (length s) (l, u)) (p.1 ∙ ap (all is_printable) e))
-
 -- ---- the first 41 bytes
 
 pub cut_length : (s : List ℕ) → length (take 41 s) ≤ 41

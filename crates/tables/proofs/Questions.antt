@@ -81,19 +81,11 @@ module _ (n : ℕ) (cells : List ℕ) where
 -- ---- the questions about two tables
 
 module _ (m : ℕ) (source : List ℕ) (n : ℕ) (target : List ℕ) where
-  tables_first : tables_refusal m source n target ≡ or_else (Option.map (naming 1) (table_refusal m source)) (Option.map (naming 2) (table_refusal n target))
+  pub tables_first : tables_refusal m source n target ≡ or_else (Option.map (naming 1) (table_refusal m source)) (Option.map (naming 2) (table_refusal n target))
   unfolding tables_refusal table_refusal
   tables_first =
       first_append (map (on_side 1) (table_questions m source)) (map (on_side 2) (table_questions n target))
       ∙ ap₂ or_else (first_sided 1 (table_questions m source)) (first_sided 2 (table_questions n target))
-
-  pub source_refused : (r : Refusal) → table_refusal m source ≡ some r → tables_refusal m source n target ≡ some (naming 1 r)
-  unfolding or_else
-  source_refused r e = tables_first ∙ rw e
-
-  pub target_refused : (r : Refusal) → table_refusal m source ≡ none → table_refusal n target ≡ some r → tables_refusal m source n target ≡ some (naming 2 r)
-  unfolding or_else
-  target_refused r e g = tables_first ∙ rw (e, g)
 
   pub both_pass : table_refusal m source ≡ none → table_refusal n target ≡ none → tables_refusal m source n target ≡ none
   unfolding or_else

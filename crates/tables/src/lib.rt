@@ -2,36 +2,35 @@
 
 #![tactic(auto)]
 
-ghost use Rattle.std.specs.Prelude.{◌≡◌, min, max};
+ghost use Rattle.std.specs.Prelude.{◌≡◌, IfOk};
 ghost use Rattle.std.proofs.Math.Option.{map};
 ghost use Rattle.semigroups.specs.Lists.{all};
-ghost use Rattle.semigroups.specs.Tables.{Filled, is_element, product, bad_cell, bad_triple};
-ghost use Rattle.semigroups.specs.InnerQuestions.{no, cells_refusal, tables_refusal};
+ghost use Rattle.semigroups.specs.Tables.{Associative, is_element, bad_cell, bad_triple};
+ghost use Rattle.semigroups.specs.InnerQuestions.{no, naming, cells_refusal, tables_refusal};
 ghost use Rattle.semigroups.specs.Questions.{table_refusal};
-ghost use Rattle.answers.specs.Answers.{verdict_refusal, place_option, pair_refusal};
+ghost use Rattle.semigroups.specs.Results.{optional, refusal_in};
+ghost use Rattle.answers.specs.Answers.{fault_refusal, side_refusal, side_number};
+ghost use Rattle.products.specs.Tables.{times_of};
 
-pub use answers::{Fault, No, Numbered, PairVerdict, Place, Refusal, Side, Verdict};
-pub use products::{limits, times};
+pub use answers::{Fault, No, Refusal, Side, SideFault};
+pub use products::old::times;
+pub use products::{Table, limits};
 
-// Returns the smaller one of two bytes.
-fn smaller(x: u8, y: u8) -> u8
-    ensures answer { result ≡ min x y }
-{
-    if y < x {
-        return y;
-    }
-    x
+// A table that passed the four questions.
+#[derive(Clone, Copy)]
+pub struct Semigroup<'a> {
+    pub table: Table<'a>,
+    pub ghost associative: { Associative table.order (times_of table) },
 }
 
-// Returns the larger one of two bytes.
-fn larger(x: u8, y: u8) -> u8
-    ensures answer { result ≡ max x y }
-{
-    if x < y {
-        return y;
-    }
-    x
+// The two tables of a call, both of which passed the four questions.
+#[derive(Clone, Copy)]
+pub struct Pair<'a> {
+    pub source: Semigroup<'a>,
+    pub target: Semigroup<'a>,
 }
+
+// ---- cells
 
 // Returns whether every cell is 1 to n: by the smallest and the largest one, which is quicker than to look for the first that is not.
 fn inside(cells: &[u8], n: usize) -> bool
@@ -39,126 +38,135 @@ fn inside(cells: &[u8], n: usize) -> bool
 {
     let mut least: u8 = 255;
     let mut most: u8 = 0;
-    let mut place: usize = 0;
-    while place < cells.len() {
-        let cell = cells[place];
-        least = smaller(least, cell);
-        most = larger(most, cell);
-        place += 1;
+    for cell in cells {
+        least = least.min(*cell);
+        most = most.max(*cell);
     }
-    if least < 1 {
-        return false;
-    }
-    most as usize <= n
+    1 <= least && most as usize <= n
 }
 
 // Returns the place of the first cell that is not 1 to n, counted from 1; or none.
-fn first_outside(cells: &[u8], n: usize) -> Place
-    ensures answer { place_option result ≡ bad_cell n cells.now }
+fn first_outside(cells: &[u8], n: usize) -> Option<usize>
+    ensures answer { optional result ≡ bad_cell n cells.now }
 {
-    let mut place: usize = 1;
-    while place <= cells.len() {
-        let cell = cells[place - 1] as usize;
-        if cell < 1 {
-            return Place::At(place);
-        }
-        if n < cell {
-            return Place::At(place);
-        }
-        place += 1;
-    }
-    Place::Nothing
+    (1..cells.len() + 1).find(|place| {
+        let cell = cells[*place - 1] as usize;
+        cell < 1 || n < cell
+    })
 }
 
 // Returns the place of the first cell that is not 1 to n, counted from 1; or none. Looks for it only if there is one.
-pub fn outside(cells: &[u8], n: usize) -> Place
-    ensures answer { place_option result ≡ bad_cell n cells.now }
+pub fn outside(cells: &[u8], n: usize) -> Option<usize>
+    ensures answer { optional result ≡ bad_cell n cells.now }
 {
     if inside(cells, n) {
-        return Place::Nothing;
+        return None;
     }
     first_outside(cells, n)
 }
 
+// ---- triples
+
 // Returns the first triple for which (i·j)·k = i·(j·k) does not hold, if there is one.
-fn associative(cells: &[u8], n: usize) -> Verdict
-    requires { Filled n cells.now }
-    ensures answer { verdict_refusal result ≡ map (λ l. no 4 l) (bad_triple n (product n cells.now)) }
+fn associative(table: &Table<'_>) -> Result<(), Fault>
+    ensures answer { refusal_in fault_refusal result ≡ map (λ l. no 4 l) (bad_triple table.now.order (times_of table.now)) }
 {
-    let mut verdict = Verdict::Accepted;
-    let mut i: usize = 1;
-    'triples: while i <= n {
-        let mut j: usize = 1;
-        while j <= n {
-            let ij = times(cells, n, i, j);
-            let mut k: usize = 1;
-            while k <= n {
-                let jk = times(cells, n, j, k);
-                if times(cells, n, ij, k) != times(cells, n, i, jk) {
-                    verdict = Verdict::Refused(Fault::Triple(i, j, k));
+    let n = table.order;
+    let mut answer = Ok(());
+    'triples: for i in 1..n + 1 {
+        for j in 1..n + 1 {
+            let ij = table.times(i, j);
+            for k in 1..n + 1 {
+                let jk = table.times(j, k);
+                if table.times(ij, k) != table.times(i, jk) {
+                    answer = Err(Fault::Triple(i, j, k));
                     break 'triples;
                 }
-                k += 1;
             }
-            j += 1;
         }
-        i += 1;
     }
-    verdict
+    answer
 }
 
 // Asks question 4: does (i·j)·k = i·(j·k) hold for every triple? Returns the first triple that fails, if one does. Where few generators show that the table
 // is associative, not every triple is looked at.
-fn associativity(cells: &[u8], n: usize) -> Verdict
-    requires { Filled n cells.now }
-    ensures answer { verdict_refusal result ≡ map (λ l. no 4 l) (bad_triple n (product n cells.now)) }
+fn associativity(table: &Table<'_>) -> Result<(), Fault>
+    ensures answer { refusal_in fault_refusal result ≡ map (λ l. no 4 l) (bad_triple table.now.order (times_of table.now)) }
 {
-    if light::accept(cells, n) {
-        return Verdict::Accepted;
+    if light::accept(table) {
+        return Ok(());
     }
-    associative(cells, n)
+    associative(table)
 }
 
-// Asks questions 1 to 3, about order, size and cells. Returns the first that fails.
-pub fn check_cells(cells: &[u8], n: usize) -> Verdict
-    ensures answer { verdict_refusal result ≡ cells_refusal n cells.now }
+// ---- the questions
+
+// Asks questions 1 to 3, about order, size and cells. Returns the first that fails, or the table.
+pub fn check_cells(cells: &[u8], n: usize) -> Result<Table<'_>, Fault>
+    ensures answer { refusal_in fault_refusal result ≡ cells_refusal n cells.now }
+    ensures table { IfOk result (λ table. (table.order ≡ n) × (table.cells.now ≡ cells.now)) }
 {
-    if n < 1 {
-        return Verdict::Refused(Fault::Order);
-    }
-    if limits::ORDER < n {
-        return Verdict::Refused(Fault::Order);
+    if n < 1 || limits::ORDER < n {
+        return Err(Fault::Order);
     }
     if cells.len() != n * n {
-        return Verdict::Refused(Fault::Size);
+        return Err(Fault::Size);
     }
     match outside(cells, n) {
-        Place::At(cell) => Verdict::Refused(Fault::Cell(cell)),
-        Place::Nothing => Verdict::Accepted,
+        Some(cell) => Err(Fault::Cell(cell)),
+        None => Ok(Table { cells, order: n }),
     }
+}
+
+// Asks questions 1 to 4, about order, size, cells and associativity. Returns the first that fails, or the table as one that passed them.
+pub fn accept(cells: &[u8], n: usize) -> Result<Semigroup<'_>, Fault>
+    ensures answer { refusal_in fault_refusal result ≡ table_refusal n cells.now }
+    ensures table { IfOk result (λ accepted. (accepted.table.order ≡ n) × (accepted.table.cells.now ≡ cells.now)) }
+{
+    let table = check_cells(cells, n)?;
+    associativity(&table)?;
+    Ok(Semigroup { table })
 }
 
 // Asks questions 1 to 4, about order, size, cells and associativity. Returns the first that fails.
-pub fn check(cells: &[u8], n: usize) -> Verdict
-    ensures answer { verdict_refusal result ≡ table_refusal n cells.now }
+pub fn check(cells: &[u8], n: usize) -> Result<(), Fault>
+    ensures answer { refusal_in fault_refusal result ≡ table_refusal n cells.now }
 {
-    match check_cells(cells, n) {
-        Verdict::Refused(fault) => Verdict::Refused(fault),
-        Verdict::Accepted => associativity(cells, n),
-    }
+    accept(cells, n)?;
+    Ok(())
+}
+
+// Asks questions 1 to 4 of one of two tables.
+fn accept_side(side: Side, cells: &[u8], n: usize) -> Result<Semigroup<'_>, SideFault>
+    ensures answer { refusal_in side_refusal result ≡ map (naming (side_number side)) (table_refusal n cells.now) }
+    ensures table { IfOk result (λ accepted. (accepted.table.order ≡ n) × (accepted.table.cells.now ≡ cells.now)) }
+{
+    accept(cells, n).map_err(|fault| SideFault { side, fault })
+}
+
+// Asks questions 1 to 4 of the source, then of the target. Returns the first that fails, or both tables as ones that passed them.
+pub fn accept_pair<'a>(
+    source: &'a [u8],
+    m: usize,
+    target: &'a [u8],
+    n: usize,
+) -> Result<Pair<'a>, SideFault>
+    ensures answer { refusal_in side_refusal result ≡ tables_refusal m source.now n target.now }
+    ensures source { IfOk result (λ pair. (pair.source.table.order ≡ m) × (pair.source.table.cells.now ≡ source.now)) }
+    ensures target { IfOk result (λ pair. (pair.target.table.order ≡ n) × (pair.target.table.cells.now ≡ target.now)) }
+{
+    let first = accept_side(Side::Source, source, m)?;
+    let second = accept_side(Side::Target, target, n)?;
+    Ok(Pair {
+        source: first,
+        target: second,
+    })
 }
 
 // Asks questions 1 to 4 of the source, then of the target. Returns the first that fails.
-pub fn check_pair(source: &[u8], m: usize, target: &[u8], n: usize) -> PairVerdict
-    ensures answer { pair_refusal result ≡ tables_refusal m source.now n target.now }
+pub fn check_pair(source: &[u8], m: usize, target: &[u8], n: usize) -> Result<(), SideFault>
+    ensures answer { refusal_in side_refusal result ≡ tables_refusal m source.now n target.now }
 {
-    let first = check(source, m);
-    if let Verdict::Refused(fault) = first {
-        return PairVerdict::Refused(Side::Source, fault);
-    }
-    let second = check(target, n);
-    if let Verdict::Refused(fault) = second {
-        return PairVerdict::Refused(Side::Target, fault);
-    }
-    PairVerdict::Accepted
+    accept_pair(source, m, target, n)?;
+    Ok(())
 }

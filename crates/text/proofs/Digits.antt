@@ -1,20 +1,40 @@
 -- The digits at a place of a text, one after another: where they end, and the number that they stand for. Assumes nothing.
-use mathlib.Core.Path.{◌≡◌, ap, sym, ◌∙◌}
-use mathlib.Core.Bool.{true, false}
+use Rattle.std.specs.Char.{is_ascii_digit}
+use Rattle.std.specs.List.{prefix_len}
+use Rattle.std.proofs.lemmas.List.Folds.{length-prefix_len}
+use mathlib.Core.Path.{◌≡◌, refl, ap, sym, ◌∙◌}
+use mathlib.Core.Bool.{true, false, cond}
 use mathlib.Core.Logic.{⊎_elim}
-use mathlib.Core.List.{List, ◌∷◌}
+use mathlib.Core.List.{List, [], ◌∷◌}
 use Prim.Native.Nat.{ℕ, ◌+◌, ◌-◌, ◌*◌, ◌≤◌, ◌<◌}
 use native.Mathlib.Omega.{arith}
-use lib.ListN.{length, get_or, drop, get_or-eq_default}
+use lib.ListN.{length, get_or, drop, take, get_or-eq_default}
 use Rattle.semigroups.proofs.Booleans.{clash, at_most_or_above}
 use Rattle.rfc4180.specs.Decimals.{is_digit, value, value_from}
 use Rattle.rfc4180.specs.InnerCursor.{digits}
 use Rattle.rfc4180.proofs.Fields.{empty, below_digit, digits_past, digits_none, digits_more, digit_here}
-use Rattle.rfc4180.proofs.Rows.{digit_range}
 
 -- How many digits stand from place i on.
 abbrev pub digits_from : List ℕ → ℕ → ℕ
 digits_from t i = length (digits (drop i t))
+
+-- ---- digits as Rust tests and counts them
+
+pub ascii_digit : (b : ℕ) → is_ascii_digit b ≡ is_digit b
+unfolding is_digit
+ascii_digit b = refl
+
+prefix_digits : (l : List ℕ) → prefix_len is_ascii_digit l ≡ length (digits l)
+unfolding digits is_digit
+prefix_digits [] = refl
+prefix_digits (b ∷ l) =
+    elim (is_ascii_digit b) as (λ e. cond e (1 + prefix_len is_ascii_digit l) 0 ≡ length (cond e (b ∷ digits l) [])) [
+      | true ↦ omega (arith, prefix_digits l)
+      | false ↦ refl
+    ]
+
+pub digits_counted : (l : List ℕ) → length (take (prefix_len is_ascii_digit l) l) ≡ length (digits l)
+digits_counted l = length-prefix_len is_ascii_digit l ∙ prefix_digits l
 
 -- ---- where digits end
 
@@ -35,10 +55,6 @@ module _ (t : List ℕ) (i : ℕ) where
   one_more j n e = omega (arith, ap length (digits_more t i (digit_inside e) e), ap (digits_from t) n)
 
 -- ---- the number of one to three digits
-
--- A digit's number is at most 9.
-pub digit_small : (t : List ℕ) (i : ℕ) → 1 ≤ digits_from t i → get_or t i 0 - 48 ≤ 9
-digit_small t i some = let r = digit_range (get_or t i 0) (digit_here t i some).1 in omega arith
 
 -- The digit at i, of which j is the next place.
 module _ (t : List ℕ) (i j : ℕ) (n : j ≡ i + 1) (some : 1 ≤ digits_from t i) where

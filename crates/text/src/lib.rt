@@ -12,49 +12,28 @@ ghost use Rattle.rfc4180.specs.Tables.{fields_of, order_of, cells_of};
 ghost use Rattle.rfc4180.specs.InnerQuestions.{bytes_refusal, fields_refusal, grid_refusal, field_refusal};
 ghost use Rattle.semigroups.specs.Calls.{overwritten};
 ghost use Rattle.rfc4180.specs.Calls.{load_answer, cells_after};
-ghost use Rattle.answers.specs.Answers.{numbered_says};
-ghost use Rattle.text.specs.Answers.{judged_refusal};
+ghost use Rattle.semigroups.specs.Results.{refusal_in};
+ghost use Rattle.answers.specs.Answers.{no_refusal, numbered_says};
 ghost use Rattle.text.specs.InnerFields.{field_at};
 
-use answers::{No, Numbered};
+use answers::No;
 use products::limits::{ORDER, TEXT};
 
-// The answer to some of the questions about a text: that they pass, or the first that fails.
-#[derive(Clone, Copy)]
-enum Judged {
-    Passed,
-    Failed(No),
-}
-
 // Asks question 21: is every byte a digit, a comma, or part of a CR LF pair? Returns that it passes, or the place of the first other byte.
-fn judge_bytes(text: &[u8]) -> Judged
-    ensures answer { judged_refusal result ≡ bytes_refusal text.now }
+fn judge_bytes(text: &[u8]) -> Result<(), No>
+    ensures answer { refusal_in no_refusal result ≡ bytes_refusal text.now }
 {
-    let mut i: usize = 0;
+    let mut i = 0;
+    // A while: a step is one byte, or the two of a line break.
     while i < text.len() {
-        let b = text[i];
-        match b {
-            48..=57 => {
-                i += 1;
-            }
-            44 => {
-                i += 1;
-            }
-            13 => {
-                if text.len() - i < 2 {
-                    return Judged::Failed(No::With(21, i));
-                }
-                if text[i + 1] != 10 {
-                    return Judged::Failed(No::With(21, i));
-                }
-                i += 2;
-            }
-            _ => {
-                return Judged::Failed(No::With(21, i));
-            }
+        match text[i] {
+            48..=57 => i += 1,
+            44 => i += 1,
+            13 if 2 <= text.len() - i && text[i + 1] == 10 => i += 2,
+            _ => return Err(No::With(21, i)),
         }
     }
-    Judged::Passed
+    Ok(())
 }
 
 // Returns the place after the digits that stand from `at` on.
@@ -62,32 +41,14 @@ fn digits_end(text: &[u8], at: usize) -> usize
     requires { at ≤ length text.now }
     ensures answer { result ≡ field_end text.now at }
 {
-    let mut i = at;
-    while i < text.len() {
-        let b = text[i];
-        if b < 48 {
-            return i;
-        }
-        if 57 < b {
-            return i;
-        }
-        i += 1;
-    }
-    i
+    at + text[at..].iter().take_while(|b| b.is_ascii_digit()).count()
 }
 
 // Returns whether a digit stands at `at`. Past the end of the text there is none.
 fn digit_stands(text: &[u8], at: usize) -> bool
     ensures answer { result ≡ is_digit (get_or text.now at 0) }
 {
-    if text.len() <= at {
-        return false;
-    }
-    let b = text[at];
-    if b < 48 {
-        return false;
-    }
-    b <= 57
+    at < text.len() && text[at].is_ascii_digit()
 }
 
 // Returns the place after the field that begins at `at`. A field that passes question 23 has at most three digits: these are looked at one by one, which is
@@ -113,7 +74,7 @@ fn digit_value(text: &[u8], at: usize) -> usize
     requires digit { is_digit (get_or text.now at 0) ≡ true }
     ensures answer { result ≡ get_or text.now at 0 - 48 }
 {
-    (text[at] - 48) as usize
+    usize::from(text[at] - 48)
 }
 
 // Returns the number that the digits from `at` to `end` stand for. There are one to three.
@@ -135,34 +96,32 @@ fn read_number(text: &[u8], at: usize, end: usize) -> usize
 }
 
 // Asks questions 24, 23 and 25 about the field of digits from `at` to `end`. Returns the first that fails. An empty field passes question 24.
-fn judge_field(text: &[u8], at: usize, end: usize) -> Judged
+fn judge_field(text: &[u8], at: usize, end: usize) -> Result<(), No>
     requires inside { at ≤ length text.now }
     requires whole { end ≡ field_end text.now at }
-    ensures answer { judged_refusal result ≡ field_refusal (digits (drop at text.now)) }
+    ensures answer { refusal_in no_refusal result ≡ field_refusal (digits (drop at text.now)) }
 {
     if end - at < 1 {
-        return Judged::Failed(No::Bare(23));
+        return Err(No::Bare(23));
     }
     if text[at] == 48 {
-        return Judged::Failed(No::Bare(24));
+        return Err(No::Bare(24));
     }
     if 3 < end - at {
-        return Judged::Failed(No::Bare(23));
+        return Err(No::Bare(23));
     }
     if ORDER < read_number(text, at, end) {
-        return Judged::Failed(No::Bare(25));
+        return Err(No::Bare(25));
     }
-    Judged::Passed
+    Ok(())
 }
 
-// A field of the text: the place after it; the place after the comma or line break that follows it, where the next field begins if there is one; whether a
-// comma follows it; and whether there is a next field.
+// A field of the text: the place after it; whether a comma follows it, so that its record goes on; and where the next field begins, if there is one.
 #[derive(Clone, Copy)]
 struct Field {
     end: usize,
-    next: usize,
     comma: bool,
-    more: bool,
+    next: Option<usize>,
 }
 
 // Returns the field that begins at `at`. At the end of the text the field is empty.
@@ -173,25 +132,22 @@ fn next_field(text: &[u8], at: usize) -> Field
     let end = field_end(text, at);
     if text.len() <= end {
         return Field {
-            end: end,
-            next: end + 2,
+            end,
             comma: false,
-            more: false,
+            next: None,
         };
     }
     if text[end] == 44 {
         return Field {
-            end: end,
-            next: end + 1,
+            end,
             comma: true,
-            more: true,
+            next: Some(end + 1),
         };
     }
     Field {
-        end: end,
-        next: end + 2,
+        end,
         comma: false,
-        more: end + 2 < text.len(),
+        next: (end + 2 < text.len()).then_some(end + 2),
     }
 }
 
@@ -201,53 +157,46 @@ fn columns(text: &[u8]) -> usize
     requires bytes { bytes_refusal text.now ≡ none }
     ensures answer { result ≡ order_of text.now }
 {
-    let mut n: usize = 0;
-    let mut at: usize = 0;
-    let mut comma = true;
-    while comma {
+    let mut n = 0;
+    let mut at = 0;
+    // A loop: a field that is read says where the next one begins. So in the two functions below.
+    loop {
         let field = next_field(text, at);
         n += 1;
-        at = field.next;
-        comma = field.comma;
+        if !field.comma {
+            return n;
+        }
+        at = field.end + 1;
     }
-    n
 }
 
 // Asks questions 24, 23 and 25 about each field; then, if they pass, 26: are there n records, each with n fields? Returns the first that fails.
-fn judge_fields(text: &[u8], n: usize) -> Judged
+fn judge_fields(text: &[u8], n: usize) -> Result<(), No>
     requires some { 1 ≤ length text.now }
     requires bytes { bytes_refusal text.now ≡ none }
-    ensures answer { judged_refusal result ≡ grid_refusal n text.now }
+    ensures answer { refusal_in no_refusal result ≡ grid_refusal n text.now }
 {
-    let mut at: usize = 0;
-    let mut more = true;
-    let mut row: usize = 0;
-    let mut column: usize = 0;
+    let mut at = 0;
+    let mut row = 0;
+    let mut column = 0;
     let mut square = true;
-    while more {
+    loop {
         let field = next_field(text, at);
-        let judged = judge_field(text, at, field.end);
-        if let Judged::Failed(f) = judged {
-            return Judged::Failed(f);
-        }
-        at = field.next;
-        more = field.more;
+        judge_field(text, at, field.end)?;
         column += 1;
-        if !field.comma {
-            if column != n {
-                square = false;
-            }
-            column = 0;
-            row += 1;
+        if field.comma {
+            at = field.end + 1;
+            continue;
+        }
+        square &= column == n;
+        column = 0;
+        row += 1;
+        match field.next {
+            Some(next) => at = next,
+            None if square && row == n => return Ok(()),
+            None => return Err(No::Bare(26)),
         }
     }
-    if !square {
-        return Judged::Failed(No::Bare(26));
-    }
-    if row != n {
-        return Judged::Failed(No::Bare(26));
-    }
-    Judged::Passed
 }
 
 // Writes the number of each field to `cells`, in reading order.
@@ -258,45 +207,37 @@ fn fill(text: &[u8], cells: &mut [u8])
     requires room { length (cells_of text.now) ≤ length cells.old }
     ensures cells { cells.new ≡ overwritten (cells_of text.now) cells.old }
 {
-    let mut at: usize = 0;
-    let mut more = true;
+    let mut at = 0;
     let mut k: usize = 0;
-    while more {
+    loop {
         let field = next_field(text, at);
         cells[k] = read_number(text, at, field.end) as u8;
         k += 1;
-        at = field.next;
-        more = field.more;
+        let Some(next) = field.next else {
+            return;
+        };
+        at = next;
     }
 }
 
 // Loads the table that `text` holds: writes its cells, row by row, to the start of `cells` and answers its order; or answers the earliest question that
 // fails, and writes nothing.
-pub fn load(text: &[u8], cells: &mut [u8]) -> Numbered
+pub fn load(text: &[u8], cells: &mut [u8]) -> Result<usize, No>
     ensures answer { numbered_says result ≡ load_answer text.now cells.old }
     ensures cells { cells.new ≡ cells_after text.now cells.old }
 {
-    if text.len() < 1 {
-        return Numbered::Refused(No::Bare(20));
+    if text.is_empty() || TEXT < text.len() {
+        return Err(No::Bare(20));
     }
-    if TEXT < text.len() {
-        return Numbered::Refused(No::Bare(20));
-    }
-    let bytes = judge_bytes(text);
-    if let Judged::Failed(f) = bytes {
-        return Numbered::Refused(f);
-    }
+    judge_bytes(text)?;
     let n = columns(text);
-    let fields = judge_fields(text, n);
-    if let Judged::Failed(f) = fields {
-        return Numbered::Refused(f);
-    }
+    judge_fields(text, n)?;
     if ORDER < n {
-        return Numbered::Refused(No::Bare(1));
+        return Err(No::Bare(1));
     }
     if cells.len() < n * n {
-        return Numbered::Refused(No::Bare(27));
+        return Err(No::Bare(27));
     }
     fill(text, cells);
-    Numbered::Number(n)
+    Ok(n)
 }

@@ -22,11 +22,11 @@ returns-in_default-clause-answer c =
 pub onward-requires : goal.onward-requires
 onward-requires c =
     let loaded = c.load_then_check-verdict in
-    let given = sym loaded.ensures.answer ∙ ap numbered_says c.in-Number.is in
+    let given = sym loaded.ensures.answer ∙ ap numbered_says c.in-Ok.is in
     let o = (holds _ _ _ given loaded.ensures.cells loaded.auto.cells).table.filled.order in (c.requires.0, o.0, o.1, omega arith)
 
 pub returns-clause-answer : goal.returns-clause-answer
 returns-clause-answer c =
     let loaded = c.load_then_check-verdict in
-    let given = sym loaded.ensures.answer ∙ ap numbered_says c.in-Number.is in
+    let given = sym loaded.ensures.answer ∙ ap numbered_says c.in-Ok.is in
     c.onward.ensures.answer _ ∙ begun_accepted _ _ c.requires.1 _ _ given (holds _ _ _ given loaded.ensures.cells loaded.auto.cells)

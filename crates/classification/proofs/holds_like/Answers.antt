@@ -13,18 +13,18 @@ returns-in_default c =
 pub returns-then-m-n : goal.returns-then-m-n
 returns-then-m-n c =
     let loaded = c.load_then_check-verdict in
-    let given = sym loaded.ensures.answer ∙ ap numbered_says c.in-Number.is in
+    let given = sym loaded.ensures.answer ∙ ap numbered_says c.in-Ok.is in
     record { answer = holds_other _ (replicate 14400 0) refl _ _ _ given (holds _ _ _ given loaded.ensures.cells loaded.auto.cells) c.if-m-n.true }
 
 pub isomorphic-requires : goal.isomorphic-requires
 isomorphic-requires c =
     let loaded = c.load_then_check-verdict in
-    let given = sym loaded.ensures.answer ∙ ap numbered_says c.in-Number.is in
+    let given = sym loaded.ensures.answer ∙ ap numbered_says c.in-Ok.is in
     ((holds _ (replicate 14400 0) _ given loaded.ensures.cells loaded.auto.cells).table, c.requires)
 
 pub returns : goal.returns
 returns c =
     let loaded = c.load_then_check-verdict in
-    let given = sym loaded.ensures.answer ∙ ap numbered_says c.in-Number.is in
+    let given = sym loaded.ensures.answer ∙ ap numbered_says c.in-Ok.is in
     let h = holds _ (replicate 14400 0) _ given loaded.ensures.cells loaded.auto.cells in
     record { answer = c.isomorphic.ensures.answer ∙ holds_is _ (replicate 14400 0) refl _ _ _ given h }

@@ -1,7 +1,9 @@
 -- `search_kind` meets its contract: it makes the search of the kind that it is told. Assumes nothing.
 use mathlib.Core.Path.{◌≡◌, sym, ap, ◌∙◌}
 use Rattle.semigroups.specs.Calls.{Answer}
-use Rattle.backtrack.specs.declared.Outcome.{Outcome}
+use Rattle.std.specs.Prelude.{Result}
+use Rattle.backtrack.specs.declared.Ended.{Ended}
+use Rattle.backtrack.specs.declared.Stopped.{Stopped}
 use Rattle.semigroups.specs.Maps as maps
 use Rattle.kinds.specs.Answers.{kind_of}
 use Rattle.kinds.specs.declared.Kind.{Kind}
@@ -11,7 +13,7 @@ use borrow.Author.Rules.{rules}
 use Rattle.kinds.proofs.search_kind.Statement.{statement}
 use Rattle.kinds.proofs.search_kind.Tie as tie
 
-abbrev asked : tie.Start → maps.Kind → Called (Answer Outcome)
+abbrev asked : tie.Start → maps.Kind → Called (Answer (Result Ended Stopped))
 asked s kind = let a = s.args in searched kind a.next a.limit (lend a.source.now a.m a.target.now a.n a.map.now a.scratch.now)
 
 -- What is asked for stays the same once the kind is known.

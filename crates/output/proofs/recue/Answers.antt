@@ -12,8 +12,8 @@ use Rattle.files.specs.Files.{file_refusal, room}
 use Rattle.files.specs.Answers.{file_answer, failed_number}
 use Rattle.rfc4180.specs.Calls.{cells_after}
 use Rattle.answers.specs.Answers.{no_refusal, numbered_says}
-use Rattle.answers.specs.declared.Numbered.{Numbered}
-use Rattle.answers.specs.declared.Numbered.TheVariants.{Number}
+use Rattle.std.specs.Prelude.{Result, Ok}
+use Rattle.answers.specs.declared.No.{No}
 use Rattle.files.proofs.Files.{Holds, holds, accepted_file}
 use Rattle.files.proofs.Numbers.{failed_small}
 use Rattle.output.proofs.Records.{refused_written}
@@ -29,7 +29,7 @@ printed : (before : List ℕ) {text whole : List ℕ} → text ≡ whole → {p 
 printed before e q w = record { size = q ∙ ap length e; bytes = w ∙ ap (λ (l : List ℕ). overwritten l before) e }
 
 -- What is known of a file that is accepted: its text t, the verdict v, its order n.
-module _ (t : List ℕ) {v : Numbered} {n : ℕ} (said : numbered_says v ≡ file_answer t (replicate 14400 0)) (is : v ≡ Number n) where
+module _ (t : List ℕ) {v : Result ℕ No} {n : ℕ} (said : numbered_says v ≡ file_answer t (replicate 14400 0)) (is : v ≡ Ok n) where
   given_order : file_answer t (replicate 14400 0) ≡ gives n
   given_order = sym said ∙ ap numbered_says is
 
@@ -62,36 +62,36 @@ returns-in_default-second c =
     let says = ap numbered_says c.in_default-second.is in
     let by = no_refusal c.in_default-second.field-0 in
     let w = refused_written _ 2 _ by (c.failed_question-in_default-second.ensures.answer ∙ ap failed_number says) (omega (arith, c.told-out)) c.put_first-in_default-second.ensures.answer c.put_first-in_default-second.ensures.out in
-    let all = printed c.args.out.now (prints_target c.args.source.now c.args.target.now (replicate 14400 0) refl by (passes c.args.source.now c.load_then_check-first.ensures.answer c.in-Number.is) (sym c.load_then_check-second.ensures.answer ∙ says)) w.size w.text in
+    let all = printed c.args.out.now (prints_target c.args.source.now c.args.target.now (replicate 14400 0) refl by (passes c.args.source.now c.load_then_check-first.ensures.answer c.in-Ok.is) (sym c.load_then_check-second.ensures.answer ∙ says)) w.size w.text in
     record { answer = all.size; out = all.bytes }
 
 pub overflow_mul-source_size : goal.overflow_mul-source_size
-overflow_mul-source_size c = omega (arith, square_small _ (loaded c.args.source.now c.load_then_check-first.ensures.answer c.in-Number.is c.load_then_check-first.ensures.cells c.load_then_check-first.auto.cells).small)
+overflow_mul-source_size c = omega (arith, square_small _ (loaded c.args.source.now c.load_then_check-first.ensures.answer c.in-Ok.is c.load_then_check-first.ensures.cells c.load_then_check-first.auto.cells).small)
 
 pub overflow_mul-target_size : goal.overflow_mul-target_size
-overflow_mul-target_size c = omega (arith, square_small _ (loaded c.args.target.now c.load_then_check-second.ensures.answer c.in-Number-second.is c.load_then_check-second.ensures.cells c.load_then_check-second.auto.cells).small)
+overflow_mul-target_size c = omega (arith, square_small _ (loaded c.args.target.now c.load_then_check-second.ensures.answer c.in-Ok-second.is c.load_then_check-second.ensures.cells c.load_then_check-second.auto.cells).small)
 
 pub slice_bounds-source_cells-end : goal.slice_bounds-source_cells-end
-slice_bounds-source_cells-end c = (loaded c.args.source.now c.load_then_check-first.ensures.answer c.in-Number.is c.load_then_check-first.ensures.cells c.load_then_check-first.auto.cells).room
+slice_bounds-source_cells-end c = (loaded c.args.source.now c.load_then_check-first.ensures.answer c.in-Ok.is c.load_then_check-first.ensures.cells c.load_then_check-first.auto.cells).room
 
 pub slice_bounds-put_answer-end : goal.slice_bounds-put_answer-end
-slice_bounds-put_answer-end c = sym (length-take-le _ _ (loaded c.args.source.now c.load_then_check-first.ensures.answer c.in-Number.is c.load_then_check-first.ensures.cells c.load_then_check-first.auto.cells).room)
+slice_bounds-put_answer-end c = sym (length-take-le _ _ (loaded c.args.source.now c.load_then_check-first.ensures.answer c.in-Ok.is c.load_then_check-first.ensures.cells c.load_then_check-first.auto.cells).room)
 
 pub slice_bounds-target_cells-end : goal.slice_bounds-target_cells-end
-slice_bounds-target_cells-end c = (loaded c.args.target.now c.load_then_check-second.ensures.answer c.in-Number-second.is c.load_then_check-second.ensures.cells c.load_then_check-second.auto.cells).room
+slice_bounds-target_cells-end c = (loaded c.args.target.now c.load_then_check-second.ensures.answer c.in-Ok-second.is c.load_then_check-second.ensures.cells c.load_then_check-second.auto.cells).room
 
 pub slice_bounds-put_answer-end-2 : goal.slice_bounds-put_answer-end-2
-slice_bounds-put_answer-end-2 c = sym (length-take-le _ _ (loaded c.args.target.now c.load_then_check-second.ensures.answer c.in-Number-second.is c.load_then_check-second.ensures.cells c.load_then_check-second.auto.cells).room)
+slice_bounds-put_answer-end-2 c = sym (length-take-le _ _ (loaded c.args.target.now c.load_then_check-second.ensures.answer c.in-Ok-second.is c.load_then_check-second.ensures.cells c.load_then_check-second.auto.cells).room)
 
 pub put_answer-requires : goal.put_answer-requires
 put_answer-requires c =
-    let source = loaded c.args.source.now c.load_then_check-first.ensures.answer c.in-Number.is c.load_then_check-first.ensures.cells c.load_then_check-first.auto.cells in
-    let target = loaded c.args.target.now c.load_then_check-second.ensures.answer c.in-Number-second.is c.load_then_check-second.ensures.cells c.load_then_check-second.auto.cells in
+    let source = loaded c.args.source.now c.load_then_check-first.ensures.answer c.in-Ok.is c.load_then_check-first.ensures.cells c.load_then_check-first.auto.cells in
+    let target = loaded c.args.target.now c.load_then_check-second.ensures.answer c.in-Ok-second.is c.load_then_check-second.ensures.cells c.load_then_check-second.auto.cells in
     record { tables = (source.table, target.table) }
 
 pub returns : goal.returns
 returns c =
-    let source = loaded c.args.source.now c.load_then_check-first.ensures.answer c.in-Number.is c.load_then_check-first.ensures.cells c.load_then_check-first.auto.cells in
-    let target = loaded c.args.target.now c.load_then_check-second.ensures.answer c.in-Number-second.is c.load_then_check-second.ensures.cells c.load_then_check-second.auto.cells in
-    let all = printed c.args.out.now (prints_answer c.args.source.now c.args.target.now (passes c.args.source.now c.load_then_check-first.ensures.answer c.in-Number.is) (passes c.args.target.now c.load_then_check-second.ensures.answer c.in-Number-second.is) source target) c.put_answer.ensures.answer c.put_answer.ensures.out in
+    let source = loaded c.args.source.now c.load_then_check-first.ensures.answer c.in-Ok.is c.load_then_check-first.ensures.cells c.load_then_check-first.auto.cells in
+    let target = loaded c.args.target.now c.load_then_check-second.ensures.answer c.in-Ok-second.is c.load_then_check-second.ensures.cells c.load_then_check-second.auto.cells in
+    let all = printed c.args.out.now (prints_answer c.args.source.now c.args.target.now (passes c.args.source.now c.load_then_check-first.ensures.answer c.in-Ok.is) (passes c.args.target.now c.load_then_check-second.ensures.answer c.in-Ok-second.is) source target) c.put_answer.ensures.answer c.put_answer.ensures.out in
     record { answer = all.size; out = all.bytes }

@@ -1,6 +1,9 @@
 -- `large_target` meets its contract: the table of degree 3 is accepted, and every call agrees. Assumes nothing.
 use mathlib.Core.Path.{◌≡◌, refl, sym, ap, ◌∙◌, subst}
-use mathlib.Core.Bool.{true, false}
+use mathlib.Core.Bool.{true}
+use borrow.Author.Rules.{rules}
+use Rattle.std.specs.Prelude.{Result, Ok}
+use Rattle.semigroups.specs.Maps.{embeddings}
 use mathlib.Core.List.{List, ◌++◌, append-nil}
 use mathlib.Core.Option.{or_else}
 use Prim.Native.Nat.{ℕ}
@@ -13,8 +16,7 @@ use Rattle.semigroups.proofs.Transformations.{degrees_accepted, length_cells}
 use Rattle.transformations.specs.Calls.{transformation_says, transformation_cells_after}
 use Rattle.plain.specs.declared.Said.{Said}
 use Rattle.judging.specs.declared.tally.Tally.{Tally}
-use Rattle.judging.specs.InnerSaid.{same_said}
-use Rattle.cases.specs.InnerAnswering.{answer_said}
+use Rattle.cases.specs.InnerAnswering.{answer_said, same_answer}
 use Rattle.cases.specs.InnerEmbedded.{mat5_cells}
 use Rattle.judging.specs.InnerTally.{empty, counted, agreed}
 use Rattle.comparisons.specs.InnerWalking.{walk_calls}
@@ -32,23 +34,20 @@ filled =
     let e : length (transformation_cells 3) ≡ 729 = length_cells 3 in
     ap (λ (k : ℕ). transformation_cells 3 ++ drop k (replicate 729 0)) e ∙ append-nil (transformation_cells 3)
 
-order_said : same_said (answer_said (transformation_says 3 729)) (record { number = 0; first = 27; second = 0; third = 0 }) ≡ true
-unfolding same_said at is_element first_of transformation_order transformation_refusal transformation_says or_else
+order_said : same_answer (answer_said (transformation_says 3 729)) (Ok 27) ≡ true
+unfolding at is_element first_of transformation_order transformation_refusal transformation_says or_else
 order_said = refl
 
-pub walk-requires-clause-fact_1 : goal.walk-requires-clause-fact_1
-walk-requires-clause-fact_1 c = mat5_table
-
-pub walk-requires-clause-fact_2 : goal.walk-requires-clause-fact_2
-walk-requires-clause-fact_2 c = subst (Accepted 27) (sym (c.fill.ensures.cells ∙ filled)) three_accepted
+pub invariant_of-pair : goal.invariant_of-pair
+invariant_of-pair c = record { source_accepted = mat5_table; target_accepted = subst (Accepted 27) (sym (c.fill.ensures.cells ∙ filled)) three_accepted; small = search rules }
 
 pub returns : goal.returns
 returns c =
     let says = c.numbered_said-answer.ensures.answer ∙ ap answer_said c.fill.ensures.answer in
-    let same = c.same_said.ensures.answer ∙ ap (λ (x : Said). same_said x c.failed.result) says ∙ ap (same_said (answer_said (transformation_says 3 729))) c.failed.ensures.answer ∙ order_said in
-    let one = c.counted-answered.ensures.answer ∙ ap (λ (t : Tally). counted t c.same_said.result) c.start.ensures.answer ∙ ap (counted empty) same in
+    let same = c.eq.ensures ∙ ap (λ (x : Result ℕ Said). same_answer x (Ok 27)) says ∙ order_said in
+    let one = c.counted-answered.ensures.answer ∙ ap (λ (t : Tally). counted t c.eq.result) c.start.ensures.answer ∙ ap (counted empty) same in
     record {
       answer =
-          c.walk.ensures.answer ∙ ap (λ (l : List ℕ). agreed (walk_calls false mat5_cells 5 l 27 (replicate 5 0)) c.counted-answered.result) (c.fill.ensures.cells ∙ filled)
-          ∙ ap (agreed (walk_calls false mat5_cells 5 (transformation_cells 3) 27 (replicate 5 0))) one ∙ agreed_counted (walk_calls false mat5_cells 5 (transformation_cells 3) 27 (replicate 5 0)) empty;
+          c.walk.ensures.answer ∙ ap (λ (l : List ℕ). agreed (walk_calls embeddings mat5_cells 5 l 27 (replicate 5 0)) c.counted-answered.result) (c.fill.ensures.cells ∙ filled)
+          ∙ ap (agreed (walk_calls embeddings mat5_cells 5 (transformation_cells 3) 27 (replicate 5 0))) one ∙ agreed_counted (walk_calls embeddings mat5_cells 5 (transformation_cells 3) 27 (replicate 5 0)) empty;
     }

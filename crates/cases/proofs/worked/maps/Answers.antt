@@ -1,12 +1,12 @@
 -- `maps` meets its contract: the tables are accepted, every call agrees, and the full lists have as many maps as RULES 23.2 gives. Assumes nothing.
 use mathlib.Core.Path.{◌≡◌, refl}
-use mathlib.Core.Bool.{true, false}
+use borrow.Author.Rules.{rules}
 use mathlib.Core.List.{List, [], ◌∷◌, flat_map}
 use Prim.Native.Nat.{ℕ}
 use lib.ListN.{replicate}
 use Rattle.semigroups.specs.Lists.{range, elements, at, all, find, keep, sum, count, member, distinct, earlier, lists}
 use Rattle.semigroups.specs.Tables.{product, is_element}
-use Rattle.semigroups.specs.Maps.{is_homomorphism, is_embedding, is_isomorphism, maps}
+use Rattle.semigroups.specs.Maps.{embeddings, isomorphisms, is_homomorphism, is_embedding, is_isomorphism, maps}
 use Rattle.cases.specs.InnerEmbedded.{mat5_cells}
 use Rattle.judging.specs.InnerTally.{empty, agreed}
 use Rattle.comparisons.specs.InnerWalking.{later_maps, walk_calls}
@@ -19,71 +19,41 @@ zeros = replicate 5 0
 
 -- How many calls each walk makes, in turn; case 11 is walked twice.
 walks :
-    (walk_calls false swap 2 two 4 zeros ≡ 3)
-    × (walk_calls false right 2 two 4 zeros ≡ 4)
-    × (walk_calls false left 2 two 4 zeros ≡ 2)
-    × (walk_calls false one 1 two 4 zeros ≡ 5)
-    × (walk_calls true two 4 two 4 zeros ≡ 4)
-    × (walk_calls true null 3 null 3 zeros ≡ 4)
-    × (walk_calls true null 3 null 3 (1 ∷ 2 ∷ 200 ∷ 0 ∷ 0 ∷ []) ≡ 3)
-    × (walk_calls true mat5_cells 5 mat5_cells 5 zeros ≡ 3)
-    × (walk_calls false two 4 swap 2 zeros ≡ 2)
+    (walk_calls embeddings swap 2 two 4 zeros ≡ 3)
+    × (walk_calls embeddings right 2 two 4 zeros ≡ 4)
+    × (walk_calls embeddings left 2 two 4 zeros ≡ 2)
+    × (walk_calls embeddings one 1 two 4 zeros ≡ 5)
+    × (walk_calls isomorphisms two 4 two 4 zeros ≡ 4)
+    × (walk_calls isomorphisms null 3 null 3 zeros ≡ 4)
+    × (walk_calls isomorphisms null 3 null 3 (1 ∷ 2 ∷ 200 ∷ 0 ∷ 0 ∷ []) ≡ 3)
+    × (walk_calls isomorphisms mat5_cells 5 mat5_cells 5 zeros ≡ 3)
+    × (walk_calls embeddings two 4 swap 2 zeros ≡ 2)
 unfolding later_maps range elements at all find keep sum count member distinct earlier lists product is_element is_homomorphism is_embedding is_isomorphism maps flat_map
 walks = (refl, refl, refl, refl, refl, refl, refl, refl, refl)
 
-pub walk-case6-requires-clause-fact_1 : goal.walk-case6-requires-clause-fact_1
-walk-case6-requires-clause-fact_1 c = swap_table
+pub invariant_of-swap_in_two : goal.invariant_of-swap_in_two
+invariant_of-swap_in_two c = record { source_accepted = swap_table; target_accepted = two_table; small = search rules }
 
-pub walk-case6-requires-clause-fact_2 : goal.walk-case6-requires-clause-fact_2
-walk-case6-requires-clause-fact_2 c = two_table
+pub invariant_of-right_in_two : goal.invariant_of-right_in_two
+invariant_of-right_in_two c = record { source_accepted = right_table; target_accepted = two_table; small = search rules }
 
-pub walk-case7-requires-clause-fact_1 : goal.walk-case7-requires-clause-fact_1
-walk-case7-requires-clause-fact_1 c = right_table
+pub invariant_of-left_in_two : goal.invariant_of-left_in_two
+invariant_of-left_in_two c = record { source_accepted = left_table; target_accepted = two_table; small = search rules }
 
-pub walk-case7-requires-clause-fact_2 : goal.walk-case7-requires-clause-fact_2
-walk-case7-requires-clause-fact_2 c = two_table
+pub invariant_of-one_in_two : goal.invariant_of-one_in_two
+invariant_of-one_in_two c = record { source_accepted = one_table; target_accepted = two_table; small = search rules }
 
-pub walk-case8-requires-clause-fact_1 : goal.walk-case8-requires-clause-fact_1
-walk-case8-requires-clause-fact_1 c = left_table
+pub invariant_of-two_onto_two : goal.invariant_of-two_onto_two
+invariant_of-two_onto_two c = record { source_accepted = two_table; target_accepted = two_table; small = search rules }
 
-pub walk-case8-requires-clause-fact_2 : goal.walk-case8-requires-clause-fact_2
-walk-case8-requires-clause-fact_2 c = two_table
+pub invariant_of-null3_onto_null3 : goal.invariant_of-null3_onto_null3
+invariant_of-null3_onto_null3 c = record { source_accepted = null_table; target_accepted = null_table; small = search rules }
 
-pub walk-case9-requires-clause-fact_1 : goal.walk-case9-requires-clause-fact_1
-walk-case9-requires-clause-fact_1 c = one_table
+pub invariant_of-mat5_onto_mat5 : goal.invariant_of-mat5_onto_mat5
+invariant_of-mat5_onto_mat5 c = record { source_accepted = mat5_table; target_accepted = mat5_table; small = search rules }
 
-pub walk-case9-requires-clause-fact_2 : goal.walk-case9-requires-clause-fact_2
-walk-case9-requires-clause-fact_2 c = two_table
-
-pub walk-case10-requires-clause-fact_1 : goal.walk-case10-requires-clause-fact_1
-walk-case10-requires-clause-fact_1 c = two_table
-
-pub walk-case10-requires-clause-fact_2 : goal.walk-case10-requires-clause-fact_2
-walk-case10-requires-clause-fact_2 c = two_table
-
-pub walk-case11-requires-clause-fact_1 : goal.walk-case11-requires-clause-fact_1
-walk-case11-requires-clause-fact_1 c = null_table
-
-pub walk-case11-requires-clause-fact_2 : goal.walk-case11-requires-clause-fact_2
-walk-case11-requires-clause-fact_2 c = null_table
-
-pub walk-after-requires-clause-fact_1 : goal.walk-after-requires-clause-fact_1
-walk-after-requires-clause-fact_1 c = null_table
-
-pub walk-after-requires-clause-fact_2 : goal.walk-after-requires-clause-fact_2
-walk-after-requires-clause-fact_2 c = null_table
-
-pub walk-case12-requires-clause-fact_1 : goal.walk-case12-requires-clause-fact_1
-walk-case12-requires-clause-fact_1 c = mat5_table
-
-pub walk-case12-requires-clause-fact_2 : goal.walk-case12-requires-clause-fact_2
-walk-case12-requires-clause-fact_2 c = mat5_table
-
-pub walk-requires-clause-fact_1 : goal.walk-requires-clause-fact_1
-walk-requires-clause-fact_1 c = two_table
-
-pub walk-requires-clause-fact_2 : goal.walk-requires-clause-fact_2
-walk-requires-clause-fact_2 c = swap_table
+pub invariant_of-two_in_swap : goal.invariant_of-two_in_swap
+invariant_of-two_in_swap c = record { source_accepted = two_table; target_accepted = swap_table; small = search rules }
 
 pub returns : goal.returns
 unfolding agreed
