@@ -86,7 +86,7 @@ fn extend(
                 x,
             };
             if required.may_pass(&next) {
-                if let Some(q) = p.tried(search.source, search.target, &required, x) {
+                if let Ok(q) = p.tried(search.source, search.target, &required, x) {
                     let ended = extend(search, x == low, left, &required, q)?;
                     if ended.map.is_some() {
                         return Ok(ended);

@@ -22,7 +22,14 @@ pub fn count(cells: &[u8], k: usize, step: usize, a: usize) -> usize
     requires { InRange k step cells.now }
     ensures answer { result ≡ occurrences a step k cells.now }
 {
-    (0..k).filter(|i| cells[*i * step] as usize == a).count()
+    // A loop, which is quicker than to filter: its body becomes an addition without a branch.
+    let mut found = 0;
+    for i in 0..k {
+        if cells[i * step] as usize == a {
+            found += 1;
+        }
+    }
+    found
 }
 
 // Returns how often a stands in row a, the n cells that start at (a - 1) × n.
@@ -48,9 +55,14 @@ pub fn commuting(table: &Table<'_>, a: usize) -> usize
     requires { Element table.now.order a }
     ensures answer { result ≡ commuting table.now.order (times_of table.now) a }
 {
-    (1..table.order + 1)
-        .filter(|b| table.times(a, *b) == table.times(*b, a))
-        .count()
+    // A loop, as in `count`.
+    let mut found = 0;
+    for b in 1..table.order + 1 {
+        if table.times(a, b) == table.times(b, a) {
+            found += 1;
+        }
+    }
+    found
 }
 
 // ---- all elements

@@ -28,9 +28,11 @@ pub fn put_bytes(out: &mut [u8], at: usize, bytes: &[u8]) -> usize
     ensures answer { result ≡ at + length bytes.now }
     ensures out { out.new ≡ sets out.old at bytes.now }
 {
-    let end = at + bytes.len();
-    out[at..end].copy_from_slice(bytes);
-    end
+    // A loop, since a copy of slices that may overlap needs a function of the C library.
+    for i in 0..bytes.len() {
+        out[at + i] = bytes[i];
+    }
+    at + bytes.len()
 }
 
 // Writes x in decimal at `at`. Returns the place after it.

@@ -240,7 +240,14 @@ fn name_length(name: &[u8]) -> usize
     if !needs_quotes(name) {
         return name.len();
     }
-    2 + name.len() + name.iter().filter(|b| **b == 34).count()
+    // A loop, which is quicker than to filter the quote marks: its body becomes an addition without a branch.
+    let mut total = 2 + name.len();
+    for b in name {
+        if *b == 34 {
+            total += 1;
+        }
+    }
+    total
 }
 
 // Writes a name at `start`, with each quote mark doubled. Returns the place after it.

@@ -3,13 +3,13 @@
 
 #![tactic(auto)]
 
-ghost use Rattle.std.specs.Prelude.{◌≡◌, true, false, [], ◌∷◌, ◌++◌, ℕ, ◌+◌, ◌-◌, ◌≤◌, ◌<◌, take, set, MatchOption, IfSome};
+ghost use Rattle.std.specs.Prelude.{◌≡◌, true, false, [], ◌∷◌, ◌++◌, ℕ, ◌+◌, ◌-◌, ◌≤◌, ◌<◌, take, set, is_ok};
 ghost use Rattle.semigroups.specs.Lists.{member};
 ghost use Rattle.semigroups.specs.Tables.{largest_order, Element};
 ghost use Rattle.semigroups.specs.Trials.{passes};
 ghost use Rattle.products.specs.Tables.{times_of};
 ghost use Rattle.constraints.specs.InnerTracking.{Placing, Tracks};
-ghost use Rattle.placing.specs.InnerPlaced.{prefix};
+ghost use Rattle.placing.specs.InnerPlaced.{prefix, handed_back};
 
 use constraints::{Attempt, Required};
 use products::Table;
@@ -55,15 +55,15 @@ impl Partial {
         self
     }
 
-    // Tests the newest element. Returns the map as it was if the list placed passes, else none. The list must pass without that element, and what is required
-    // is that of the list without it.
-    fn test(self, source: &Table<'_>, target: &Table<'_>, required: &Required) -> Option<Self>
+    // Tests the newest element. Returns the map as it was: `Ok` if the list placed passes, else `Err`. The list must pass without that element, and what is
+    // required is that of the list without it.
+    fn test(self, source: &Table<'_>, target: &Table<'_>, required: &Required) -> Result<Self, Self>
         requires placing { Placing target.now.order self.image self.used self.len }
         requires some { Element source.now.order self.len }
         requires tracks { Tracks (times_of source.now) (times_of target.now) (take (self.len - 1) self.image) (self.len - 1) 0 required.now.forced required.now.owner }
         requires passed { passes (times_of source.now) (times_of target.now) (take (self.len - 1) self.image) ≡ true }
-        ensures answer { MatchOption result (passes (times_of source.now) (times_of target.now) (prefix self) ≡ false) (λ q. passes (times_of source.now) (times_of target.now) (prefix self) ≡ true) }
-        ensures same { IfSome result (λ q. q ≡ self) }
+        ensures answer { is_ok result ≡ passes (times_of source.now) (times_of target.now) (prefix self) }
+        ensures same { handed_back result ≡ self }
     {
         let before = self.len - 1;
         let x = self.image[before] as usize;
@@ -78,32 +78,32 @@ impl Partial {
             x,
         };
         if !required.passes_with(&newest) {
-            return None;
+            return Err(self);
         }
-        Some(self)
+        Ok(self)
     }
 
-    // Places x as the image of the next element and tests it. Returns the map with x placed if the list with x passes, else none. What is required is that of
-    // the list without x.
+    // Places x as the image of the next element and tests it. Returns the map with x placed: `Ok` if the list with x passes, else `Err`. What is required is
+    // that of the list without x.
     pub fn tried(
         self,
         source: &Table<'_>,
         target: &Table<'_>,
         required: &Required,
         x: usize,
-    ) -> Option<Self>
+    ) -> Result<Self, Self>
         requires placing { Placing target.now.order self.image self.used self.len }
         requires tracks { Tracks (times_of source.now) (times_of target.now) (prefix self) self.len 0 required.now.forced required.now.owner }
         requires passed { passes (times_of source.now) (times_of target.now) (prefix self) ≡ true }
         requires element { Element target.now.order x }
         requires room { self.len < source.now.order }
         requires fresh { member x (prefix self) ≡ false }
-        ensures answer { MatchOption result (passes (times_of source.now) (times_of target.now) (prefix self ++ x ∷ []) ≡ false) (λ q. passes (times_of source.now) (times_of target.now) (prefix self ++ x ∷ []) ≡ true) }
-        ensures placing { IfSome result (λ q. Placing target.now.order q.image q.used q.len) }
-        ensures longer { IfSome result (λ q. prefix q ≡ prefix self ++ x ∷ []) }
-        ensures before { IfSome result (λ q. take self.len q.image ≡ prefix self) }
-        ensures one_more { IfSome result (λ q. q.len ≡ self.len + 1) }
-        ensures image { IfSome result (λ q. q.image ≡ set self.image self.len x) }
+        ensures answer { is_ok result ≡ passes (times_of source.now) (times_of target.now) (prefix self ++ x ∷ []) }
+        ensures placing { Placing target.now.order (handed_back result).image (handed_back result).used (handed_back result).len }
+        ensures longer { prefix (handed_back result) ≡ prefix self ++ x ∷ [] }
+        ensures before { take self.len (handed_back result).image ≡ prefix self }
+        ensures one_more { (handed_back result).len ≡ self.len + 1 }
+        ensures image { (handed_back result).image ≡ set self.image self.len x }
     {
         self.place(target.order, x).test(source, target, required)
     }

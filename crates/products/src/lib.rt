@@ -54,14 +54,27 @@ impl Table<'_> {
         self.times(ij, k) != self.times(i, jk)
     }
 
-    // Returns the first k for which (i·j)·k = i·(j·k) does not hold, or none.
+    // Returns the first k for which (i·j)·k = i·(j·k) does not hold, or none. Each turn of the loop looks at two, which is quicker than one.
     pub fn failing_third(&self, i: usize, j: usize) -> Option<usize>
         requires left { Element self.now.order i }
         requires right { Element self.now.order j }
         ensures answer { optional result ≡ find (λ k. not (associates (times_of self.now) i j k)) (elements self.now.order) }
     {
+        let n = self.order;
         let ij = self.times(i, j);
-        (1..self.order + 1).find(|k| self.fails(i, j, ij, *k))
+        for half in 0..n / 2 {
+            let k = 2 * half + 1;
+            if self.fails(i, j, ij, k) {
+                return Some(k);
+            }
+            if self.fails(i, j, ij, k + 1) {
+                return Some(k + 1);
+            }
+        }
+        if n % 2 == 1 && self.fails(i, j, ij, n) {
+            return Some(n);
+        }
+        None
     }
 
     // ---- how often elements occur

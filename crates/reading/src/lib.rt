@@ -39,3 +39,13 @@ pub fn read_opened(file: Result<File, Error>, text: &mut [u8]) -> Option<usize>
     };
     Some(read_file(opened.as_raw_fd(), text).unwrap_or(0))
 }
+
+// Reads a file that a program has tried to open into `text` and closes it. Returns how many bytes were read; a file that was not opened counts as empty.
+pub fn read_or_empty(file: Result<File, Error>, text: &mut [u8]) -> usize
+    requires room { longest_text < length text.old }
+    ensures count { IsPrefixLen result text.new }
+    ensures size { length text.new ≡ length text.old }
+    ensures unopened { IsErr file → (result ≡ 0) × (text.new ≡ text.old) }
+{
+    read_opened(file, text).unwrap_or(0)
+}

@@ -3,7 +3,7 @@
 
 #![tactic(auto)]
 
-use reading::read_opened;
+use reading::read_or_empty;
 use std::fs;
 use tables::limits::{FILE, OUTPUT};
 
@@ -14,9 +14,8 @@ fn main(rt: HostRuntime) {
     let mut source = [0u8; FILE];
     let mut target = [0u8; FILE];
     let mut out = [0u8; OUTPUT];
-    // A file that cannot be opened counts as empty.
-    let source_length = read_opened(fs::open(&rt, "source.csv"), &mut source).unwrap_or(0);
-    let target_length = read_opened(fs::open(&rt, "target.csv"), &mut target).unwrap_or(0);
+    let source_length = read_or_empty(fs::open(&rt, "source.csv"), &mut source);
+    let target_length = read_or_empty(fs::open(&rt, "target.csv"), &mut target);
     let written = output::recue(&source[..source_length], &target[..target_length], &mut out);
     io::write_all(STDOUT, &out[..written]);
 }

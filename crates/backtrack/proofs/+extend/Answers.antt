@@ -19,7 +19,7 @@ use Rattle.backtrack.specs.InnerState.{Ready, within, ahead}
 use Rattle.backtrack.proofs.Limits.{unpaid, paid}
 use Rattle.backtrack.proofs.Extending.{Rest, Turn, Verdict, done_bound, done_found, begins, ends, skip, stop, refuse, halt, found, fail}
 use Rattle.backtrack.proofs.+extend.Goals as goal
-use Rattle.backtrack.proofs.+extend.Goals.{then-tight-2, else-tight-2, then-open+in_ok-left+then-may_pass+in-Some+in_ok-ended+else-is_some, then-open+in_ok-left+then-may_pass+in_default, then-open+in_ok-left+else-may_pass, else-open}
+use Rattle.backtrack.proofs.+extend.Goals.{then-tight-2, else-tight-2, then-open+in_ok-left+then-may_pass+in-Ok+in_ok-ended+else-is_some, then-open+in_ok-left+then-may_pass+in_default, then-open+in_ok-left+else-may_pass, else-open}
 
 -- What is known in a turn once `open` has returned.
 turn : {w : Search} {tight : Bool} {limit : ℕ} {known : Required} {p : Partial} {low left x : ℕ} {o : Bool} → Ready w tight known p → p.len < w.source.now.order
@@ -75,14 +75,14 @@ pub returns-in_err-ended : goal.returns-in_err-ended
 returns-in_err-ended t c =
     let T = turn c.requires c.if-search-at.false c.loop-x.invariant (omega arith) c.open.ensures.answer in
     let p = err_from_is_err_and c.from_residual-in_err-ended.result c.from_residual-in_err-ended.ensures.1 in
-    let v = c.in-Some.ensures in
-    record { answer = p.1 ∙ halt _ T c.if-open.true _ (paid c.checked_sub.result _ _ c.checked_sub.ensures c.in_ok-left.ensures.ok_part) _ (told v.placing v.longer v.before v.one_more v.answer) p.0 c.in_err-ended.ensures.answer }
+    let v = c.in-Ok.ensures in
+    record { answer = p.1 ∙ halt _ T c.if-open.true _ (paid c.checked_sub.result _ _ c.checked_sub.ensures c.in_ok-left.ensures.ok_part) _ (told v.placing v.longer v.before v.one_more (sym v.answer)) p.0 c.in_err-ended.ensures.answer }
 
 pub returns-then-is_some : goal.returns-then-is_some
 returns-then-is_some t c =
     let T = turn c.requires c.if-search-at.false c.loop-x.invariant (omega arith) c.open.ensures.answer in
-    let v = c.in-Some.ensures in
-    record { answer = found _ T c.if-open.true _ (paid c.checked_sub.result _ _ c.checked_sub.ensures c.in_ok-left.ensures.ok_part) _ (told v.placing v.longer v.before v.one_more v.answer) _ c.in_ok-ended.ensures.answer (sym c.is_some.ensures ∙ c.if-is_some.true) }
+    let v = c.in-Ok.ensures in
+    record { answer = found _ T c.if-open.true _ (paid c.checked_sub.result _ _ c.checked_sub.ensures c.in_ok-left.ensures.ok_part) _ (told v.placing v.longer v.before v.one_more (sym v.answer)) _ c.in_ok-ended.ensures.answer (sym c.is_some.ensures ∙ c.if-is_some.true) }
 
 pub loop-x-preserved : goal.loop-x-preserved
 loop-x-preserved t c =
@@ -90,11 +90,11 @@ loop-x-preserved t c =
     record {
       bound = c.loop-x.invariant.bound;
       so_far = elim c.if-open.branch [
-        | then-open+in_ok-left+then-may_pass+in-Some+in_ok-ended+else-is_some w ↦
-            let v = w.in-Some.ensures in
-            fail _ T w.if-open.true _ (paid w.checked_sub.result _ _ w.checked_sub.ensures w.in_ok-left.ensures.ok_part) _ (told v.placing v.longer v.before v.one_more v.answer) _ w.in_ok-ended.ensures.answer (sym w.is_some.ensures ∙ w.if-is_some.false) ∙ rw w.left-is
+        | then-open+in_ok-left+then-may_pass+in-Ok+in_ok-ended+else-is_some w ↦
+            let v = w.in-Ok.ensures in
+            fail _ T w.if-open.true _ (paid w.checked_sub.result _ _ w.checked_sub.ensures w.in_ok-left.ensures.ok_part) _ (told v.placing v.longer v.before v.one_more (sym v.answer)) _ w.in_ok-ended.ensures.answer (sym w.is_some.ensures ∙ w.if-is_some.false) ∙ rw w.left-is
         | then-open+in_ok-left+then-may_pass+in_default w ↦
-            refuse _ T w.if-open.true _ (paid w.checked_sub.result _ _ w.checked_sub.ensures w.in_ok-left.ensures.ok_part) w.in_default.ensures.answer ∙ rw w.left-is
+            refuse _ T w.if-open.true _ (paid w.checked_sub.result _ _ w.checked_sub.ensures w.in_ok-left.ensures.ok_part) (sym w.in_default.ensures.answer) ∙ rw w.left-is
         | then-open+in_ok-left+else-may_pass w ↦
             refuse _ T w.if-open.true _ (paid w.checked_sub.result _ _ w.checked_sub.ensures w.in_ok-left.ensures.ok_part) (w.may_pass.ensures.refused w.if-may_pass.false) ∙ rw w.left-is
         | else-open w ↦ skip _ T w.if-open.false ∙ rw w.left-is

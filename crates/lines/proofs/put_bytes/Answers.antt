@@ -1,10 +1,12 @@
--- The bytes stand in the place of those that were there. Assumes nothing.
-use Rattle.std.proofs.Common.{◌≡◌, ◌+◌, ◌-◌, length, sym, append_assoc, arith}
-use Rattle.std.proofs.Math.Seq.{drop-drop}
-use Rattle.std.proofs.lemmas.List.Edits.{sets-eq}
+-- The bytes are written one by one. Assumes nothing.
+use Rattle.lines.proofs.Lines.{write_begun, copied, copied_all}
 use Rattle.lines.proofs.put_bytes.Goals as goal
 
+pub loop-i-init : goal.loop-i-init
+loop-i-init c = write_begun _ _ _
+
+pub loop-i-preserved : goal.loop-i-preserved
+loop-i-preserved c = copied c.args.bytes.now c.loop-i-test.true c.loop-i.invariant
+
 pub returns-clause-out : goal.returns-clause-out
-returns-clause-out c =
-    let e : c.args.at + length c.args.bytes.now - c.args.at ≡ length c.args.bytes.now = omega arith in
-    rw (c.copy_from_slice.ensures.after, e, drop-drop, ← append_assoc) (sym (sets-eq c.args.bytes.now c.args.out.now c.args.at c.requires.room))
+returns-clause-out c = (copied_all c.args.bytes.now c.loop-i-test.false c.loop-i.invariant).1

@@ -1,36 +1,30 @@
 -- A quote mark counts twice in a quoted name. Assumes nothing.
-use Rattle.std.proofs.Common.{◌≡◌, Bool, true, false, cond, List, ℕ, [], ◌∷◌, ◌++◌, ◌+◌, length, eqb, refl, ap, sym, ◌∙◌, rules, arith}
-use mathlib.Core.List.{flat_map}
-use Rattle.std.specs.List.{filter}
-use borrow.Author.Tests.{tests}
-use Rattle.std.proofs.lemmas.Iterator.{YieldsList-from_slice}
-use Rattle.std.proofs.lemmas.Iterator.Consumers.{count_from_yields_List, YieldsList-from_filter}
+use Rattle.std.proofs.Common.{◌≡◌, ◌+◌, length, drop, sym, ap, ◌∙◌, arith}
 use Rattle.sheets.specs.Names.{doubled}
-use Rattle.sheets.proofs.Memory.{unquoted, quoted_length}
+use Rattle.sheets.proofs.Memory.{unquoted, quoted_length, name_text_short, doubled_pair, doubled_single, doubled_end}
 use Rattle.names.proofs.name_length.Goals as goal
-
--- The quote marks of a name.
-abbrev marks : List ℕ → List ℕ
-marks s = filter (λ b. eqb b 34) s
-
-doubled_size : (s : List ℕ) → length (doubled s) ≡ length s + length (marks s)
-unfolding doubled flat_map
-doubled_size [] = refl
-doubled_size (b ∷ s) = go (doubled_size s) (eqb b 34)
-  where
-    go : length (doubled s) ≡ length s + length (marks s) → (x : Bool)
-        → length (cond x (34 ∷ 34 ∷ []) (b ∷ []) ++ doubled s) ≡ length (b ∷ s) + length (cond x (b ∷ marks s) (marks s))
-    go ih true = omega arith
-    go ih false = omega arith
+use Rattle.names.proofs.name_length.Goals.{then-b-eq34, else-b-eq34}
 
 pub returns-then-not-needs_quotes : goal.returns-then-not-needs_quotes
 returns-then-not-needs_quotes c = record { answer = sym (ap length (unquoted _ (sym c.needs_quotes.ensures.answer ∙ c.if-not-needs_quotes.true))) }
 
+pub overflow_add-total-then-b-eq34 : goal.overflow_add-total-then-b-eq34
+overflow_add-total-then-b-eq34 c =
+    let s = c.args.name.now in
+    let whole = quoted_length s (sym c.needs_quotes.ensures.answer ∙ c.if-not-needs_quotes.false) in
+    omega (arith, c.loop-b.invariant, whole, name_text_short s c.requires)
+
+pub loop-b-preserved : goal.loop-b-preserved
+loop-b-preserved c =
+    let s = c.args.name.now in
+    let i = c.loop-b.b-index in
+    elim c.if-b-eq34.branch [
+      | then-b-eq34 w ↦ omega (arith, c.loop-b.invariant, w.total-is, ap length (doubled_pair s i c.loop-b-test.true w.if-b-eq34.true))
+      | else-b-eq34 w ↦ omega (arith, c.loop-b.invariant, w.total-is, ap length (doubled_single s i c.loop-b-test.true w.if-b-eq34.false))
+    ]
+
 pub returns : goal.returns
 returns c =
-    let counted : c.count.result ≡ length (marks c.args.name.now) =
-    count_from_yields_List _ _ c.count.ensures.ran
-    (YieldsList-from_filter _ (λ b. eqb b 34) (YieldsList-from_slice c.args.name.now cc) c.filter.ensures.closure (λ x b q k. search (rules, tests))) in
-    let size = doubled_size c.args.name.now in
-    let whole = quoted_length c.args.name.now (sym c.needs_quotes.ensures.answer ∙ c.if-not-needs_quotes.false) in
-    record { answer = omega arith }
+    let s = c.args.name.now in
+    let whole = quoted_length s (sym c.needs_quotes.ensures.answer ∙ c.if-not-needs_quotes.false) in
+    record { answer = omega (arith, c.loop-b.invariant, whole, ap length (doubled_end s c.loop-b.b-index c.loop-b-test.false)) }
